@@ -1,0 +1,122 @@
+-- The laws of searching and counting, over any test: the steps of a loop that goes up, and what an answer says.
+use Prim.Native.Nat.{ℕ, zero, suc, _+_, _-_, _<_, _≤_}
+use native.Mathlib.Omega.{arith}
+use native.Mathlib.Numerals.{add-one}
+use native.Mathlib.Decide.{decLt}
+use mathlib.Core.Path.{_≡_, refl, sym, ap, subst, _∙_}
+use mathlib.Core.Bool.{Bool, true, false, cond, _&&_}
+use Rattle.base.proofs.Choice.{and-true, and-intro}
+use Rattle.base.specs.Search.{firstFrom, countFrom, allFrom}
+
+-- ---- a loop's steps, as the code has them: i goes up to n
+module _ (p : ℕ → Bool) (n i : ℕ) (h : i < n) where
+  pub first-here : p i ≡ true → firstFrom p (n - i) i ≡ i
+  unfolding firstFrom
+  first-here e = let k : n - i ≡ suc (n - (i + 1)) = omega arith in rw (k, e)
+
+  pub first-next : p i ≡ false → firstFrom p (n - i) i ≡ firstFrom p (n - (i + 1)) (i + 1)
+  unfolding firstFrom
+  first-next e = let k : n - i ≡ suc (n - (i + 1)) = omega arith in rw (k, e, add-one)
+
+  pub count-next : countFrom p (n - i) i ≡ cond (p i) 1 0 + countFrom p (n - (i + 1)) (i + 1)
+  unfolding countFrom
+  count-next = let k : n - i ≡ suc (n - (i + 1)) = omega arith in rw (k, add-one)
+
+pub first-none : (p : ℕ → Bool) (n i : ℕ) → n ≤ i → firstFrom p (n - i) i ≡ i
+unfolding firstFrom
+first-none p n i h = let k : n - i ≡ 0 = omega arith in rw k
+
+pub count-none : (p : ℕ → Bool) (n i : ℕ) → n ≤ i → countFrom p (n - i) i ≡ 0
+unfolding countFrom
+count-none p n i h = let k : n - i ≡ 0 = omega arith in rw k
+
+-- ---- what the answer of a search says
+pub first-bounds : (p : ℕ → Bool) (n i : ℕ) → (i ≤ firstFrom p n i) × (firstFrom p n i ≤ i + n)
+unfolding firstFrom
+first-bounds p zero i = omega arith
+first-bounds p (suc n) i = go (p i) (first-bounds p n (suc i))
+  where
+    go : (b : Bool) → (suc i ≤ firstFrom p n (suc i)) × (firstFrom p n (suc i) ≤ suc i + n)
+        → (i ≤ cond b i (firstFrom p n (suc i))) × (cond b i (firstFrom p n (suc i)) ≤ i + suc n)
+    go true r = omega arith
+    go false r = omega arith
+
+pub first-holds : (p : ℕ → Bool) (n i : ℕ) → firstFrom p n i < i + n → p (firstFrom p n i) ≡ true
+unfolding firstFrom
+first-holds p zero i h = absurd (omega arith)
+first-holds p (suc n) i h = go (p i) refl h (first-holds p n (suc i))
+  where
+    go : (b : Bool) → p i ≡ b → cond b i (firstFrom p n (suc i)) < i + suc n
+        → (firstFrom p n (suc i) < suc i + n → p (firstFrom p n (suc i)) ≡ true) → p (cond b i (firstFrom p n (suc i))) ≡ true
+    go true e h r = e
+    go false e h r = r (omega arith)
+
+pub first-least : (p : ℕ → Bool) (n i j : ℕ) → i ≤ j → j < firstFrom p n i → p j ≡ false
+unfolding firstFrom
+first-least p zero i j h k = absurd (omega arith)
+first-least p (suc n) i j h k = go (p i) refl k (first-least p n (suc i) j)
+  where
+    go : (b : Bool) → p i ≡ b → j < cond b i (firstFrom p n (suc i))
+        → (suc i ≤ j → j < firstFrom p n (suc i) → p j ≡ false) → p j ≡ false
+    go true e k r = absurd (omega arith)
+    go false e k r =
+        elim (decLt i j) [ yes l ↦ r l k | no l ↦ let q : j ≡ i = omega arith in rw q e ]
+
+-- ---- a test of all
+module _ (p : ℕ → Bool) (n i : ℕ) (h : i < n) where
+  pub all-next : p i ≡ true → allFrom p (n - i) i ≡ allFrom p (n - (i + 1)) (i + 1)
+  unfolding allFrom
+  all-next e = let k : n - i ≡ suc (n - (i + 1)) = omega arith in rw (k, e, add-one)
+
+  pub all-fails : p i ≡ false → allFrom p (n - i) i ≡ false
+  unfolding allFrom
+  all-fails e = let k : n - i ≡ suc (n - (i + 1)) = omega arith in rw (k, e)
+
+pub all-none : (p : ℕ → Bool) (n i : ℕ) → n ≤ i → allFrom p (n - i) i ≡ true
+unfolding allFrom
+all-none p n i h = let k : n - i ≡ 0 = omega arith in rw k
+
+pub all-holds : (p : ℕ → Bool) (n i j : ℕ) → allFrom p n i ≡ true → i ≤ j → j < i + n → p j ≡ true
+unfolding allFrom
+all-holds p zero i j e h k = absurd (omega arith)
+all-holds p (suc n) i j e h k =
+    let b = and-true (p i) (allFrom p n (suc i)) e in
+    elim (decLt i j) [
+      | yes l ↦ all-holds p n (suc i) j (b .1) l (omega arith)
+      | no l ↦ let q : j ≡ i = omega arith in rw q (b .0)
+    ]
+
+pub all-intro : (p : ℕ → Bool) (n i : ℕ) → ((j : ℕ) → i ≤ j → j < i + n → p j ≡ true) → allFrom p n i ≡ true
+unfolding allFrom
+all-intro p zero i h = refl
+all-intro p (suc n) i h =
+    and-intro (p i) (allFrom p n (suc i)) (h i (omega arith) (omega arith)) (all-intro p n (suc i) (λ j a b. h j (omega arith) (omega arith)))
+
+-- ---- tests that agree
+pub first-agree : (p q : ℕ → Bool) (n i : ℕ) → ((j : ℕ) → i ≤ j → j < i + n → p j ≡ q j) → firstFrom p n i ≡ firstFrom q n i
+unfolding firstFrom
+first-agree p q zero i h = refl
+first-agree p q (suc n) i h =
+    rw (h i (omega arith) (omega arith), first-agree p q n (suc i) (λ j a b. h j (omega arith) (omega arith)))
+
+pub count-agree : (p q : ℕ → Bool) (n i : ℕ) → ((j : ℕ) → i ≤ j → j < i + n → p j ≡ q j) → countFrom p n i ≡ countFrom q n i
+unfolding countFrom
+count-agree p q zero i h = refl
+count-agree p q (suc n) i h =
+    rw (h i (omega arith) (omega arith), count-agree p q n (suc i) (λ j a b. h j (omega arith) (omega arith)))
+
+pub count-most : (p : ℕ → Bool) (n i : ℕ) → countFrom p n i ≤ n
+unfolding countFrom
+count-most p zero i = omega arith
+count-most p (suc n) i = go (p i) (count-most p n (suc i))
+  where
+    go : (b : Bool) → countFrom p n (suc i) ≤ n → cond b 1 0 + countFrom p n (suc i) ≤ suc n
+    go true h = omega arith
+    go false h = omega arith
+
+-- none pass: the count is 0, and the search ends after them all
+pub first-all : (p : ℕ → Bool) (n i : ℕ) → ((j : ℕ) → i ≤ j → j < i + n → p j ≡ false) → firstFrom p n i ≡ i + n
+unfolding firstFrom
+first-all p zero i h = omega arith
+first-all p (suc n) i h =
+    rw (h i (omega arith) (omega arith)) (first-all p n (suc i) (λ j a b. h j (omega arith) (omega arith)) ∙ omega arith)

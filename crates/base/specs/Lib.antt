@@ -1,0 +1,10 @@
+-- Definitions on lists and numbers that the toolchain's library lacks. They know nothing of flash or ciphers.
+--   Part     a part of a list, and a list with a part replaced
+--   Search   the first, the number, all of those of some numbers in a row that pass a test
+--   Fold     a fold and a list over numbers in a row
+--   Each     a fact that holds of each element of a list; tests of whole lists
+-- Choice by a test is the library's `cond`, both tests `_&&_`: their laws are in proofs/Choice.antt.
+pub mod Part
+pub mod Search
+pub mod Fold
+pub mod Each

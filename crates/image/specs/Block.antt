@@ -1,0 +1,37 @@
+-- The steps that program a block page by page from its page 0 (document 01, "Calls and their refusals"): a key block from its keys, a commit block from map and letters.
+use Prim.Native.Nat.{ℕ, zero, suc, _+_, _*_}
+use mathlib.Core.Bool.{cond}
+use mathlib.Core.List.{List, [], _++_}
+use lib.ListN.{getD}
+use lib.Dec.{eqb}
+use Rattle.base.specs.Part.{part}
+use Rattle.base.specs.Fold.{listFrom}
+use Rattle.page.specs.Frame.{pageSize}
+use Rattle.page.specs.Key.{keysInPage, keysInBlock, keyPage, keySlot, keyInPage, keyInNoise}
+use Rattle.page.specs.Entry.{usedLetter, parts, commitPayload}
+use Rattle.page.specs.Page.{keysPage, commitPage}
+use Rattle.image.specs.Size.{pagesInBlock}
+use Rattle.image.specs.Step.{Step, program}
+
+-- the key of position p in the 4,096 bytes of a key block
+unfoldable pub keyInBlock : List ℕ → ℕ → List ℕ
+keyInBlock block p = keyInPage (part block (pageSize * keyPage p) pageSize) (keySlot p)
+
+-- the keys of n positions from p on, in a row
+unfoldable pub keysFrom : (ℕ → List ℕ) → ℕ → ℕ → List ℕ
+keysFrom key zero p = []
+keysFrom key (suc n) p = key p ++ keysFrom key n (suc p)
+
+-- commit: used keys in place, all others from noise
+unfoldable pub renewedKey : List ℕ → List ℕ → List ℕ → ℕ → List ℕ
+renewedKey old letters noise p = cond (eqb (getD letters p 0) usedLetter) (keyInBlock old p) (keyInNoise noise p)
+
+-- key block 0 or 1 of an epoch, into block b, from the key of each position
+unfoldable pub keyBlockSteps : ℕ → ℕ → ℕ → (ℕ → List ℕ) → List Step
+keyBlockSteps epoch block b key =
+    listFrom (λ i. program (b * pagesInBlock + i) (keysPage epoch block i (keysFrom key keysInPage (keysInBlock * block + keysInPage * i)))) pagesInBlock 0
+
+-- a commit of an epoch and a covered sequence, into block b, from map and letters
+unfoldable pub commitBlockSteps : ℕ → ℕ → ℕ → List ℕ → List ℕ → List Step
+commitBlockSteps epoch covered b map letters =
+    listFrom (λ i. program (b * pagesInBlock + i) (commitPage epoch i covered (commitPayload map letters i))) parts 0

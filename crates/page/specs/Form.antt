@@ -1,0 +1,26 @@
+-- Document 01, "Page forms": a page is whole if header and closing are both right; torn if only the header is; otherwise, unless empty, spoilt.
+use Prim.Native.Nat.{ℕ}
+use mathlib.Core.Bool.{Bool, true, false, cond}
+use mathlib.Core.List.{List}
+use Rattle.base.specs.Part.{part}
+use Rattle.base.specs.Each.{same, allAre}
+use Rattle.page.specs.Frame.{headerSize, closingAt, closingSize, closing, erased}
+use Rattle.page.specs.Header.{headerOf}
+use Rattle.page.specs.declared.Header.{Header}
+use Rattle.page.specs.declared.Header.the-variants.{Is, Invalid}
+use Rattle.page.specs.declared.Form.{Form}
+use Rattle.page.specs.declared.Form.the-variants.{Empty, Whole, Torn, Spoilt}
+
+-- all bytes are FFh
+unfoldable pub isEmpty : List ℕ → Bool
+isEmpty xs = allAre erased xs
+
+unfoldable pub closed : List ℕ → Bool
+closed page = same (part page closingAt closingSize) closing
+
+abbrev pub formBy : Header → List ℕ → Form
+formBy (Is f) page = cond (closed page) (Whole f) (Torn f)
+formBy Invalid page = cond (isEmpty page) Empty Spoilt
+
+unfoldable pub formOf : List ℕ → Form
+formOf page = formBy (headerOf (part page 0 headerSize)) page

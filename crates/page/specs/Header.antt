@@ -1,0 +1,112 @@
+-- Document 01, "Page forms": the fields of a header, their ranges for each kind, and its 30 bytes.
+use Prim.Native.Nat.{ℕ}
+use mathlib.Core.Bool.{Bool, false, cond, _&&_}
+use mathlib.Core.List.{List, [], _∷_, _++_}
+use lib.ListN.{getD}
+use lib.Dec.{eqb, leb, ltb}
+use Rattle.base.specs.Part.{part}
+use Rattle.base.specs.Each.{same}
+use Rattle.page.specs.Frame.{colonSpace}
+use Rattle.page.specs.Column.{spell, numberIn}
+use Rattle.page.specs.Plan.{filePlan, lastFile, countOf}
+use Rattle.page.specs.declared.Number.{Number}
+use Rattle.page.specs.declared.Number.the-variants.{Is as IsNumber, Misspelt}
+use Rattle.page.specs.declared.Frame.{Frame}
+use Rattle.page.specs.declared.Header.{Header}
+use Rattle.page.specs.declared.Header.the-variants.{Is, Invalid}
+
+-- the kind letters N, D, K, C
+abbrev pub nodeLetter : ℕ
+nodeLetter = 0x4e
+
+abbrev pub cutOffLetter : ℕ
+cutOffLetter = 0x44
+
+abbrev pub keysLetter : ℕ
+keysLetter = 0x4b
+
+abbrev pub commitLetter : ℕ
+commitLetter = 0x43
+
+-- sequences and epochs end at 99,999,999
+abbrev pub lastNumber : ℕ
+lastNumber = 99_999_999
+
+-- key positions are 0 to 447, key blocks 0 and 1, their pages 0 to 15, a commit's parts 0 to 9
+abbrev pub lastPosition : ℕ
+lastPosition = 447
+
+abbrev pub lastKeyBlock : ℕ
+lastKeyBlock = 1
+
+abbrev pub lastKeyPage : ℕ
+lastKeyPage = 15
+
+abbrev pub lastPart : ℕ
+lastPart = 9
+
+abbrev pub within : ℕ → ℕ → ℕ → Bool
+within low high n = leb low n && leb n high
+
+-- ---- the headers of each kind, from their fields; an unused field is 0
+abbrev pub nodeFrame : ℕ → ℕ → ℕ → ℕ → Frame
+nodeFrame sequence file offset key =
+    record { kind = nodeLetter; number = sequence; unit = file; part = offset; key = key; second = 0 }
+
+abbrev pub cutOffFrame : ℕ → ℕ → ℕ → Frame
+cutOffFrame sequence file offset =
+    record { kind = cutOffLetter; number = sequence; unit = file; part = offset; key = 0; second = 0 }
+
+abbrev pub keysFrame : ℕ → ℕ → ℕ → Frame
+keysFrame epoch block page =
+    record { kind = keysLetter; number = epoch; unit = block; part = page; key = 0; second = 0 }
+
+abbrev pub commitFrame : ℕ → ℕ → ℕ → Frame
+commitFrame epoch i covered =
+    record { kind = commitLetter; number = epoch; unit = 0; part = i; key = 0; second = covered }
+
+-- ---- the ranges of each kind's fields
+-- the file is 0 to 13, the offset below the file's count
+abbrev pub inPlan : Frame → Bool
+inPlan f = leb (f .unit) lastFile && ltb (f .part) (countOf filePlan (f .unit))
+
+abbrev pub nodeRanges : Frame → Bool
+nodeRanges f = within 1 lastNumber (f .number) && inPlan f && leb (f .key) lastPosition && eqb (f .second) 0
+
+abbrev pub cutOffRanges : Frame → Bool
+cutOffRanges f = within 1 lastNumber (f .number) && inPlan f && eqb (f .key) 0 && eqb (f .second) 0
+
+abbrev pub keysRanges : Frame → Bool
+keysRanges f =
+    within 1 lastNumber (f .number) && leb (f .unit) lastKeyBlock && leb (f .part) lastKeyPage && eqb (f .key) 0 && eqb (f .second) 0
+
+abbrev pub commitRanges : Frame → Bool
+commitRanges f =
+    within 1 lastNumber (f .number) && eqb (f .unit) 0 && leb (f .part) lastPart && eqb (f .key) 0 && leb (f .second) lastNumber
+
+unfoldable pub inRange : Frame → Bool
+inRange f =
+    cond (eqb (f .kind) nodeLetter) (nodeRanges f)
+    (cond (eqb (f .kind) cutOffLetter) (cutOffRanges f)
+    (cond (eqb (f .kind) keysLetter) (keysRanges f)
+    (cond (eqb (f .kind) commitLetter) (commitRanges f) false)))
+
+-- ---- bytes: kind letter (1 column), number (8), unit (3), part (4), key (4), second number (8), colon and space
+unfoldable pub headerBytes : Frame → List ℕ
+headerBytes f =
+    f .kind ∷ (spell 8 (f .number) ++ (spell 3 (f .unit) ++ (spell 4 (f .part) ++ (spell 4 (f .key) ++ (spell 8 (f .second) ++ colonSpace)))))
+
+abbrev pub andThen : Number → (ℕ → Header) → Header
+andThen (IsNumber n) f = f n
+andThen Misspelt f = Invalid
+
+-- the header that 30 bytes are: every field spelt right and in its range
+unfoldable pub headerOf : List ℕ → Header
+headerOf xs =
+    andThen (numberIn (part xs 1 8)) λ number.
+    andThen (numberIn (part xs 9 3)) λ unit.
+    andThen (numberIn (part xs 12 4)) λ part'.
+    andThen (numberIn (part xs 16 4)) λ key.
+    andThen (numberIn (part xs 20 8)) λ second.
+    let f : Frame = record { kind = getD xs 0 0; number = number; unit = unit; part = part'; key = key; second = second } in
+    cond (same (part xs 28 2) colonSpace && inRange f) (Is f) Invalid

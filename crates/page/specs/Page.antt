@@ -1,0 +1,42 @@
+-- The 256 bytes of each kind of page (document 01, "Page forms" and "Cipher"), and what a program that is cut leaves of them.
+use Prim.Native.Nat.{ℕ, _-_}
+use mathlib.Core.List.{List, _++_}
+use lib.ListN.{take, replicate}
+use Rattle.base.specs.Part.{part}
+use Rattle.cipher.specs.KeyExpansion.{keyExpansion}
+use Rattle.cipher.specs.CounterMode.{counterMode}
+use Rattle.page.specs.Frame.{headerSize, payloadSize, pageSize, closing, erased, space}
+use Rattle.page.specs.Header.{headerBytes, nodeFrame, cutOffFrame, keysFrame, commitFrame}
+use Rattle.page.specs.declared.Frame.{Frame}
+
+-- header, payload, closing
+unfoldable pub pageBytes : Frame → List ℕ → List ℕ
+pageBytes f payload = headerBytes f ++ (payload ++ closing)
+
+-- "Cipher": the payload XOR the AES-128 encipherments of counters 0 to 13 under a key of 16 bytes; the same both ways
+unfoldable pub enciphered : List ℕ → List ℕ → List ℕ
+enciphered key payload = counterMode (keyExpansion key) payload
+
+-- N: a node of a sequence, file, offset and key position, its payload enciphered under a key
+unfoldable pub nodePage : ℕ → ℕ → ℕ → ℕ → List ℕ → List ℕ → List ℕ
+nodePage sequence file offset position key payload = pageBytes (nodeFrame sequence file offset position) (enciphered key payload)
+
+-- D: a cut-off of a sequence, file and first offset removed; its payload is spaces
+unfoldable pub cutOffPage : ℕ → ℕ → ℕ → List ℕ
+cutOffPage sequence file offset = pageBytes (cutOffFrame sequence file offset) (replicate payloadSize space)
+
+-- K: page i of key block 0 or 1, of an epoch, with its 14 keys
+unfoldable pub keysPage : ℕ → ℕ → ℕ → List ℕ → List ℕ
+keysPage epoch block i keys = pageBytes (keysFrame epoch block i) keys
+
+-- C: part i of a commit, of an epoch and a covered sequence
+unfoldable pub commitPage : ℕ → ℕ → ℕ → List ℕ → List ℕ
+commitPage epoch i covered payload = pageBytes (commitFrame epoch i covered) payload
+
+-- the payload of a page's 256 bytes
+unfoldable pub payloadOf : List ℕ → List ℕ
+payloadOf page = part page headerSize payloadSize
+
+-- a program that is cut leaves the first k bytes written and the rest FFh
+unfoldable pub cutPage : ℕ → List ℕ → List ℕ
+cutPage k page = take k page ++ replicate (pageSize - k) erased

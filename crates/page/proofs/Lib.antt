@@ -1,0 +1,2 @@
+-- Laws of the definitions of specs/, a file for each, under its name there.
+pub mod Column

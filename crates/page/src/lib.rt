@@ -1,4 +1,5 @@
 // The pages of the flash: headers, page forms, commit entries and letters, the file plan, key positions.
+pub mod plan;
 
 // What columns hold.
 pub enum Number {

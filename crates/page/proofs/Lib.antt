@@ -1,0 +1,2 @@
+-- Laws of the definitions of specs/, a file for each.
+pub mod Plans

@@ -1,2 +1,3 @@
--- Laws of the definitions of specs/, a file for each, under its name there.
+-- Laws of the definitions of specs/, a file for each.
 pub mod Column
+pub mod Plans

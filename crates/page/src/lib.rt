@@ -1,5 +1,6 @@
 // The pages of the flash: headers, page forms, commit entries and letters, the file plan, key positions.
-pub mod columns; // decimal columns
+pub mod columns;
+pub mod plan;
 
 // What columns hold.
 pub enum Number {

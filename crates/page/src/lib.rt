@@ -1,5 +1,7 @@
 // The pages of the flash: headers, page forms, commit entries and letters, the file plan, key positions.
 pub mod columns;
+pub mod frames;
+pub mod headers;
 pub mod plan;
 
 // What columns hold.

@@ -26,11 +26,7 @@ pub start-next : (plan : List ℕ) (file : ℕ) → startOf plan (suc file) ≡ 
 unfolding startOf countOf
 start-next [] zero = refl
 start-next [] (suc file) = refl
-start-next (n ∷ plan) zero = go plan
-  where
-    go : (plan : List ℕ) → n + startOf plan 0 ≡ 0 + n
-    go [] = omega arith
-    go (m ∷ plan) = omega arith
+start-next (n ∷ plan) zero = omega arith
 start-next (n ∷ plan) (suc file) = omega (arith, start-next plan file)
 
 -- the files in their order: one that comes later starts no earlier than the other ends

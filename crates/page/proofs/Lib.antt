@@ -7,5 +7,6 @@
 pub mod Slices
 pub mod Column
 pub mod Plans
+pub mod HeaderLaws
 pub mod Positions
 pub mod Cases

@@ -7,6 +7,7 @@
 pub mod Slices
 pub mod Column
 pub mod Plans
+pub mod Ranges
 pub mod HeaderLaws
 pub mod Positions
 pub mod Cases

@@ -1,6 +1,7 @@
 -- Key expansion, FIPS 197, section 5.2. The schedule w is a list of words; w[i] is `word w i`.
 --   rotWord, subWord, rcon   as in the standard
 --   keyExpansion key         the 44 words of a key of 16 bytes: 176 bytes, eleven round keys in order
+--   nextRoundKey c k         four words at once, as the code makes them
 use mathlib.Core.Bool.{cond}
 use mathlib.Core.List.{List, _++_, map}
 use Prim.Native.Nat.{ℕ, zero, suc, _+_, _*_, _-_, _/_, _%_}
@@ -45,3 +46,13 @@ schedule (suc n) key =
 -- as many words as make Nb for each round and Nb before the first
 unfoldable pub keyExpansion : List ℕ → List ℕ
 keyExpansion key = schedule (Nb * (Nr + 1) - Nk) key
+
+-- the round key after k, where c is the first byte of its round constant. That it is the next four words of the schedule
+-- is `schedule-round` of proofs/Schedule.antt
+unfoldable pub nextRoundKey : ℕ → List ℕ → List ℕ
+nextRoundKey c k =
+    let w0 = xorBytes (word k 0) (xorBytes (subWord (rotWord (word k 3))) (four c 0 0 0)) in
+    let w1 = xorBytes (word k 1) w0 in
+    let w2 = xorBytes (word k 2) w1 in
+    let w3 = xorBytes (word k 3) w2 in
+    w0 ++ w1 ++ w2 ++ w3

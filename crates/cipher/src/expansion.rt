@@ -5,8 +5,9 @@ ghost use Prim.Native.Nat.{_≤_};
 ghost use lib.ListN.{length, drop};
 ghost use Rattle.cipher.specs.Field.{xtime};
 ghost use Rattle.cipher.specs.Table.{sBoxTable};
-ghost use Rattle.cipher.specs.Words.{littleEndian, four, xorBytes};
-ghost use Rattle.cipher.specs.KeyExpansion.{rotWord, subWord, keyExpansion};
+ghost use Rattle.cipher.specs.Words.{littleEndian};
+ghost use Rattle.cipher.specs.KeyExpansion.{rotWord, subWord, nextRoundKey, keyExpansion};
+ghost use Rattle.cipher.specs.State.{state};
 use crate::columns::Columns;
 use crate::columns::from_block;
 use crate::columns::to_block;
@@ -37,8 +38,7 @@ fn sub_rot_word(sbox: &[u8; 256], x: u32) -> u32
 // before it, plus the one before it, which for the first word goes through RotWord and SubWord and the round constant.
 fn next_round_key(sbox: &[u8; 256], k: Columns, constant: u8) -> Columns
     requires { ⌜ now sbox ≡ sBoxTable ⌝ }
-    ensures first { λ r. ⌜ littleEndian (r .c0) ≡ xorBytes (littleEndian (k .c0)) (xorBytes (subWord (rotWord (littleEndian (k .c3)))) (four constant 0 0 0)) ⌝ }
-    ensures others { λ r. ⌜ (littleEndian (r .c1) ≡ xorBytes (littleEndian (k .c1)) (littleEndian (r .c0))) × (littleEndian (r .c2) ≡ xorBytes (littleEndian (k .c2)) (littleEndian (r .c1))) × (littleEndian (r .c3) ≡ xorBytes (littleEndian (k .c3)) (littleEndian (r .c2))) ⌝ }
+    ensures { λ r. ⌜ state r ≡ nextRoundKey constant (state k) ⌝ }
 {
     let t = sub_rot_word(sbox, k.c3) ^ (constant as u32);
     let c0 = k.c0 ^ t;

@@ -1,69 +1,79 @@
+-- `encrypt_columns` is the cipher. After `round` turns of the loop the state is that of so many rounds.
+use mathlib.Core.Path.{_≡_, refl, ap, ap₂, _∙_}
+use mathlib.Core.List.{List}
+use Prim.Native.Nat.{ℕ, _-_, _≤_}
+use native.Mathlib.Omega.{arith}
+use denote.Ref.{now}
+use borrow.Author.Needs.{needs}
+use Rattle.cipher.specs.Words.{xorBytes}
+use Rattle.cipher.specs.Cipher.{subBytes, shiftRows, mixColumns, addRoundKey, rounds, cipher}
+use Rattle.cipher.specs.State.{state}
+use Rattle.cipher.proofs.RoundLaws.{round-more}
 use Rattle.cipher.proofs.rounds.encrypt_columns.Statement.{statement}
 use Rattle.cipher.proofs.rounds.encrypt_columns.Tie as tie
-use Rattle.cipher.proofs.rounds.encrypt_columns.Reads as reads
-use Rattle.cipher.proofs.rounds.encrypt_columns.Lts as lts
-use Rattle.cipher.proofs.columns.add.Reads as add-reads
-use Rattle.cipher.proofs.rounds.round_key.Reads as round-key-reads
-use Rattle.cipher.proofs.rounds.sub_shift.Reads as sub-shift-reads
-use Rattle.cipher.proofs.rounds.sub_shift_mix.Reads as sub-shift-mix-reads
 
 abbrev Inv-loop : tie.InvT-loop
-Inv-loop sbox table w s₀ round₀ s round = ?
+Inv-loop sbox table w s₀ round₀ s round = (round ≤ 9) × (state s ≡ rounds w round (state s₀))
 
 abbrev μ-loop : tie.MeasureT-loop
-μ-loop sbox table w s₀ round₀ s round = ?
+μ-loop sbox table w s₀ round₀ s round = 9 - round
 
--- src/rounds.rt:91:28
 round-key-requires : tie.Need-round-key-requires Inv-loop μ-loop
-round-key-requires c κs = ?
+round-key-requires c κs = search needs
 
--- src/rounds.rt:91:9
 add-requires : tie.Need-add-requires Inv-loop μ-loop
-add-requires c κs = ?
+add-requires c κs = search needs
 
--- src/rounds.rt:93:5
 loop-holds : tie.Need-loop-holds Inv-loop μ-loop
-loop-holds c = ?
+unfolding rounds
+loop-holds c = (omega arith, refl)
 
--- src/rounds.rt:94:9
 add-round : tie.Need-add-round Inv-loop μ-loop
-add-round c = ?
+add-round c = omega arith
 
--- src/rounds.rt:95:17
 sub-shift-mix-requires : tie.Need-sub-shift-mix-requires Inv-loop μ-loop
-sub-shift-mix-requires c κs = ?
+sub-shift-mix-requires c κs = search needs
 
--- src/rounds.rt:95:42
 round-key-requires-2 : tie.Need-round-key-requires-2 Inv-loop μ-loop
-round-key-requires-2 c κs = ?
+round-key-requires-2 c κs = search needs
 
--- src/rounds.rt:95:9
 add-requires-2 : tie.Need-add-requires-2 Inv-loop μ-loop
-add-requires-2 c κs = ?
+add-requires-2 c κs = search needs
 
--- src/rounds.rt:93:5
 loop-less : tie.Need-loop-less Inv-loop μ-loop
-loop-less c = ?
+loop-less c = omega arith
 
--- src/rounds.rt:93:5
 loop-again : tie.Need-loop-again Inv-loop μ-loop
-loop-again c = ?
+loop-again c =
+    let l = c .before .before .before .before .loop in
+    let s = c .before .before .before .before .before .before .before in (
+      omega arith,
+      c .add2 .ensures
+          ∙ ap₂ xorBytes (c .before .before .sub-shift-mix .ensures ∙ ap (λ (x : List ℕ). mixColumns (shiftRows (subBytes x))) (l .inv .1)) (c .before .round-key2 .ensures)
+          ∙ round-more (now (s .args .w)) (l .round) (state (c .before .before .before .before .before .add .result)),
+    )
 
--- src/rounds.rt:97:9
 sub-shift-requires : tie.Need-sub-shift-requires Inv-loop μ-loop
-sub-shift-requires c κs = ?
+sub-shift-requires c κs = search needs
 
--- src/rounds.rt:97:29
 round-key-requires-3 : tie.Need-round-key-requires-3 Inv-loop μ-loop
-round-key-requires-3 c κs = ?
+round-key-requires-3 c κs = search needs
 
--- src/rounds.rt:97:5
 add-requires-3 : tie.Need-add-requires-3 Inv-loop μ-loop
-add-requires-3 c κs = ?
+add-requires-3 c κs = search needs
 
--- src/rounds.rt:81:1
 returns : tie.Need-returns Inv-loop μ-loop
-returns c = ?
+unfolding cipher
+returns c =
+    let l = c .before .before .before .before .loop in
+    let s = c .before .before .before .before .before .before .before in
+    let w = now (s .args .w) in
+    let a = c .before .before .before .before .before .add in
+    let nine : l .round ≡ 9 = omega arith in
+    let first : state (a .result) ≡ addRoundKey w 0 (state (s .args .input)) =
+    a .ensures ∙ ap (xorBytes (state (s .args .input))) (c .before .before .before .before .before .before .round-key .ensures) in
+    c .add3 .ensures
+    ∙ ap₂ xorBytes (c .before .before .sub-shift .ensures ∙ ap (λ (x : List ℕ). shiftRows (subBytes x)) (l .inv .1 ∙ ap₂ (rounds w) nine first)) (c .before .round-key3 .ensures)
 
 pub encrypt-columns-spec : {M : Type 1} → statement M
 encrypt-columns-spec =

@@ -1,20 +1,17 @@
+-- `rotate_left_24` turns the four bytes by three places.
+use Rattle.cipher.proofs.WordLaws.{rotated-24}
 use borrow.Author.Needs.{needs}
 use Rattle.cipher.proofs.words.rotate_left_24.Statement.{statement}
 use Rattle.cipher.proofs.words.rotate_left_24.Tie as tie
-use Rattle.cipher.proofs.words.rotate_left_24.Reads as reads
-use Rattle.cipher.proofs.words.rotate_left_24.Lts as lts
 
--- src/words.rt:33:5
 mul-result : tie.Need-mul-result
 mul-result c = search needs
 
--- src/words.rt:33:5
 add-result : tie.Need-add-result
 add-result c = search needs
 
--- src/words.rt:30:1
 returns : tie.Need-returns
-returns c = ?
+returns c = rotated-24 (c .args .x) (c .fits .x .fits)
 
 pub rotate-left-24-spec : {M : Type 1} → statement M
 rotate-left-24-spec = tie.close (tie.spec mul-result add-result returns)

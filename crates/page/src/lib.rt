@@ -2,6 +2,8 @@
 pub mod bytes;
 pub mod columns;
 pub mod entries;
+pub mod frames;
+pub mod headers;
 pub mod keys;
 pub mod plan;
 

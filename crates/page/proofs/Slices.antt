@@ -1,12 +1,12 @@
 -- Parts of lists that are joined, and parts that are lent: what the borrow checker leaves of them.
-use Prim.Native.Nat.{ℕ, zero, suc, _+_, _-_, _<_}
+use Prim.Native.Nat.{ℕ, zero, suc, _+_, _-_, _<_, _≤_}
 use native.Mathlib.Omega.{arith}
 use mathlib.Core.Path.{_≡_, refl}
 use mathlib.Core.List.{List, [], _∷_, _++_, append-assoc, append-nil}
-use lib.ListN.{length, take, drop, getD, length-append, length-drop, drop-of-length-le, take-append-drop}
+use lib.ListN.{length, take, drop, getD, replicate, length-replicate, replicate-append-replicate, length-append, length-drop, drop-of-length-le, take-append-drop}
 use lib.Seq.{take-at, drop-at, take-all, drop-append-add}
 use borrow.Rule.Slice.PartMut.{putMid}
-use Rattle.base.specs.Part.{part}
+use Rattle.base.specs.Part.{part, splice}
 use Rattle.base.proofs.Parts.{put-next}
 
 -- an element that is there does not go by the default
@@ -31,6 +31,18 @@ part-middle p q r i n e f = rw (drop-at p (q ++ r) i e) (take-at q r n f)
 pub part-back : (p q : List ℕ) (i n : ℕ) → length p ≡ i → length q ≡ n → part (p ++ q) i n ≡ q
 unfolding part
 part-back p q i n e f = rw (drop-at p q i e) (take-all n q (omega arith))
+
+pub part-replicate : (m i n v : ℕ) → i + n ≤ m → part (replicate m v) i n ≡ replicate n v
+part-replicate m i n v h =
+    let k : m ≡ i + (n + (m - (i + n))) = omega arith in
+    rw k
+    (rw (← replicate-append-replicate i (n + (m - (i + n))) v, ← replicate-append-replicate n (m - (i + n)) v)
+    (part-middle (replicate i v) (replicate n v) (replicate (m - (i + n)) v) i n (length-replicate i v) (length-replicate n v)))
+
+-- another list in the place of the middle one
+pub splice-middle : (p q r ys : List ℕ) (i : ℕ) → length p ≡ i → length q ≡ length ys → splice (p ++ (q ++ r)) i ys ≡ p ++ (ys ++ r)
+unfolding splice
+splice-middle p q r ys i e f = rw (take-at p (q ++ r) i e, drop-at p (q ++ r) i e, drop-at q r (length ys) f)
 
 -- a list in two parts
 pub part-halves : (xs : List ℕ) (i j : ℕ) → length xs ≡ i + j → part xs 0 i ++ part xs i j ≡ xs

@@ -13,23 +13,12 @@ use Rattle.cipher.specs.CounterMode.{counterMode}
 use Rattle.cipher.specs.KeyExpansion.{keyExpansion}
 use Rattle.cipher.proofs.Laws.{length-counter-mode, counter-mode-twice}
 use Rattle.page.specs.Frame.{headerSize, payloadSize, closingSize, pageSize, closingAt, erased, closing, space}
-use Rattle.page.specs.Column.{spell}
 use Rattle.page.specs.Header.{headerBytes, nodeFrame, cutOffFrame, keysFrame, commitFrame}
 use Rattle.page.specs.Key.{keySize, keysInPage, keyInPage}
 use Rattle.page.specs.Page.{pageBytes, enciphered, nodePage, cutOffPage, keysPage, commitPage, payloadOf, cutPage}
 use Rattle.page.specs.declared.Frame.{Frame}
-use Rattle.page.proofs.Column.{length-spell}
+use Rattle.page.proofs.HeaderLaws.{length-header}
 use Rattle.page.proofs.Slices.{part-front, part-past, part-middle, part-back, part-replicate, splice-middle, three-parts}
-
-length-header : (f : Frame) → length (headerBytes f) ≡ headerSize
-unfolding headerBytes
-length-header f =
-    let a = length-spell 8 (f .number) (omega arith) in
-    let b = length-spell 3 (f .unit) (omega arith) in
-    let c = length-spell 4 (f .part) (omega arith) in
-    let d = length-spell 4 (f .key) (omega arith) in
-    let e = length-spell 8 (f .second) (omega arith) in
-    simp length-append (omega arith)
 
 -- ---- enciphering
 pub enciphered-length : (key payload : List ℕ) → length (enciphered key payload) ≡ length payload

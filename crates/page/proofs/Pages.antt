@@ -36,6 +36,11 @@ pub enciphered-length : (key payload : List ℕ) → length (enciphered key payl
 unfolding enciphered
 enciphered-length key payload = length-counter-mode (keyExpansion key) payload
 
+-- what the cipher leaves under the round keys of a key
+pub stream-enciphered : (key w s zs : List ℕ) → zs ≡ counterMode w s → w ≡ keyExpansion key → zs ≡ enciphered key s
+unfolding enciphered
+stream-enciphered key w s zs e h = e ∙ ap (λ (v : List ℕ). counterMode v s) h
+
 -- the same both ways
 pub enciphered-twice : (key payload : List ℕ) → enciphered key (enciphered key payload) ≡ payload
 unfolding enciphered

@@ -1,20 +1,20 @@
 -- Laws of page forms: the form of a page that was programmed whole or in part, and what a form says of a page's bytes.
-use Prim.Native.Nat.{ℕ, zero, suc, _+_, _<_, _≤_}
+use Prim.Native.Nat.{ℕ, _+_, _<_, _≤_}
 use native.Mathlib.Omega.{arith}
 use native.Mathlib.Decide.{decLt, ℕ-discrete}
 use mathlib.Core.Path.{_≡_, refl, sym, ap, _∙_}
 use mathlib.Core.Logic.{_⊎_, inl, inr, _↔_}
-use mathlib.Core.Bool.{Bool, true, false, cond, _&&_}
+use mathlib.Core.Bool.{Bool, true, false, cond}
 use mathlib.Core.List.{List, [], _∷_, _++_}
 use lib.ListN.{length, getD, replicate}
 use lib.Dec.{eqb, ltb}
 use borrow.Author.Tests.{eqb-true, eq-eqb, ne-eqb, lt-ltb, le-ltb}
 use Rattle.base.specs.Part.{part}
 use Rattle.base.specs.Each.{same, allAre}
-use Rattle.base.proofs.Choice.{and-true, true-false}
+use Rattle.base.proofs.Choice.{and-true}
 use Rattle.base.proofs.Parts.{part-part, part-length}
 use Rattle.base.proofs.Eachs.{same-true, same-refl, same-false, allAre-true, allAre-replicate}
-use Rattle.page.specs.Frame.{headerSize, payloadSize, closingSize, pageSize, closingAt, erased, closing, colonSpace}
+use Rattle.page.specs.Frame.{headerSize, payloadSize, closingSize, pageSize, closingAt, erased, closing}
 use Rattle.page.specs.Header.{nodeLetter, cutOffLetter, keysLetter, commitLetter, inRange, headerBytes, headerOf}
 use Rattle.page.specs.Form.{isEmpty, closed, formBy, formOf}
 use Rattle.page.specs.Page.{pageBytes, payloadOf, cutPage}
@@ -25,7 +25,7 @@ use Rattle.page.specs.declared.Form.{Form}
 use Rattle.page.specs.declared.Form.the-variants.{Empty, Whole, Torn, Spoilt}
 use Rattle.page.proofs.Slices.{part-replicate, part-halves}
 use Rattle.page.proofs.Ranges.{kinds}
-use Rattle.page.proofs.HeaderLaws.{length-header, header-read, header-is, header-range, no-kind, no-colon}
+use Rattle.page.proofs.HeaderLaws.{header-read, header-is, header-range, no-kind, no-colon}
 use Rattle.page.proofs.Pages.{page-length, header-back, closing-back, cut-length, cut-whole, cut-before, cut-after}
 
 -- ---- a form goes by the header, by whether the page is closed and whether it is empty

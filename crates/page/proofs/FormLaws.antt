@@ -95,11 +95,16 @@ module _ (page : List ℕ) (f : Frame) where
     pub whole-bytes : formOf page ≡ Whole f → page ≡ pageBytes f (payloadOf page)
     unfolding pageBytes payloadOf closed
     whole-bytes e =
-        sym (part-halves page headerSize (payloadSize + closingSize) l)
-        ∙ rw (whole-header e)
-        (ap (λ (t : List ℕ). headerBytes f ++ t)
-        (sym (part-halves (part page headerSize (payloadSize + closingSize)) payloadSize closingSize (part-length page headerSize (payloadSize + closingSize) (omega arith)))
-        ∙ rw (part-part page headerSize (payloadSize + closingSize) 0 payloadSize (omega arith), part-part page headerSize (payloadSize + closingSize) payloadSize closingSize (omega arith), same-true (part page closingAt closingSize) closing (whole-is e .1))))
+        let n : ℕ = payloadSize + closingSize in
+        let back = part page headerSize n in
+        let two : back ≡ part page headerSize payloadSize ++ closing =
+        sym (part-halves back payloadSize closingSize (part-length page headerSize n (omega arith)))
+        ∙ rw (
+          part-part page headerSize n 0 payloadSize (omega arith),
+          part-part page headerSize n payloadSize closingSize (omega arith),
+          same-true (part page closingAt closingSize) closing (whole-is e .1),
+        ) in
+        sym (part-halves page headerSize n l) ∙ rw (whole-header e, two)
 
 -- ---- empty pages
 pub empty-part : (page : List ℕ) (a n : ℕ) → isEmpty page ≡ true → a + n ≤ length page → part page a n ≡ replicate n erased

@@ -4,9 +4,11 @@
 --   Origin      for each byte of the flash, which key it is of, or which key enciphered it
 --   Machine     image, record, power, book and origins, and what one call does to them
 --   Statement   the one theorem of demand 3
+--   Cases       P1 to P10 of document 01, one table
 -- Letters used throughout: c a call's number, p a key position, x a place, a a byte's address, n and k the power.
 pub mod Call
 pub mod Book
 pub mod Origin
 pub mod Machine
 pub mod Statement
+pub mod Cases

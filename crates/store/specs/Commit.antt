@@ -12,10 +12,10 @@ use Rattle.image.specs.Size.{pagesInBlock, blocks, sizeRight}
 use Rattle.image.specs.Look.{blockAt, lowestEmpty, emptyBlocks}
 use Rattle.image.specs.Step.{Step, erase, playAll}
 use Rattle.image.specs.Block.{renewedKey, keyBlockSteps, commitBlockSteps}
-use Rattle.store.specs.Reply.{Test, _else_, verdict, isDone}
+use Rattle.store.specs.Reply.{Test, _else_, verdict}
 use Rattle.store.specs.Kind.{isData}
-use Rattle.store.specs.Record.{Record, pageOf, live, fits}
-use Rattle.store.specs.Outcome.{Outcome, refused}
+use Rattle.store.specs.Record.{Record, withNumbers, pageOf, live, fits}
+use Rattle.store.specs.Outcome.{Outcome, decided}
 use Rattle.store.specs.Format.{noiseSize, buffersRight}
 use Rattle.store.specs.Write.{keysBlock}
 use Rattle.store.specs.declared.Numbers.{Numbers}
@@ -68,9 +68,6 @@ begin img r = record { steps = []; image = img; after = r }
 abbrev pub onward : Stage → List Step → Record → Stage
 onward s more r = record { steps = s .steps ++ more; image = playAll more (s .image); after = r }
 
-abbrev pub withNumbers : Record → Numbers → Record
-withNumbers r n = record { map = r .map; letters = r .letters; numbers = n }
-
 unfoldable pub keysReplaced : List ℕ → ℕ → Stage → Stage
 keysReplaced noise q s =
     onward s (replaceKeys (s .image) (s .after) noise q) (withNumbers (s .after) (withKeys (s .after .numbers) q (lowestEmpty (s .image))))
@@ -100,10 +97,7 @@ commitStages noise s =
     let t = deadErased (commitReplaced (keysReplaced noise 1 (keysReplaced noise 0 s))) in
     record { steps = t .steps; image = t .image; after = withNumbers (t .after) (nextEpoch (t .after .numbers)) }
 
-abbrev pub outcomeOf : Reply → Stage → Outcome
-outcomeOf v s = record { reply = v; steps = s .steps; after = s .after; lent = [] }
-
 unfoldable pub commitOf : List ℕ → Record → List ℕ → Outcome
 commitOf img r noise =
-    let v = verdict (commitTests img r noise) in
-    cond (isDone v) (outcomeOf v (commitStages noise (begin img (cleaned r)))) (refused v r [])
+    let s = commitStages noise (begin img (cleaned r)) in
+    decided (verdict (commitTests img r noise)) (s .steps) (s .after) [] r []

@@ -12,9 +12,9 @@ use Rattle.page.specs.Entry.{none}
 use Rattle.page.specs.Page.{cutOffPage}
 use Rattle.image.specs.Size.{sizeRight}
 use Rattle.image.specs.Step.{Step, program}
-use Rattle.store.specs.Reply.{Test, _else_, verdict, isDone}
-use Rattle.store.specs.Record.{Record, live, fits}
-use Rattle.store.specs.Outcome.{Outcome, refused}
+use Rattle.store.specs.Reply.{Test, _else_, verdict}
+use Rattle.store.specs.Record.{Record, withNumbers, live, fits}
+use Rattle.store.specs.Outcome.{Outcome, decided}
 use Rattle.store.specs.Find.{newPage, isFound, foundAt}
 use Rattle.store.specs.Format.{buffersRight}
 use Rattle.store.specs.Write.{fileRight, offsetRight, placeAt, nextSequence, released}
@@ -56,13 +56,6 @@ cutOffSteps img r file offset =
 
 unfoldable pub cutOffOf : List ℕ → Record → ℕ → ℕ → Outcome
 cutOffOf img r file offset =
-    let v = verdict (cutOffTests img r file offset) in
-    let rest = removed r file offset in
-    cond (isDone v)
-    (record {
-      reply = v;
-      steps = cutOffSteps img r file offset;
-      after = record { map = rest .map; letters = rest .letters; numbers = nextSequence (r .numbers) };
-      lent = [];
-    })
-    (refused v r [])
+    decided (verdict (cutOffTests img r file offset)) (cutOffSteps img r file offset)
+    (withNumbers (removed r file offset) (nextSequence (r .numbers))) []
+    r []

@@ -1,6 +1,6 @@
 -- Document 01, "Calls and their refusals": Format.
 use Prim.Native.Nat.{ℕ, _*_}
-use mathlib.Core.Bool.{Bool, true, false, cond, _&&_}
+use mathlib.Core.Bool.{Bool, _&&_}
 use mathlib.Core.List.{List, [], _∷_, _++_}
 use lib.ListN.{length, replicate}
 use lib.Dec.{eqb}
@@ -10,9 +10,9 @@ use Rattle.page.specs.Entry.{none, freeLetter}
 use Rattle.image.specs.Size.{sizeRight, blocks}
 use Rattle.image.specs.Step.{Step, erase}
 use Rattle.image.specs.Block.{keyBlockSteps, commitBlockSteps}
-use Rattle.store.specs.Reply.{Test, _else_, verdict, isDone}
+use Rattle.store.specs.Reply.{Test, _else_, verdict}
 use Rattle.store.specs.Record.{Record, mapSize}
-use Rattle.store.specs.Outcome.{Outcome}
+use Rattle.store.specs.Outcome.{Outcome, decided}
 use Rattle.store.specs.declared.Numbers.{Numbers}
 use Rattle.store.specs.declared.Reply.{Reply}
 use Rattle.store.specs.declared.Reply.the-variants.{ImageSize, BufferLength, NoiseLength}
@@ -53,7 +53,4 @@ formatSteps img noise =
 
 unfoldable pub formatOf : List ℕ → List ℕ → List ℕ → List ℕ → Outcome
 formatOf img map letters noise =
-    let r = verdict (formatTests img map letters noise) in
-    cond (isDone r)
-    (record { reply = r; steps = formatSteps img noise; after = formatted; lent = [] })
-    (record { reply = r; steps = []; after = record { map = map; letters = letters; numbers = noNumbers }; lent = [] })
+    decided (verdict (formatTests img map letters noise)) (formatSteps img noise) formatted [] (record { map = map; letters = letters; numbers = noNumbers }) []

@@ -21,10 +21,10 @@ use Rattle.page.specs.declared.Entry.the-variants.{At as EntryAt, Vacant, Missp
 use Rattle.image.specs.Size.{sizeRight, blocks, pages}
 use Rattle.image.specs.Look.{pageAt, blockEmpty, formAt}
 use Rattle.image.specs.Step.{Step, erase}
-use Rattle.store.specs.Reply.{Test, _else_, verdict, isDone, numberOf}
+use Rattle.store.specs.Reply.{Test, _else_, verdict, numberOf}
 use Rattle.store.specs.Kind.{pageIn, kindOf, keysEpoch, commitEpoch, coveredBy, isEventLetter, isData, isChosen}
 use Rattle.store.specs.Record.{Record, mapSize, pageOf, keyOf, isAt, placeFits, namedTimes, keysApart}
-use Rattle.store.specs.Outcome.{Outcome}
+use Rattle.store.specs.Outcome.{Outcome, decided}
 use Rattle.store.specs.Find.{isFound, foundAt}
 use Rattle.store.specs.Format.{buffersRight, noNumbers}
 use Rattle.store.specs.declared.Numbers.{Numbers}
@@ -168,15 +168,20 @@ mountTests img map letters scratch =
     ∷ (entriesFit img c && keysApart (mountMap img c) else EntryUnfit)
     ∷ []
 
--- refusals 12 to 14 fill map with 65,535, letters with d, scratch with 0
-abbrev pub blanked : Record
-blanked = record { map = replicate mapSize none; letters = replicate positions deletedLetter; numbers = noNumbers }
+-- refusals 12 to 14 fill map with 65,535, letters with d, scratch with 0; 1 and 2 change nothing; either way the numbers are all 0
+abbrev pub fills : Reply → Bool
+fills v = leb 12 (numberOf v)
+
+abbrev pub unmounted : Reply → List ℕ → List ℕ → Record
+unmounted v map letters =
+    record {
+      map = cond (fills v) (replicate mapSize none) map;
+      letters = cond (fills v) (replicate positions deletedLetter) letters;
+      numbers = noNumbers;
+    }
 
 unfoldable pub mountOf : List ℕ → List ℕ → List ℕ → List ℕ → Outcome
 mountOf img map letters scratch =
-    let r = verdict (mountTests img map letters scratch) in
-    cond (isDone r)
-    (record { reply = r; steps = mountSteps img; after = mounted img; lent = mountScratch img (foundAt (chosenCommit img)) })
-    (cond (leb 12 (numberOf r))
-    (record { reply = r; steps = []; after = blanked; lent = replicate places 0 })
-    (record { reply = r; steps = []; after = record { map = map; letters = letters; numbers = noNumbers }; lent = scratch }))
+    let v = verdict (mountTests img map letters scratch) in
+    decided v (mountSteps img) (mounted img) (mountScratch img (foundAt (chosenCommit img)))
+    (unmounted v map letters) (cond (fills v) (replicate places 0) scratch)

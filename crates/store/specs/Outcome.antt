@@ -5,6 +5,7 @@ use mathlib.Core.List.{List, []}
 use lib.ListN.{length}
 use lib.Dec.{ltb}
 use Rattle.image.specs.Step.{Step, play}
+use Rattle.store.specs.Reply.{isDone}
 use Rattle.store.specs.Record.{Record}
 use Rattle.store.specs.declared.Reply.{Reply}
 use Rattle.store.specs.declared.Reply.the-variants.{PowerCut}
@@ -16,9 +17,15 @@ pub record Outcome : Type 0 where
   pub after : Record
   pub lent : List ℕ
 
--- a refused call that changes nothing
-abbrev pub refused : Reply → Record → List ℕ → Outcome
-refused r rec buffer = record { reply = r; steps = []; after = rec; lent = buffer }
+-- the outcome of a call whose tests replied v: its steps, its record and its buffer where it is taken; no step, and record and buffer as given, where it is refused
+abbrev pub decided : Reply → List Step → Record → List ℕ → Record → List ℕ → Outcome
+decided v steps after lent before asGiven =
+    record {
+      reply = v;
+      steps = cond (isDone v) steps [];
+      after = cond (isDone v) after before;
+      lent = cond (isDone v) lent asGiven;
+    }
 
 -- what stands when the call returns
 pub record Left : Type 0 where

@@ -1,6 +1,5 @@
 -- Document 01, "Calls and their refusals": Read.
 use Prim.Native.Nat.{ℕ}
-use mathlib.Core.Bool.{cond}
 use mathlib.Core.List.{List, [], _∷_}
 use lib.ListN.{length}
 use lib.Dec.{eqb}
@@ -8,9 +7,9 @@ use Rattle.page.specs.Frame.{payloadSize}
 use Rattle.page.specs.Page.{enciphered, payloadOf}
 use Rattle.image.specs.Size.{sizeRight}
 use Rattle.image.specs.Look.{pageAt}
-use Rattle.store.specs.Reply.{Test, _else_, verdict, isDone}
+use Rattle.store.specs.Reply.{Test, _else_, verdict}
 use Rattle.store.specs.Record.{Record, pageOf, keyOf, live, fits}
-use Rattle.store.specs.Outcome.{Outcome, refused}
+use Rattle.store.specs.Outcome.{Outcome, decided}
 use Rattle.store.specs.Format.{buffersRight}
 use Rattle.store.specs.Write.{fileRight, offsetRight, placeAt, keyHeld}
 use Rattle.store.specs.declared.Reply.{Reply}
@@ -33,7 +32,4 @@ contentOf img r x = enciphered (keyHeld img (r .numbers) (keyOf (r .map) x)) (pa
 
 unfoldable pub readOf : List ℕ → Record → ℕ → ℕ → List ℕ → Outcome
 readOf img r file offset output =
-    let v = verdict (readTests img r file offset output) in
-    cond (isDone v)
-    (record { reply = v; steps = []; after = r; lent = contentOf img r (placeAt file offset) })
-    (refused v r output)
+    decided (verdict (readTests img r file offset output)) [] r (contentOf img r (placeAt file offset)) r output

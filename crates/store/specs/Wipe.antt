@@ -1,19 +1,18 @@
 -- Document 01, "Calls and their refusals": Wipe, a cut-off with purge.
 use Prim.Native.Nat.{ℕ, _+_}
-use mathlib.Core.Bool.{cond}
 use mathlib.Core.List.{List, [], _∷_}
 use lib.ListN.{length}
 use lib.Dec.{eqb, leb}
 use Rattle.page.specs.Header.{lastNumber}
 use Rattle.image.specs.Size.{sizeRight}
 use Rattle.image.specs.Look.{emptyBlocks}
-use Rattle.store.specs.Reply.{Test, _else_, verdict, isDone}
-use Rattle.store.specs.Record.{Record, fits}
-use Rattle.store.specs.Outcome.{Outcome, refused}
+use Rattle.store.specs.Reply.{Test, _else_, verdict}
+use Rattle.store.specs.Record.{Record, withNumbers, fits}
+use Rattle.store.specs.Outcome.{Outcome, decided}
 use Rattle.store.specs.Format.{noiseSize, buffersRight}
 use Rattle.store.specs.Write.{fileRight, offsetRight}
 use Rattle.store.specs.CutOff.{removed}
-use Rattle.store.specs.Commit.{Stage, begin, commitReplaced, commitStages, cleaned, withNumbers, nextEpoch, outcomeOf}
+use Rattle.store.specs.Commit.{Stage, begin, commitReplaced, commitStages, cleaned, nextEpoch}
 use Rattle.store.specs.declared.Reply.{Reply}
 use Rattle.store.specs.declared.Reply.the-variants.{ImageSize, BufferLength, NoiseLength, NoSuchFile, OffsetOutside, RecordUnfit, NoRoom, NumbersSpent}
 
@@ -38,5 +37,5 @@ removedFirst img r file offset =
 -- then a commit
 unfoldable pub wipeOf : List ℕ → Record → List ℕ → ℕ → ℕ → Outcome
 wipeOf img r noise file offset =
-    let v = verdict (wipeTests img r noise file offset) in
-    cond (isDone v) (outcomeOf v (commitStages noise (removedFirst img r file offset))) (refused v r [])
+    let s = commitStages noise (removedFirst img r file offset) in
+    decided (verdict (wipeTests img r noise file offset)) (s .steps) (s .after) [] r []

@@ -14,9 +14,9 @@ use Rattle.image.specs.Size.{sizeRight}
 use Rattle.image.specs.Look.{blockAt}
 use Rattle.image.specs.Step.{Step, program}
 use Rattle.image.specs.Block.{keyInBlock}
-use Rattle.store.specs.Reply.{Test, _else_, verdict, isDone}
+use Rattle.store.specs.Reply.{Test, _else_, verdict}
 use Rattle.store.specs.Record.{Record, pageOf, keyOf, live, fits}
-use Rattle.store.specs.Outcome.{Outcome, refused}
+use Rattle.store.specs.Outcome.{Outcome, decided}
 use Rattle.store.specs.Find.{lowestFree, newPage, isFound, foundAt}
 use Rattle.store.specs.Format.{buffersRight}
 use Rattle.store.specs.declared.Numbers.{Numbers}
@@ -79,12 +79,6 @@ writeSteps img r file offset payload =
 
 unfoldable pub writeOf : List ℕ → Record → ℕ → ℕ → List ℕ → Outcome
 writeOf img r file offset payload =
-    let v = verdict (writeTests img r file offset payload) in
-    cond (isDone v)
-    (record {
-      reply = v;
-      steps = writeSteps img r file offset payload;
-      after = placed r (placeAt file offset) (foundAt (newPage img (r .numbers))) (foundAt (lowestFree (r .letters)));
-      lent = [];
-    })
-    (refused v r [])
+    decided (verdict (writeTests img r file offset payload)) (writeSteps img r file offset payload)
+    (placed r (placeAt file offset) (foundAt (newPage img (r .numbers))) (foundAt (lowestFree (r .letters)))) []
+    r []

@@ -4,7 +4,7 @@ use native.Mathlib.Omega.{arith}
 use mathlib.Core.Path.{_≡_, refl, ap, _∙_, sym}
 use mathlib.Core.Bool.{Bool, true, false, cond}
 use mathlib.Core.List.{List, [], _∷_}
-use lib.ListN.{length}
+use lib.ListN.{length, drop}
 use Rattle.base.specs.Part.{part}
 use Rattle.base.specs.Each.{Each, same}
 use Rattle.cipher.specs.Field.{inverse}
@@ -63,12 +63,12 @@ unfolding testsOf Avoids
 size-taken call img r s e = go call (rw (reply-is call img r) at e)
   where
     go : (call : Call) → numberOf (verdict (testsOf call img r)) ≡ 1 → ⊥
-    go (mount map letters scratch) e = avoided 1 _ (omega arith) (omega arith) (rw s at e)
-    go (write file offset payload) e = avoided 1 _ (omega arith) (omega arith) (rw s at e)
-    go (read file offset output) e = avoided 1 _ (omega arith) (omega arith) (rw s at e)
-    go (cutOff file offset) e = avoided 1 _ (omega arith) (omega arith) (rw s at e)
-    go (commit noise) e = avoided 1 _ (omega arith) (omega arith) (rw s at e)
-    go (wipe noise file offset) e = avoided 1 _ (omega arith) (omega arith) (rw s at e)
+    go (mount map letters scratch) e = avoided 1 (drop 1 (mountTests img map letters scratch)) (omega arith) (omega arith) (rw s at e)
+    go (write file offset payload) e = avoided 1 (drop 1 (writeTests img r file offset payload)) (omega arith) (omega arith) (rw s at e)
+    go (read file offset output) e = avoided 1 (drop 1 (readTests img r file offset output)) (omega arith) (omega arith) (rw s at e)
+    go (cutOff file offset) e = avoided 1 (drop 1 (cutOffTests img r file offset)) (omega arith) (omega arith) (rw s at e)
+    go (commit noise) e = avoided 1 (drop 1 (commitTests img r noise)) (omega arith) (omega arith) (rw s at e)
+    go (wipe noise file offset) e = avoided 1 (drop 1 (wipeTests img r noise file offset)) (omega arith) (omega arith) (rw s at e)
 
 size-refused : (call : Call) (img : List ℕ) (r : Record) → sizeRight img ≡ false → numberOf (outcomeOf call img r .reply) ≡ 1
 unfolding testsOf
@@ -87,8 +87,8 @@ module _ (img : List ℕ) (r : Record) (payload : List ℕ) (size : sizeRight im
   last-offset : (numberOf (writeOf img r 13 7 payload .reply) ≡ 4 → ⊥) × (numberOf (writeOf img r 13 7 payload .reply) ≡ 5 → ⊥)
   unfolding testsOf countOf Avoids
   last-offset = (
-    λ e. avoided 4 _ (omega arith) (omega arith) (rw (reply-is (write 13 7 payload) img r, size, buffers) at e),
-    λ e. avoided 5 _ (omega arith) (omega arith) (rw (reply-is (write 13 7 payload) img r, size, buffers) at e),
+    λ e. avoided 4 (drop 4 (writeTests img r 13 7 payload)) (omega arith) (omega arith) (rw (reply-is (write 13 7 payload) img r, size, buffers) at e),
+    λ e. avoided 5 (drop 4 (writeTests img r 13 7 payload)) (omega arith) (omega arith) (rw (reply-is (write 13 7 payload) img r, size, buffers) at e),
   )
 
   past-offset : numberOf (writeOf img r 13 8 payload .reply) ≡ 5

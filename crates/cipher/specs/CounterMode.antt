@@ -1,0 +1,30 @@
+-- The counter mode, SP 800-38A, section 6.5, with the counters 0, 1, 2, ..
+--   counterBlock n    the counter n as a block
+--   keyStream w n     the first n output blocks
+--   counterMode w s   s enciphered, or deciphered: the same
+use mathlib.Core.List.{List, [], _++_}
+use Prim.Native.Nat.{ℕ, zero, suc, _+_, _/_}
+use lib.ListN.{length}
+use Rattle.cipher.specs.Words.{xorBytes, bigEndian}
+use Rattle.cipher.specs.Cipher.{cipher}
+
+-- the bytes of a block
+abbrev pub blockLength : ℕ
+blockLength = 16
+
+-- 16 bytes, the highest first
+abbrev pub counterBlock : ℕ → List ℕ
+counterBlock n = bigEndian blockLength n
+
+-- the encipherments of the counters below n
+unfoldable pub keyStream : List ℕ → ℕ → List ℕ
+keyStream w zero = []
+keyStream w (suc n) = keyStream w n ++ cipher w (counterBlock n)
+
+-- the blocks that n bytes take up, the last perhaps in part
+abbrev pub blocks : ℕ → ℕ
+blocks n = (n + 15) / blockLength
+
+-- each block plus its output block; of the last output block as many bytes as the data has there
+unfoldable pub counterMode : List ℕ → List ℕ → List ℕ
+counterMode w s = xorBytes s (keyStream w (blocks (length s)))

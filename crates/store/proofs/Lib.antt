@@ -1,0 +1,3 @@
+-- Laws of document 01's calls, beside the definitions of specs/.
+--   Replies    replies and their numbers; tests in order; what passing all tests of a call gives
+pub mod Replies

@@ -1,3 +1,7 @@
 -- Laws of document 01's calls, beside the definitions of specs/.
---   Replies    replies and their numbers; tests in order; what passing all tests of a call gives
+--   Replies    replies and their numbers; tests in order; a call is taken exactly where all its tests pass
+--   Outcomes   what a call leaves, taken, refused or cut; the lengths of lent buffers
+--   Counts     the number of flash steps of each call
 pub mod Replies
+pub mod Outcomes
+pub mod Counts

@@ -1,10 +1,10 @@
 -- Replies and their numbers, tests in order, and for each call: it succeeds exactly where all its tests pass.
 use Prim.Native.Nat.{ℕ}
 use mathlib.Core.Path.{_≡_, refl, sym, ap, _∙_}
-use mathlib.Core.Bool.{Bool, true, false, not, _&&_}
+use mathlib.Core.Bool.{Bool, true, false, cond, not, _&&_, _||_}
 use mathlib.Core.List.{List, [], _∷_, _++_}
 use lib.ListN.{length, getD}
-use lib.Dec.{eqb}
+use lib.Dec.{eqb, leb}
 use borrow.Author.Tests.{eqb-true, leb-true, ltb-true, not-true, eq-eqb, le-leb, lt-ltb}
 use Rattle.base.specs.Each.{Each}
 use Rattle.base.proofs.Choice.{and-true, and-intro, true-false}
@@ -152,18 +152,32 @@ verdict-failed (t ∷ ts) e = go (t .holds) refl (verdict-failed ts)
     go false h f =
         record { before = []; test = t; after = ts; inOrder = refl; passed = tt; failed = h; reply = verdict-stop t ts h }
 
--- ---- the tests of a call, by their place in the list
-abbrev refuseAll : List Test → Bool
-refuseAll [] = true
-refuseAll (t ∷ ts) = not (isDone (t .otherwise)) && refuseAll ts
+-- what holds of success and of each refusal of the tests holds of their verdict
+abbrev pub allRefusals : (Reply → Bool) → List Test → Bool
+allRefusals p [] = true
+allRefusals p (t ∷ ts) = p (t .otherwise) && allRefusals p ts
 
-refuse-each : (ts : List Test) → refuseAll ts ≡ true → Each Refuses ts
+pub verdict-among : (p : Reply → Bool) (ts : List Test) → p Done ≡ true → allRefusals p ts ≡ true → p (verdict ts) ≡ true
+verdict-among p [] d a = d
+verdict-among p (t ∷ ts) d a =
+    let b = and-true (p (t .otherwise)) (allRefusals p ts) a in
+    go (t .holds) (b .0) (verdict-among p ts d (b .1))
+  where
+    go : (h : Bool) → p (t .otherwise) ≡ true → p (verdict ts) ≡ true → p (cond h (verdict ts) (t .otherwise)) ≡ true
+    go true e f = f
+    go false e f = e
+
+-- ---- the tests of a call, by their place in the list
+abbrev isRefusal : Reply → Bool
+isRefusal v = not (isDone v)
+
+refuse-each : (ts : List Test) → allRefusals isRefusal ts ≡ true → Each Refuses ts
 refuse-each [] e = tt
 refuse-each (t ∷ ts) e =
-    let b = and-true (not (isDone (t .otherwise))) (refuseAll ts) e in
+    let b = and-true (isRefusal (t .otherwise)) (allRefusals isRefusal ts) e in
     (not-true _ (b .0), refuse-each ts (b .1))
 
-passed : (ts : List Test) → refuseAll ts ≡ true → verdict ts ≡ Done → (i : ℕ) → getD ts i (true else Done) .holds ≡ true
+passed : (ts : List Test) → allRefusals isRefusal ts ≡ true → verdict ts ≡ Done → (i : ℕ) → getD ts i (true else Done) .holds ≡ true
 passed ts q e i = each-at Passes ts i (true else Done) refl (verdict-done ts (refuse-each ts q) e)
 
 -- ---- what several calls test
@@ -203,6 +217,11 @@ module _ (img map letters scratch : List ℕ) where
   pub mount-reply : mountOf img map letters scratch .reply ≡ verdict (mountTests img map letters scratch)
   unfolding mountOf
   mount-reply = refl
+
+  -- refused, it is with 1 or 2, or with 12 to 14
+  pub mount-number : leb (numberOf (mountOf img map letters scratch .reply)) 2 || leb 12 (numberOf (mountOf img map letters scratch .reply)) ≡ true
+  mount-number =
+      rw mount-reply (verdict-among (λ v. leb (numberOf v) 2 || leb 12 (numberOf v)) (mountTests img map letters scratch) refl refl)
 
   pub mount-taken : mountOf img map letters scratch .reply ≡ Done → MountTaken img map letters scratch
   mount-taken e =

@@ -1,6 +1,7 @@
 -- Document 01, "Calls and their refusals": the number of each refusal, and tests in the order written.
 use Prim.Native.Nat.{ℕ}
-use mathlib.Core.Bool.{Bool, true, false, cond}
+use mathlib.Core.Bool.{Bool, cond}
+use lib.Dec.{eqb}
 use mathlib.Core.List.{List, [], _∷_}
 use Rattle.store.specs.declared.Reply.{Reply}
 use Rattle.store.specs.declared.Reply.the-variants.{Done, ImageSize, BufferLength, NoiseLength, NoSuchFile, OffsetOutside, PayloadLength, RecordUnfit, NothingThere, NoFreeKey, NoRoom, NumbersSpent, NoKeyBlock, NoCommit, EntryUnfit, PowerCut}
@@ -24,23 +25,9 @@ numberOf NoCommit = 13
 numberOf EntryUnfit = 14
 numberOf PowerCut = 255
 
+-- success
 abbrev pub isDone : Reply → Bool
-isDone Done = true
-isDone ImageSize = false
-isDone BufferLength = false
-isDone NoiseLength = false
-isDone NoSuchFile = false
-isDone OffsetOutside = false
-isDone PayloadLength = false
-isDone RecordUnfit = false
-isDone NothingThere = false
-isDone NoFreeKey = false
-isDone NoRoom = false
-isDone NumbersSpent = false
-isDone NoKeyBlock = false
-isDone NoCommit = false
-isDone EntryUnfit = false
-isDone PowerCut = false
+isDone r = eqb (numberOf r) 0
 
 -- a test: what must hold, and the refusal where it does not
 pub record Test : Type 0 where

@@ -6,7 +6,8 @@ use lib.ListN.{length}
 use lib.Dec.{ltb}
 use Rattle.image.specs.Step.{Step, play}
 use Rattle.store.specs.Reply.{isDone}
-use Rattle.store.specs.Record.{Record}
+use Rattle.store.specs.Record.{Record, recordOf}
+use Rattle.store.specs.declared.Answer.{Answer}
 use Rattle.store.specs.declared.Reply.{Reply}
 use Rattle.store.specs.declared.Reply.the-variants.{PowerCut}
 
@@ -43,3 +44,8 @@ left n k o img =
       after = o .after;
       lent = o .lent;
     }
+
+-- what stands, in the terms of the code: an answer, and what is in every lent buffer
+abbrev pub standing : Answer → List ℕ → List ℕ → List ℕ → List ℕ → Left
+standing a img map letters lent =
+    record { reply = a .reply; image = img; after = recordOf map letters (a .numbers); lent = lent }

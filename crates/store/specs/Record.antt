@@ -24,6 +24,9 @@ pub record Record : Type 0 where
   pub letters : List ℕ
   pub numbers : Numbers
 
+abbrev pub recordOf : List ℕ → List ℕ → Numbers → Record
+recordOf map letters n = record { map = map; letters = letters; numbers = n }
+
 abbrev pub withNumbers : Record → Numbers → Record
 withNumbers r n = record { map = r .map; letters = r .letters; numbers = n }
 

@@ -44,3 +44,9 @@ pub enum Reply {
     // The power failed before the call's last step was whole.
     PowerCut,
 }
+
+// A call's answer: its reply, and the numbers of the record afterwards.
+pub struct Answer {
+    pub reply: Reply,
+    pub numbers: Numbers,
+}

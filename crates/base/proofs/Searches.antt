@@ -172,6 +172,13 @@ any-fails p n i j e h k = go (p j) refl
     go true q = absurd (true-false (any-intro p n i j h k q) e)
     go false q = refl
 
+-- none pass
+pub any-all-fail : (p : ℕ → Bool) (n i : ℕ) → ((j : ℕ) → i ≤ j → j < i + n → p j ≡ false) → anyFrom p n i ≡ false
+unfolding anyFrom
+any-all-fail p zero i h = refl
+any-all-fail p (suc n) i h =
+    rw (h i (omega arith) (omega arith)) (any-all-fail p n (suc i) (λ j a b. h j (omega arith) (omega arith)))
+
 pub any-agree : (p q : ℕ → Bool) (n i : ℕ) → ((j : ℕ) → i ≤ j → j < i + n → p j ≡ q j) → anyFrom p n i ≡ anyFrom q n i
 unfolding anyFrom
 any-agree p q zero i h = refl

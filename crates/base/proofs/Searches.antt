@@ -13,6 +13,11 @@ use mathlib.Core.Bool.{Bool, true, false, cond, _&&_, _||_}
 use Rattle.base.proofs.Choice.{and-true, and-intro, or-left, true-false}
 use Rattle.base.specs.Search.{firstFrom, countFrom, allFrom, anyFrom, whichFrom, highestFrom}
 
+-- what holds of each number below n, and of n, holds of each below n + 1
+pub below-suc : (P : ℕ → Type 0) (n : ℕ) → ((i : ℕ) → i < n → P i) → P n → (i : ℕ) → i < suc n → P i
+below-suc P n f p i h =
+    elim (decLt i n) [ yes k ↦ f i k | no k ↦ let q : i ≡ n = omega arith in rw q p ]
+
 -- ---- a loop's steps, as the code has them: i goes up to n
 module _ (p : ℕ → Bool) (n i : ℕ) (h : i < n) where
   pub first-here : p i ≡ true → firstFrom p (n - i) i ≡ i

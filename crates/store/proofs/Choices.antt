@@ -9,6 +9,7 @@ use mathlib.Core.List.{List}
 use lib.Dec.{eqb, ltb}
 use borrow.Author.Tests.{ltb-true, ltb-false, eqb-true, eq-eqb}
 use Rattle.base.specs.Fold.{foldFrom}
+use Rattle.base.proofs.Searches.{below-suc}
 use Rattle.base.proofs.Folds.{fold-up, fold-last}
 use Rattle.image.specs.Size.{blocks}
 use Rattle.store.specs.Kind.{kindOf, keysEpoch, commitEpoch}
@@ -36,11 +37,6 @@ Answers rank n Nothing = (a : ℕ) → a < n → rank a ≡ 0
 abbrev pub better : (ℕ → ℕ) → ℕ → Found → Found
 better rank b best = cond (ltb (rankOf rank best) (rank b)) (At b) best
 
--- what holds below n and of n holds below n + 1
-one-more : (P : ℕ → Type 0) (n : ℕ) → ((a : ℕ) → a < n → P a) → P n → (a : ℕ) → a < suc n → P a
-one-more P n f p a h =
-    elim (decLt a n) [ yes k ↦ f a k | no k ↦ let q : a ≡ n = omega arith in rw q p ]
-
 module _ (rank : ℕ → ℕ) where
   answers-next : (n : ℕ) (best : Found) → Answers rank n best → Answers rank (suc n) (better rank n best)
   answers-next n (At b) f = go (ltb (rank b) (rank n)) refl
@@ -51,14 +47,14 @@ module _ (rank : ℕ → ℕ) where
           record {
             below = omega arith;
             ranked = omega arith;
-            highest = one-more (λ a. rank a ≤ rank n) n (λ a h. omega (arith, f .highest a h)) (omega arith);
+            highest = below-suc (λ a. rank a ≤ rank n) n (λ a h. omega (arith, f .highest a h)) (omega arith);
             lowest = λ a h. omega (arith, f .highest a h);
           }
       go false e =
           record {
             below = omega (arith, f .below);
             ranked = f .ranked;
-            highest = one-more (λ a. rank a ≤ rank b) n (f .highest) (ltb-false _ _ e);
+            highest = below-suc (λ a. rank a ≤ rank b) n (f .highest) (ltb-false _ _ e);
             lowest = f .lowest;
           }
   answers-next n Nothing f = go (ltb 0 (rank n)) refl
@@ -69,10 +65,10 @@ module _ (rank : ℕ → ℕ) where
           record {
             below = omega arith;
             ranked = l;
-            highest = one-more (λ a. rank a ≤ rank n) n (λ a h. omega (arith, f a h)) (omega arith);
+            highest = below-suc (λ a. rank a ≤ rank n) n (λ a h. omega (arith, f a h)) (omega arith);
             lowest = λ a h. omega (arith, f a h);
           }
-      go false e = one-more (λ a. rank a ≡ 0) n f (omega (arith, ltb-false 0 (rank n) e))
+      go false e = below-suc (λ a. rank a ≡ 0) n f (omega (arith, ltb-false 0 (rank n) e))
 
   pub foremost-answers : (n : ℕ) → Answers rank n (foremost rank n)
   unfolding foremost

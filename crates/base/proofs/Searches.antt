@@ -131,6 +131,17 @@ first-all p zero i h = omega arith
 first-all p (suc n) i h =
     rw (h i (omega arith) (omega arith)) (first-all p n (suc i) (λ j a b. h j (omega arith) (omega arith)) ∙ omega arith)
 
+-- where one is counted the search ends before the end
+pub count-first : (p : ℕ → Bool) (n i : ℕ) → 1 ≤ countFrom p n i → firstFrom p n i < i + n
+unfolding countFrom firstFrom
+count-first p zero i h = absurd (omega arith)
+count-first p (suc n) i h = go (p i) h (count-first p n (suc i))
+  where
+    go : (b : Bool) → 1 ≤ cond b 1 0 + countFrom p n (suc i) → (1 ≤ countFrom p n (suc i) → firstFrom p n (suc i) < suc i + n)
+        → cond b i (firstFrom p n (suc i)) < i + suc n
+    go true h r = omega arith
+    go false h r = let f = r (omega arith) in omega arith
+
 -- ---- a test of any
 module _ (p : ℕ → Bool) (n i : ℕ) (h : i < n) where
   pub any-here : p i ≡ true → anyFrom p (n - i) i ≡ true

@@ -263,6 +263,11 @@ module _ (img : List ℕ) (b : ℕ) where
       let d = and-true (leb 1 e) (leb e lastNumber) (c .0) in
       (leb-true _ _ (d .0), leb-true _ _ (d .1), leb-true _ _ (a .1))
 
+-- a block whose first page is empty is no whole block
+pub kind-unbegun : (img : List ℕ) (b : ℕ) → pageEmpty img (pageIn b 0) ≡ true → kindOf img b ≡ Other
+unfolding kindOf
+kind-unbegun img b e = rw (empty-form img (pageIn b 0) e)
+
 -- ---- data blocks
 -- a whole or torn N or D page stands in block b
 abbrev pub hasEvents : List ℕ → ℕ → Bool
@@ -330,8 +335,7 @@ unfolding pageEmpty isEmpty allAre
 page-outside-empty img g h = rw (page-outside img g h)
 
 pub kind-outside : (img : List ℕ) (b : ℕ) → length img ≤ b * blockSize → kindOf img b ≡ Other
-unfolding kindOf
-kind-outside img b h = rw (empty-form img (pageIn b 0) (page-outside-empty img (pageIn b 0) (omega arith)))
+kind-outside img b h = kind-unbegun img b (page-outside-empty img (pageIn b 0) (omega arith))
 
 pub data-outside : (img : List ℕ) (r : Numbers) (b : ℕ) → length img ≤ b * blockSize → isData img r b ≡ false
 unfolding isData

@@ -2,6 +2,8 @@
 --   BlockKinds  what a whole key block and a whole commit block are, page by page; data blocks
 --   Choices     the blocks that mount chooses: highest epoch, on a tie the lower block
 --   Decisions   what decides a place at mount: the event of highest sequence, ties to the higher page, else the commit's entry
+--   Finds       the lowest free key, and the page that a write takes
 pub mod BlockKinds
 pub mod Choices
 pub mod Decisions
+pub mod Finds

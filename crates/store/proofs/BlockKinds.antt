@@ -1,5 +1,5 @@
 -- Whole key blocks and whole commit blocks, page by page; a data block is none of them; a block's kind goes by its bytes.
-use Prim.Native.Nat.{ℕ, _-_, _*_, _/_, _%_, _<_, _≤_}
+use Prim.Native.Nat.{ℕ, _+_, _-_, _*_, _/_, _%_, _<_, _≤_}
 use native.Mathlib.Omega.{arith}
 use mathlib.Core.Path.{_≡_, refl, sym, ap, _∙_}
 use mathlib.Core.Logic.{_⊎_, inl, inr, ⊎-elim}
@@ -7,7 +7,7 @@ use mathlib.Core.Bool.{Bool, true, false, cond, not, _&&_, _||_, and-true as and
 use native.Mathlib.Decide.{decLt}
 use mathlib.Core.List.{List, [], _∷_}
 use lib.Dec.{eqb, leb}
-use lib.ListN.{length, getD, drop-of-length-le}
+use lib.ListN.{length, getD, drop-of-length-le, length-take, length-drop}
 use lib.Seq.{take-nil}
 use borrow.Author.Tests.{eqb-true, leb-true, eq-eqb, ne-eqb}
 use Rattle.base.specs.Part.{part}
@@ -15,9 +15,10 @@ use Rattle.base.specs.Each.{same, allAre}
 use Rattle.base.specs.Search.{allFrom, anyFrom}
 use Rattle.base.proofs.Choice.{cond-ap, cond-same, and-true, and-intro, true-false}
 use Rattle.base.proofs.Searches.{all-holds, all-intro, all-agree, any-agree, any-all-fail}
-use Rattle.page.specs.Frame.{pageSize, headerSize, erased, colonSpace}
+use Rattle.base.proofs.Eachs.{same-true}
+use Rattle.page.specs.Frame.{pageSize, headerSize, closingAt, closingSize, closing, erased, colonSpace}
 use Rattle.page.specs.Column.{numberIn}
-use Rattle.page.specs.Header.{nodeLetter, cutOffLetter, keysLetter, commitLetter, lastNumber, lastKeyBlock, keysFrame, commitFrame, inRange, andThen, headerOf}
+use Rattle.page.specs.Header.{nodeLetter, cutOffLetter, keysLetter, commitLetter, lastNumber, lastKeyBlock, lastKeyPage, keysFrame, commitFrame, inRange, andThen, headerOf}
 use Rattle.page.specs.Form.{isEmpty, closed, formBy, formOf}
 use Rattle.page.specs.Entry.{parts, validPayload}
 use Rattle.page.specs.Page.{payloadOf}
@@ -28,7 +29,7 @@ use Rattle.page.specs.declared.Header.{Header}
 use Rattle.page.specs.declared.Header.the-variants.{Is, Invalid}
 use Rattle.page.specs.declared.Form.{Form}
 use Rattle.page.specs.declared.Form.the-variants.{Empty, Whole, Torn, Spoilt}
-use Rattle.image.specs.Size.{blockSize, pagesInBlock}
+use Rattle.image.specs.Size.{blockSize, pagesInBlock, blocks}
 use Rattle.image.specs.Look.{pageAt, formAt, pageEmpty}
 use Rattle.store.specs.Kind.{pageIn, sameFrame, wholeWith, keyBlockWhole, commitBlockWhole, kindOfFirst, kindOf, headed, isChosen, isData}
 use Rattle.store.specs.Find.{isOpen}
@@ -79,6 +80,26 @@ whole-in-range img g f e = form-in-range img g f (ap headerIn e)
 
 pub torn-in-range : (img : List ℕ) (g : ℕ) (f : Frame) → formAt img g ≡ Torn f → inRange f ≡ true
 torn-in-range img g f e = form-in-range img g f (ap headerIn e)
+
+-- and a whole page stands in the image
+form-closed : (h : Header) (page : List ℕ) (f : Frame) → formBy h page ≡ Whole f → closed page ≡ true
+form-closed (Is h) page f e = go (closed page) e
+  where
+    go : (b : Bool) → cond b (Whole h) (Torn h) ≡ Whole f → b ≡ true
+    go true e = refl
+    go false e = absurd (let z : _≡_ {A = ℕ} 0 1 = cc in omega arith)
+form-closed Invalid page f e =
+    let h = header-in Invalid page in
+    let i = ap headerIn e in
+    absurd (let z : _≡_ {A = ℕ} 0 1 = cc in omega arith)
+
+pub whole-inside : (img : List ℕ) (g : ℕ) (f : Frame) → formAt img g ≡ Whole f → g * pageSize + pageSize ≤ length img
+unfolding formAt formOf closed pageAt part
+whole-inside img g f e =
+    let page = pageAt img g in
+    let c : part page closingAt closingSize ≡ closing = same-true (part page closingAt closingSize) closing (form-closed (headerOf (part page 0 headerSize)) page f e) in
+    let l : length (part page closingAt closingSize) ≡ closingSize = ap length c in
+    omega (arith, simp (length-take, length-drop) at l)
 
 -- an empty page has no header: its first byte is no kind letter
 no-kind : (f : Frame) → (f .kind ≡ nodeLetter → ⊥) → (f .kind ≡ cutOffLetter → ⊥) → (f .kind ≡ keysLetter → ⊥) → (f .kind ≡ commitLetter → ⊥) → inRange f ≡ false
@@ -262,6 +283,14 @@ module _ (img : List ℕ) (b : ℕ) where
       let c = and-true (leb 1 e && leb e lastNumber) true (and-true _ true (and-true _ true (a .0) .0) .0) in
       let d = and-true (leb 1 e) (leb e lastNumber) (c .0) in
       (leb-true _ _ (d .0), leb-true _ _ (d .1), leb-true _ _ (a .1))
+
+  -- the block stands in the image
+  pub keys-inside : (q e : ℕ) → kindOf img b ≡ Keys q e → b < blocks img
+  keys-inside q e k =
+      omega (arith, whole-inside img (pageIn b lastKeyPage) (keysFrame e q lastKeyPage) (kind-keys q e k .pages lastKeyPage (omega arith)))
+
+  pub commit-inside : (e s : ℕ) → length img % blockSize ≡ 0 → kindOf img b ≡ Commit e s → b < blocks img
+  commit-inside e s full k = omega (arith, whole-inside img (pageIn b 0) (commitFrame e 0 s) (kind-commit e s k .pages 0 (omega arith)))
 
 -- a block whose first page is empty is no whole block
 pub kind-unbegun : (img : List ℕ) (b : ℕ) → pageEmpty img (pageIn b 0) ≡ true → kindOf img b ≡ Other

@@ -158,12 +158,12 @@ pub chosen-agree : (epoch : Kind → ℕ) (img img' : List ℕ) → blocks img �
 chosen-agree epoch img img' n same = rw (← n) (foremost-agree _ _ (blocks img) (λ b h. ap epoch (same b h)))
 
 -- ---- what an epoch above 0 says of a kind
-commit-epoch : (k : Kind) → 0 < commitEpoch k → (e : ℕ) × (s : ℕ) × (k ≡ Commit e s)
+pub commit-epoch : (k : Kind) → 0 < commitEpoch k → (e : ℕ) × (s : ℕ) × (k ≡ Commit e s)
 commit-epoch (Keys q e) h = absurd (omega arith)
 commit-epoch (Commit e s) h = (e, s, refl)
 commit-epoch Other h = absurd (omega arith)
 
-keys-epoch : (q : ℕ) (k : Kind) → 0 < keysEpoch q k → (e : ℕ) × (k ≡ Keys q e)
+pub keys-epoch : (q : ℕ) (k : Kind) → 0 < keysEpoch q k → (e : ℕ) × (k ≡ Keys q e)
 keys-epoch q (Keys r e) h = go (eqb r q) refl h
   where
     go : (t : Bool) → eqb r q ≡ t → 0 < cond t e 0 → (e' : ℕ) × (Keys r e ≡ Keys q e')
@@ -187,7 +187,7 @@ of-keys-epoch P q (Keys r e) z f = go (eqb r q) refl
 of-keys-epoch P q (Commit e s) z f = z
 of-keys-epoch P q Other z f = z
 
-keys-own-epoch : (q e : ℕ) → keysEpoch q (Keys q e) ≡ e
+pub keys-own-epoch : (q e : ℕ) → keysEpoch q (Keys q e) ≡ e
 keys-own-epoch q e = rw (eq-eqb q q refl)
 
 -- ---- the chosen commit block

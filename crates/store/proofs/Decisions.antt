@@ -15,18 +15,20 @@ use Rattle.base.specs.Fold.{listFrom}
 use Rattle.base.proofs.Choice.{and-true, cond-ap, cond-same, true-false}
 use Rattle.base.proofs.Searches.{below-suc, all-agree}
 use Rattle.base.proofs.Folds.{fold-agree, fold-up, length-listFrom, listFrom-at, listFrom-agree}
-use Rattle.page.specs.Plan.{places}
-use Rattle.page.specs.Header.{cutOffLetter}
+use Rattle.page.specs.Plan.{filePlan, places, placeOf}
+use Rattle.page.specs.Header.{nodeLetter, cutOffLetter}
 use Rattle.page.specs.Entry.{none}
 use Rattle.page.specs.declared.Frame.{Frame}
 use Rattle.page.specs.declared.Form.{Form}
 use Rattle.page.specs.declared.Form.the-variants.{Empty, Whole, Torn, Spoilt}
 use Rattle.page.specs.declared.Entry.{Entry}
-use Rattle.page.specs.declared.Entry.the-variants.{At, Vacant, Misspelt}
+use Rattle.page.specs.declared.Entry.the-variants.{At, Vacant as NoEntry, Misspelt}
 use Rattle.image.specs.Size.{pages}
 use Rattle.image.specs.Look.{formAt}
-use Rattle.store.specs.Record.{mapSize, pageOf, keyOf, placeFits}
+use Rattle.page.specs.declared.Place.the-variants.{At as PlaceAt}
+use Rattle.store.specs.Record.{isAt, mapSize, pageOf, keyOf, placeFits}
 use Rattle.store.specs.Mount.{coveredIn, entryIn, Decision, byEntry, sets, cuts, decideBy, decision, mountMap, mountScratch, entriesFit}
+use Rattle.store.proofs.Fits.{Vacant, Named, is-at, vacant-fits, named-fits}
 
 -- ---- events
 -- page g is an event of place x above the sequence s: a whole page with the header f, which sets or removes x
@@ -65,7 +67,7 @@ Decided img s x entry n d = ByEntry img s x n entry d ⊎ ByEvent img s x n d
 
 entry-sequence : (entry : Entry) → byEntry entry .sequence ≡ 0
 entry-sequence (At page key) = refl
-entry-sequence Vacant = refl
+entry-sequence NoEntry = refl
 entry-sequence Misspelt = refl
 
 gives-sequence : (x g : ℕ) (f : Frame) → gives x g f .sequence ≡ f .number
@@ -270,30 +272,43 @@ module _ (img img' : List ℕ) (c c' : ℕ) (same : (x : ℕ) → x < places →
   mount-scratch-agree = listFrom-agree _ _ places 0 (λ x h k. ap sequenceOf (same x (omega arith)))
 
 -- ---- a place that an event decided fits by itself
-set-fits : (img map : List ℕ) (x g : ℕ) (f : Frame) → formAt img g ≡ Whole f → sets x f ≡ true → pageOf map x ≡ g → keyOf map x ≡ f .key → placeFits img map x ≡ true
-unfolding placeFits sets
-set-fits img map x g f w t p k =
-    rw (p, k, w, t, eq-eqb (f .key) (f .key) refl) (cond-same (eqb g none && eqb (f .key) none) true)
-
-vacant-fits : (img map : List ℕ) (x : ℕ) → pageOf map x ≡ none → keyOf map x ≡ none → placeFits img map x ≡ true
-unfolding placeFits
-vacant-fits img map x p k = rw (p, k)
+sets-is : (x : ℕ) (f : Frame) → sets x f ≡ true → (f .kind ≡ nodeLetter) × (placeOf filePlan (f .unit) (f .part) ≡ PlaceAt x)
+unfolding sets
+sets-is x f e =
+    let a = and-true (eqb (f .kind) nodeLetter) (isAt x (placeOf filePlan (f .unit) (f .part))) e in
+    (eqb-true _ _ (a .0), is-at x _ (a .1))
 
 module _ (img : List ℕ) (c : ℕ) where
+  -- N names its page, D leaves none
+  module _ (x : ℕ) (below : x < places) (e : ByEvent img (coveredIn img c) x (pages img) (decision img c x)) where
+    pub set-named : sets x (e .header) ≡ true → Named img (mountMap img c) x
+    set-named t =
+        let q = set-gives img (coveredIn img c) x (pages img) (decision img c x) e t in
+        let k = sets-is x (e .header) t in
+        let page : pageOf (mountMap img c) x ≡ e .page = mount-page img c x below ∙ q .0 in
+        record {
+          header = e .header;
+          whole = rw page (e .event .whole);
+          node = k .0;
+          place = k .1;
+          key = sym (mount-key img c x below ∙ q .1);
+        }
+
+    pub cut-vacant : sets x (e .header) ≡ false → Vacant (mountMap img c) x
+    cut-vacant t =
+        let q = cut-gives img (coveredIn img c) x (pages img) (decision img c x) e t in
+        record { no-page = mount-page img c x below ∙ q .0; no-key = mount-key img c x below ∙ q .1 }
+
   pub event-fits : (x : ℕ) → x < places → (decision img c x .sequence ≡ 0 → ⊥) → placeFits img (mountMap img c) x ≡ true
   event-fits x h decided = go (deciding-event img c x)
     where
+      by-kind : (e : ByEvent img (coveredIn img c) x (pages img) (decision img c x)) (b : Bool) → sets x (e .header) ≡ b → placeFits img (mountMap img c) x ≡ true
+      by-kind e true t = named-fits img (mountMap img c) x (set-named x h e t)
+      by-kind e false t = vacant-fits img (mountMap img c) x (cut-vacant x h e t)
+
       go : Decided img (coveredIn img c) x (entryIn img c x) (pages img) (decision img c x) → placeFits img (mountMap img c) x ≡ true
       go (inl e) = absurd (decided (ap sequenceOf (e .given) ∙ entry-sequence (entryIn img c x)))
-      go (inr e) = by-kind (sets x (e .header)) refl
-        where
-          by-kind : (b : Bool) → sets x (e .header) ≡ b → placeFits img (mountMap img c) x ≡ true
-          by-kind true t =
-              let q = set-gives img (coveredIn img c) x (pages img) (decision img c x) e t in
-              set-fits img (mountMap img c) x (e .page) (e .header) (e .event .whole) t (mount-page img c x h ∙ q .0) (mount-key img c x h ∙ q .1)
-          by-kind false t =
-              let q = cut-gives img (coveredIn img c) x (pages img) (decision img c x) e t in
-              vacant-fits img (mountMap img c) x (mount-page img c x h ∙ q .0) (mount-key img c x h ∙ q .1)
+      go (inr e) = by-kind e (sets x (e .header)) refl
 
   -- so the live entries fit exactly where all places do
   pub entries-fit : entriesFit img c ≡ allFrom (placeFits img (mountMap img c)) places 0

@@ -16,7 +16,7 @@ use Rattle.base.proofs.Choice.{and-true, cond-ap, cond-same, true-false}
 use Rattle.base.proofs.Searches.{below-suc, all-agree}
 use Rattle.base.proofs.Folds.{fold-agree, fold-up, length-listFrom, listFrom-at, listFrom-agree}
 use Rattle.page.specs.Plan.{filePlan, places, placeOf}
-use Rattle.page.specs.Header.{nodeLetter, cutOffLetter}
+use Rattle.page.specs.Header.{nodeLetter, cutOffLetter, lastNumber}
 use Rattle.page.specs.Entry.{none}
 use Rattle.page.specs.declared.Frame.{Frame}
 use Rattle.page.specs.declared.Form.{Form}

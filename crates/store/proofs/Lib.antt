@@ -4,8 +4,10 @@
 --   Finds       the lowest free key, and the page that a write takes
 --   Fits        what it says that a record fits
 --   Decisions   what decides a place at mount: the event of highest sequence, ties to the higher page, else the commit's entry
+--   Mounts      the record that mount makes fits
 pub mod BlockKinds
 pub mod Choices
 pub mod Finds
 pub mod Fits
 pub mod Decisions
+pub mod Mounts

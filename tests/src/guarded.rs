@@ -1,7 +1,7 @@
 //! Buffers that show a write outside the part that was lent.
 
-/// The guard bytes after the lent part.
-const AFTER: usize = 64;
+/// The least number of guard bytes on each side.
+const GUARDS: usize = 64;
 
 /// A buffer whose middle is lent to the routine under test. The bytes on both sides are guards.
 pub struct Guarded {
@@ -11,16 +11,13 @@ pub struct Guarded {
 }
 
 impl Guarded {
-    /// A buffer that lends `content`, with `before` guard bytes ahead of it.
-    pub fn new(before: usize, content: &[u8]) -> Self {
-        let end = before + content.len();
-        let mut bytes: Vec<u8> = (0..end + AFTER).map(guard).collect();
-        bytes[before..end].copy_from_slice(content);
-        Guarded {
-            bytes,
-            start: before,
-            end,
-        }
+    /// A buffer that lends `content`. A `shift` moves its start, so that any alignment can be tried.
+    pub fn new(shift: usize, content: &[u8]) -> Self {
+        let start = GUARDS + shift;
+        let end = start + content.len();
+        let mut bytes: Vec<u8> = (0..end + GUARDS).map(guard).collect();
+        bytes[start..end].copy_from_slice(content);
+        Guarded { bytes, start, end }
     }
 
     /// The lent part.
@@ -65,7 +62,7 @@ mod tests {
     #[should_panic(expected = "a write at 2 from the start of a lent part of 2 bytes")]
     fn a_write_after_is_found() {
         let mut buffer = Guarded::new(3, &[1, 2]);
-        buffer.bytes[5] ^= 1;
+        buffer.bytes[buffer.end] ^= 1;
         buffer.content();
     }
 
@@ -73,7 +70,7 @@ mod tests {
     #[should_panic(expected = "a write at -1 from the start of a lent part of 2 bytes")]
     fn a_write_before_is_found() {
         let mut buffer = Guarded::new(3, &[1, 2]);
-        buffer.bytes[2] ^= 1;
+        buffer.bytes[buffer.start - 1] ^= 1;
         buffer.content();
     }
 }

@@ -19,20 +19,12 @@ struct Implementation {
 const LIBRARY: Implementation = Implementation {
     name: "the library",
     expand: |key| {
-        let mut round_keys = [0; ROUND_KEYS];
-        assert_eq!(cipher::expand(key, &mut round_keys), DONE);
-        round_keys
+        done(cipher::expand, key, &[0; ROUND_KEYS])
+            .try_into()
+            .unwrap()
     },
-    encrypt: |key, block| {
-        let mut block = *block;
-        assert_eq!(cipher::encrypt(key, &mut block), DONE);
-        block
-    },
-    stream: |key, data| {
-        let mut data = data.to_vec();
-        assert_eq!(cipher::stream(key, &mut data), DONE);
-        data
-    },
+    encrypt: |key, block| done(cipher::encrypt, key, block).try_into().unwrap(),
+    stream: |key, data| done(cipher::stream, key, data),
 };
 
 const SECOND: Implementation = Implementation {
@@ -47,6 +39,16 @@ const SECOND: Implementation = Implementation {
 };
 
 const BOTH: [Implementation; 2] = [LIBRARY, SECOND];
+
+/// A function of the library: it takes a key and a buffer, changes the buffer and replies.
+type Call = fn(&[u8], &mut [u8]) -> u32;
+
+/// What a call makes of `content`, in a buffer between guard bytes. It must not refuse.
+fn done(call: Call, key: &[u8], content: &[u8]) -> Vec<u8> {
+    let mut buffer = Guarded::new(0, content);
+    assert_eq!(call(key, buffer.lent()), DONE);
+    buffer.content().to_vec()
+}
 
 // ---- Vectors of the public documents, for both implementations
 
@@ -284,30 +286,25 @@ fn stream_twice_gives_the_data_back() {
 
 // ---- Lengths, and the bytes around what is lent
 
-/// Calls `call` with a key and a buffer of these lengths. Both are lent from the middle of larger
-/// buffers, whose other bytes must stay. Gives the reply, and the buffer before and after.
-fn lend(
-    call: fn(&[u8], &mut [u8]) -> u32,
-    key_length: usize,
-    length: usize,
-    before: usize,
-) -> (u32, Vec<u8>, Vec<u8>) {
-    let mut rng = Rng::new((key_length * 1_000 + length) as u64);
+/// Calls with a key and a buffer of these lengths, each between guard bytes and at this shift. Gives
+/// the reply, and the buffer before and after.
+fn lend(call: Call, key_length: usize, length: usize, shift: usize) -> (u32, Vec<u8>, Vec<u8>) {
+    let mut rng = Rng::new((key_length * 10_000 + length) as u64);
     let (key, old) = (rng.bytes(key_length), rng.bytes(length));
-    let mut lent_key = Guarded::new(before, &key);
-    let mut lent = Guarded::new(before, &old);
-    let reply = call(lent_key.lent(), lent.lent());
+    let mut lent_key = Guarded::new(shift, &key);
+    let mut buffer = Guarded::new(shift, &old);
+    let reply = call(lent_key.lent(), buffer.lent());
     assert_eq!(
         lent_key.content(),
         key,
         "the key of {key_length} bytes was changed"
     );
-    (reply, old, lent.content().to_vec())
+    (reply, old, buffer.content().to_vec())
 }
 
-/// Holds a call to reply 1 and an unchanged buffer at each pair of lengths that is not right.
+/// Holds a call to a refusal and an unchanged buffer at each pair of lengths but the right ones.
 fn check_refusals(
-    call: fn(&[u8], &mut [u8]) -> u32,
+    call: Call,
     lengths: impl Iterator<Item = usize> + Clone,
     right: impl Fn(usize) -> bool,
 ) {
@@ -316,7 +313,7 @@ fn check_refusals(
             if key_length == KEY && right(length) {
                 continue;
             }
-            let (reply, old, new) = lend(call, key_length, length, 16);
+            let (reply, old, new) = lend(call, key_length, length, 0);
             assert_eq!(
                 reply, WRONG_LENGTH,
                 "key of {key_length} bytes, buffer of {length}"
@@ -343,13 +340,14 @@ fn stream_refuses_other_key_lengths() {
     check_refusals(cipher::stream, 0..=300, |_| true);
 }
 
+/// Buffers begin at every shift up to 15.
 #[test]
 fn bytes_around_stay() {
-    for before in 0..=16 {
-        assert_eq!(lend(cipher::expand, KEY, ROUND_KEYS, before).0, DONE);
-        assert_eq!(lend(cipher::encrypt, KEY, BLOCK, before).0, DONE);
+    for shift in 0..16 {
+        assert_eq!(lend(cipher::expand, KEY, ROUND_KEYS, shift).0, DONE);
+        assert_eq!(lend(cipher::encrypt, KEY, BLOCK, shift).0, DONE);
         for length in 0..=300 {
-            assert_eq!(lend(cipher::stream, KEY, length, before).0, DONE);
+            assert_eq!(lend(cipher::stream, KEY, length, shift).0, DONE);
         }
     }
 }

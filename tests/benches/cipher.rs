@@ -61,18 +61,8 @@ const SOURCES: [Source; 3] = [
         package: "libtomcrypt1",
         peers: libtomcrypt,
     },
-    Source {
-        name: "nettle",
-        file: c"libnettle.so.8",
-        package: "libnettle8",
-        peers: nettle,
-    },
-    Source {
-        name: "BearSSL",
-        file: c"libbearssl.so.0",
-        package: "libbearssl0",
-        peers: bearssl,
-    },
+    Source { name: "nettle", file: c"libnettle.so.8", package: "libnettle8", peers: nettle },
+    Source { name: "BearSSL", file: c"libbearssl.so.0", package: "libbearssl0", peers: bearssl },
 ];
 
 /// Room for any library's expanded key or counter mode state, of which the largest takes 4.4 kB.
@@ -120,11 +110,7 @@ fn compare_results(peers: &[Peer]) {
             let (mut got, mut want) = (*page, *page);
             (peer.page)(key, &mut got);
             aes::stream(key, &mut want);
-            assert_eq!(
-                got, want,
-                "{}: another page than the second implementation's",
-                peer.name
-            );
+            assert_eq!(got, want, "{}: another page than the second implementation's", peer.name);
         }
     }
     println!("{} implementations give the same pages", peers.len());
@@ -152,10 +138,7 @@ fn compare_times(peers: &[Peer]) {
     let expansion = timing::run(expansions.collect(), ROUNDS);
     let encipherments = peers.iter().map(|peer| encipherments(peer, &keys, &pages));
     let page = timing::run(encipherments.collect(), ROUNDS);
-    println!(
-        "\n{:<36}{:>15}{:>15}",
-        "times, ours = 1.00", "key expansion", "whole page"
-    );
+    println!("\n{:<36}{:>15}{:>15}", "times, ours = 1.00", "key expansion", "whole page");
     for (at, peer) in peers.iter().enumerate() {
         let (expansion, page) = (expansion.ratio(at, 0), page.ratio(at, 0));
         println!("{:<36}{expansion:>15.2}{page:>15.2}", peer.name);
@@ -300,25 +283,9 @@ fn bearssl(library: SharedLibrary) -> Vec<Peer> {
         }
     };
     vec![
-        peer(
-            BEARSSL_SMALL,
-            c"br_aes_small_ctr_init",
-            c"br_aes_small_ctr_run",
-        ),
-        peer(
-            "BearSSL, word tables",
-            c"br_aes_big_ctr_init",
-            c"br_aes_big_ctr_run",
-        ),
-        peer(
-            "BearSSL, constant time, 32 bits",
-            c"br_aes_ct_ctr_init",
-            c"br_aes_ct_ctr_run",
-        ),
-        peer(
-            "BearSSL, constant time, 64 bits",
-            c"br_aes_ct64_ctr_init",
-            c"br_aes_ct64_ctr_run",
-        ),
+        peer(BEARSSL_SMALL, c"br_aes_small_ctr_init", c"br_aes_small_ctr_run"),
+        peer("BearSSL, word tables", c"br_aes_big_ctr_init", c"br_aes_big_ctr_run"),
+        peer("BearSSL, constant time, 32 bits", c"br_aes_ct_ctr_init", c"br_aes_ct_ctr_run"),
+        peer("BearSSL, constant time, 64 bits", c"br_aes_ct64_ctr_init", c"br_aes_ct64_ctr_run"),
     ]
 }

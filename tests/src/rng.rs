@@ -48,13 +48,6 @@ mod tests {
     fn numbers_are_those_of_splitmix64() {
         let mut rng = Rng::new(1234567);
         let numbers: Vec<u64> = (0..3).map(|_| rng.number()).collect();
-        assert_eq!(
-            numbers,
-            [
-                6457827717110365317,
-                3203168211198807973,
-                9817491932198370423
-            ]
-        );
+        assert_eq!(numbers, [6457827717110365317, 3203168211198807973, 9817491932198370423]);
     }
 }

@@ -33,11 +33,7 @@ impl Times {
     /// The time of way `a` over that of way `b`.
     pub fn ratio(&self, a: usize, b: usize) -> f64 {
         let ratios = self.0[a].iter().zip(&self.0[b]);
-        median(
-            ratios
-                .map(|(a, b)| a.as_secs_f64() / b.as_secs_f64())
-                .collect(),
-        )
+        median(ratios.map(|(a, b)| a.as_secs_f64() / b.as_secs_f64()).collect())
     }
 }
 

@@ -18,11 +18,7 @@ struct Implementation {
 
 const LIBRARY: Implementation = Implementation {
     name: "the library",
-    expand: |key| {
-        done(cipher::expand, key, &[0; ROUND_KEYS])
-            .try_into()
-            .unwrap()
-    },
+    expand: |key| done(cipher::expand, key, &[0; ROUND_KEYS]).try_into().unwrap(),
     encrypt: |key, block| done(cipher::encrypt, key, block).try_into().unwrap(),
     stream: |key, data| done(cipher::stream, key, data),
 };
@@ -79,12 +75,7 @@ fn fips_197_a_1_key_expansion() {
          d014f9a8 c9ee2589 e13f0cc8 b6630ca6",
     );
     for cipher in BOTH {
-        assert_eq!(
-            (cipher.expand)(&hex::array(STANDARD_KEY)),
-            round_keys,
-            "{}",
-            cipher.name
-        );
+        assert_eq!((cipher.expand)(&hex::array(STANDARD_KEY)), round_keys, "{}", cipher.name);
     }
 }
 
@@ -92,12 +83,7 @@ fn fips_197_a_1_key_expansion() {
 fn check_block(key: &str, plaintext: &str, ciphertext: &str) {
     for cipher in BOTH {
         let got = (cipher.encrypt)(&hex::array(key), &hex::array(plaintext));
-        assert_eq!(
-            hex::text(&got),
-            ciphertext,
-            "{}, {plaintext} under {key}",
-            cipher.name
-        );
+        assert_eq!(hex::text(&got), ciphertext, "{}, {plaintext} under {key}", cipher.name);
     }
 }
 
@@ -276,11 +262,7 @@ fn stream_twice_gives_the_data_back() {
         let length = rng.below(LONGEST + 1);
         let (key, data) = (rng.array(), rng.bytes(length));
         let back = (LIBRARY.stream)(&key, &(LIBRARY.stream)(&key, &data));
-        assert!(
-            back == data,
-            "seed {seed}: {length} bytes under {}",
-            hex::text(&key)
-        );
+        assert!(back == data, "seed {seed}: {length} bytes under {}", hex::text(&key));
     }
 }
 
@@ -294,11 +276,7 @@ fn lend(call: Call, key_length: usize, length: usize, shift: usize) -> (u32, Vec
     let mut lent_key = Guarded::new(shift, &key);
     let mut buffer = Guarded::new(shift, &old);
     let reply = call(lent_key.lent(), buffer.lent());
-    assert_eq!(
-        lent_key.content(),
-        key,
-        "the key of {key_length} bytes was changed"
-    );
+    assert_eq!(lent_key.content(), key, "the key of {key_length} bytes was changed");
     (reply, old, buffer.content().to_vec())
 }
 
@@ -314,10 +292,7 @@ fn check_refusals(
                 continue;
             }
             let (reply, old, new) = lend(call, key_length, length, 0);
-            assert_eq!(
-                reply, WRONG_LENGTH,
-                "key of {key_length} bytes, buffer of {length}"
-            );
+            assert_eq!(reply, WRONG_LENGTH, "key of {key_length} bytes, buffer of {length}");
             assert_eq!(new, old, "key of {key_length} bytes, buffer of {length}");
         }
     }

@@ -176,7 +176,7 @@ bytes-counter-mode w s p q = bytes-xor s (keyStream w (blocks (length s))) q (by
 power-byte : (n : ℕ) → power n < 256
 unfolding power
 power-byte zero = omega arith
-power-byte (suc n) = let h : power n < 256 = power-byte n in xor-lt 8 (power n * 2 % 256) (power n / 128 * 0x1b) (omega arith) (omega arith)
+power-byte (suc n) = let h : power n < 256 = power-byte n in xor-lt 8 (power n / 128 * 0x1b) (power n * 2 % 256) (omega arith) (omega arith)
 
 bytes-temp : (w : List ℕ) (i : ℕ) → Bytes w → Bytes (temp w i)
 unfolding temp

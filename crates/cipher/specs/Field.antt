@@ -12,9 +12,9 @@ infixl 70 _•_
 abbrev pub _⊕_ : ℕ → ℕ → ℕ
 a ⊕ b = bitXor a b
 
--- 4.2.1: each bit goes up by one place; for a bit 7, which falls out, {1b} is added
+-- 4.2.1: {1b} where bit 7 is set and falls out, plus the bits, each moved up by one place
 abbrev pub xtime : ℕ → ℕ
-xtime b = (b * 2 % 256) ⊕ (b / 128 * 0x1b)
+xtime b = (b / 128 * 0x1b) ⊕ (b * 2 % 256)
 
 -- the product of b with the n low bits of a: b, x b, x² b, .. are added where a has a bit
 unfoldable pub productBits : ℕ → ℕ → ℕ → ℕ

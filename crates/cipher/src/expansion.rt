@@ -22,7 +22,7 @@ const ROUNDS: usize = 10;
 fn times_x(b: u8) -> u8
     ensures { λ r. ⌜ r ≡ xtime b ⌝ }
 {
-    (b << 1) ^ ((b >> 7) * 0x1b)
+    ((b >> 7) * 0x1b) ^ (b << 1)
 }
 
 // RotWord, then SubWord.

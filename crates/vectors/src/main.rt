@@ -51,9 +51,8 @@ fn show(bytes: &[u8]) {
     write(b"\n");
 }
 
-// Writes the words of the round keys, one to a line.
-fn show_words(keys: RoundKeys) {
-    let w = keys.bytes;
+// Writes the words of round keys, one to a line.
+fn show_words(w: [u8; 176]) {
     let mut i: usize = 0;
     while i < WORDS {
         let at = 4 * i;
@@ -97,7 +96,8 @@ fn show_counter_block(keys: RoundKeys, counter: [u8; 16], plain: [u8; 16]) {
 fn show_fips_197() {
     write(b"FIPS 197, A.1, key expansion\n");
     let keys = cipher::expand(KEY);
-    show_words(keys);
+    let words = keys.bytes;
+    show_words(words);
     write(b"FIPS 197, B, cipher\n");
     show_block(keys, INPUT_B);
     write(b"FIPS 197, C.1, cipher\n");

@@ -4,7 +4,7 @@ use mathlib.Core.List.{List}
 use Prim.Native.Nat.{ℕ, _+_, _<_}
 use native.Mathlib.Numerals.{add-one}
 use lib.ListN.{getD}
-use Rattle.cipher.specs.Field.{_⊕_, _•_}
+use Rattle.cipher.specs.Field.{_⊕_}
 use Rattle.cipher.specs.SBox.{sBox}
 use Rattle.cipher.specs.Words.{four, littleEndian, xorBytes}
 use Rattle.cipher.specs.Table.{sBoxTable, roundTable}

@@ -1,7 +1,5 @@
 -- `johvimaru_cipher_encrypt` gives the encipherment of a block, or refuses a wrong length.
-use mathlib.Core.Path.{_≡_, ap, ap₂, _∙_}
-use mathlib.Core.List.{List}
-use Prim.Native.Nat.{ℕ}
+use mathlib.Core.Path.{ap, ap₂, _∙_}
 use borrow.Author.Tests.{eq-eqb, ne-eqb}
 use Rattle.cipher.specs.Cipher.{cipher}
 use Rattle.cipher.specs.KeyExpansion.{keyExpansion}

@@ -1,10 +1,6 @@
 -- `johvimaru_cipher_expand` gives the round keys, or refuses a wrong length.
-use mathlib.Core.Path.{_≡_, ap, sym, _∙_}
-use mathlib.Core.List.{List}
-use Prim.Native.Nat.{ℕ}
-use native.Mathlib.Omega.{arith}
+use mathlib.Core.Path.{ap, sym, _∙_}
 use borrow.Author.Tests.{eq-eqb, ne-eqb}
-use denote.Ref.{now}
 use lib.ListN.{length}
 use Rattle.cipher.specs.KeyExpansion.{keyExpansion}
 use Rattle.cipher.proofs.Laws.{length-key-expansion}

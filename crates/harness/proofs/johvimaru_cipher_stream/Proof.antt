@@ -1,5 +1,5 @@
 -- `johvimaru_cipher_stream` gives a text in counter mode, or refuses a key of a wrong length.
-use mathlib.Core.Path.{_≡_, ap, _∙_}
+use mathlib.Core.Path.{ap, _∙_}
 use mathlib.Core.List.{List}
 use Prim.Native.Nat.{ℕ}
 use borrow.Author.Tests.{eq-eqb, ne-eqb}

@@ -2,6 +2,7 @@
 --   four a b c d     the word of these bytes
 --   word w i         word i of a list of bytes
 --   xorBytes s k     the sum of two lists of bytes
+--   byte0 x .. byte3 x   the bytes of a 32-bit number, the lowest first
 --   littleEndian x   a 32-bit number as a word, its lowest byte first
 --   bigEndian k n    a number as k bytes, the highest first
 use mathlib.Core.List.{List, [], _∷_}
@@ -22,8 +23,20 @@ xorBytes [] k = []
 xorBytes (a ∷ s) [] = a ∷ s
 xorBytes (a ∷ s) (b ∷ k) = (a ⊕ b) ∷ xorBytes s k
 
+abbrev pub byte0 : ℕ → ℕ
+byte0 x = x % 0x100
+
+abbrev pub byte1 : ℕ → ℕ
+byte1 x = x / 0x100 % 0x100
+
+abbrev pub byte2 : ℕ → ℕ
+byte2 x = x / 0x10000 % 0x100
+
+abbrev pub byte3 : ℕ → ℕ
+byte3 x = x / 0x1000000 % 0x100
+
 abbrev pub littleEndian : ℕ → List ℕ
-littleEndian x = four (x % 256) (x / 256 % 256) (x / 65536 % 256) (x / 16777216 % 256)
+littleEndian x = four (byte0 x) (byte1 x) (byte2 x) (byte3 x)
 
 unfoldable pub bigEndian : ℕ → ℕ → List ℕ
 bigEndian zero n = []

@@ -5,7 +5,7 @@ use Prim.Native.Nat.{ℕ}
 use Rattle.cipher.specs.Field.{_⊕_, _•_, xtime}
 use Rattle.cipher.specs.SBox.{sBox}
 use Rattle.cipher.specs.Words.{four, word, bigEndian}
-use Rattle.cipher.specs.Cipher.{shiftRows, mixedColumn}
+use Rattle.cipher.specs.Cipher.{shiftRows, mixBytes}
 use Rattle.cipher.specs.KeyExpansion.{rotWord, subWord, power, rcon, temp, schedule}
 use Rattle.cipher.specs.CounterMode.{counterBlock}
 
@@ -47,8 +47,8 @@ unfolding shiftRows
 shifted = refl
 
 -- 5.1.3, on the first column of round 1 of appendix B
-pub mixed-d4 : mixedColumn 0xd4 0xbf 0x5d 0x30 ≡ four 0x04 0x66 0x81 0xe5
-unfolding mixedColumn _•_
+pub mixed-d4 : mixBytes 0xd4 0xbf 0x5d 0x30 ≡ four 0x04 0x66 0x81 0xe5
+unfolding mixBytes _•_
 mixed-d4 = refl
 
 -- 5.2, on w[3] and w[4] of appendix A.1

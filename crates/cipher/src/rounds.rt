@@ -4,7 +4,7 @@ ghost use Prim.Native.Nat.{_+_, _*_, _<_, _≤_};
 ghost use Rattle.cipher.specs.SBox.{sBox};
 ghost use Rattle.cipher.specs.Table.{sBoxTable, roundTable};
 ghost use Rattle.cipher.specs.Words.{word, byte0, byte1, byte2, byte3, littleEndian};
-ghost use Rattle.cipher.specs.Cipher.{Nb, Nr, subBytes, shiftRows, mixedColumn, mixColumns, roundKey, cipher};
+ghost use Rattle.cipher.specs.Cipher.{Nb, Nr, subBytes, shiftRows, mixBytes, mixColumns, roundKey, cipher};
 ghost use Rattle.cipher.specs.State.{state};
 use crate::columns::Columns;
 use crate::columns::add;
@@ -22,7 +22,7 @@ const FULL_ROUNDS: usize = ROUNDS - 1;
 // SubBytes and MixColumns of row 0 of a, row 1 of b, row 2 of c and row 3 of d, by the round table.
 fn sub_mix(table: &[u32; 256], a: u32, b: u32, c: u32, d: u32) -> u32
     requires { ⌜ now table ≡ roundTable ⌝ }
-    ensures { λ r. ⌜ littleEndian r ≡ mixedColumn (sBox (byte0 a)) (sBox (byte1 b)) (sBox (byte2 c)) (sBox (byte3 d)) ⌝ }
+    ensures { λ r. ⌜ littleEndian r ≡ mixBytes (sBox (byte0 a)) (sBox (byte1 b)) (sBox (byte2 c)) (sBox (byte3 d)) ⌝ }
 {
     let t0 = table[(a % 0x100) as usize];
     let t1 = rotate_left_8(table[(b / 0x100 % 0x100) as usize]);

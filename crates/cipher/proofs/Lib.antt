@@ -5,3 +5,5 @@ pub mod WordLaws
 pub mod RoundLaws
 pub mod Schedule
 pub mod KeyStream
+pub mod Laws
+pub mod Examples

@@ -1,0 +1,169 @@
+// Headers: the ranges of their fields, their 30 bytes, and the header that 30 bytes are.
+use crate::Frame;
+use crate::Header;
+use crate::Number;
+use crate::bytes;
+use crate::columns;
+use crate::plan;
+ghost use mathlib.Core.Path.{_≡_};
+ghost use mathlib.Core.Bool.{true, _||_};
+ghost use lib.ListN.{length};
+ghost use lib.Dec.{eqb};
+ghost use Rattle.base.specs.Part.{part};
+ghost use Rattle.base.specs.Each.{same};
+ghost use Rattle.page.specs.Frame.{headerSize, colonSpace};
+ghost use Rattle.page.specs.Header.{nodeLetter, cutOffLetter, keysLetter, commitLetter, lastNumber, within, inPlan, nodeRanges, cutOffRanges, keysRanges, commitRanges, inRange, headerBytes, headerOf};
+
+// The last number of each kind of field.
+const LAST_NUMBER: u32 = 99_999_999;
+
+const LAST_POSITION: u32 = 447;
+
+const LAST_KEY_BLOCK: u32 = 1;
+
+const LAST_KEY_PAGE: u32 = 15;
+
+const LAST_PART: u32 = 9;
+
+// Whether n is the number of a page: a sequence or an epoch, from 1.
+fn is_number(n: u32) -> bool
+    ensures { λ r. ⌜ r ≡ within 1 lastNumber n ⌝ }
+{
+    (1 <= n) & (n <= LAST_NUMBER)
+}
+
+// Whether the file is one of the plan and the offset below its count.
+fn in_plan(f: Frame) -> bool
+    ensures { λ r. ⌜ r ≡ inPlan f ⌝ }
+{
+    (f.unit <= plan::LAST_FILE) & (f.part < plan::count(f.unit))
+}
+
+// Whether the fields are those of a node.
+fn is_node(f: Frame) -> bool
+    ensures { λ r. ⌜ r ≡ nodeRanges f ⌝ }
+{
+    is_number(f.number) & in_plan(f) & (f.key <= LAST_POSITION) & (f.second == 0)
+}
+
+// Whether the fields are those of a cut-off.
+fn is_cut_off(f: Frame) -> bool
+    ensures { λ r. ⌜ r ≡ cutOffRanges f ⌝ }
+{
+    is_number(f.number) & in_plan(f) & (f.key == 0) & (f.second == 0)
+}
+
+// Whether the fields are those of a page of keys.
+fn is_keys(f: Frame) -> bool
+    ensures { λ r. ⌜ r ≡ keysRanges f ⌝ }
+{
+    is_number(f.number)
+        & (f.unit <= LAST_KEY_BLOCK)
+        & (f.part <= LAST_KEY_PAGE)
+        & (f.key == 0)
+        & (f.second == 0)
+}
+
+// Whether the fields are those of a part of a commit.
+fn is_commit(f: Frame) -> bool
+    ensures { λ r. ⌜ r ≡ commitRanges f ⌝ }
+{
+    is_number(f.number)
+        & (f.unit == 0)
+        & (f.part <= LAST_PART)
+        & (f.key == 0)
+        & (f.second <= LAST_NUMBER)
+}
+
+// Whether the kind is one of the four letters and each field in that kind's range.
+pub fn in_range(f: Frame) -> bool
+    ensures { λ r. ⌜ r ≡ inRange f ⌝ }
+{
+    if f.kind == Frame::NODE_LETTER {
+        return is_node(f);
+    }
+    if f.kind == Frame::CUT_OFF_LETTER {
+        return is_cut_off(f);
+    }
+    if f.kind == Frame::KEYS_LETTER {
+        return is_keys(f);
+    }
+    if f.kind == Frame::COMMIT_LETTER {
+        return is_commit(f);
+    }
+    false
+}
+
+// Writes the header of f into the 30 bytes of dst.
+pub fn write_header(dst: &mut [u8], f: Frame)
+    requires { ⌜ length (now dst) ≡ headerSize ⌝ }
+    ensures { λ _. ⌜ now (dst .exit) ≡ headerBytes f ⌝ }
+{
+    columns::put_at(dst, 1, 8, f.number);
+    columns::put_at(dst, 9, 3, f.unit);
+    columns::put_at(dst, 12, 4, f.part);
+    columns::put_at(dst, 16, 4, f.key);
+    columns::put_at(dst, 20, 8, f.second);
+    bytes::copy(&mut dst[28..30], b": ");
+    dst[0] = f.kind;
+}
+
+// Whether b is one of the four kind letters.
+fn is_kind(b: u8) -> bool
+    ensures { λ r. ⌜ r ≡ (eqb b nodeLetter || eqb b cutOffLetter || eqb b keysLetter || eqb b commitLetter) ⌝ }
+{
+    (b == Frame::NODE_LETTER)
+        | (b == Frame::CUT_OFF_LETTER)
+        | (b == Frame::KEYS_LETTER)
+        | (b == Frame::COMMIT_LETTER)
+}
+
+// The header that 30 bytes are which end in colon and space.
+fn read_fields(src: &[u8]) -> Header
+    requires { ⌜ (length (now src) ≡ headerSize) × (same (part (now src) 28 2) colonSpace ≡ true) ⌝ }
+    ensures { λ r. ⌜ r ≡ headerOf (now (src .entry)) ⌝ }
+{
+    let kind = src[0];
+    let Number::Is(number) = columns::get_at(src, 1, 8) else {
+        return Header::Invalid;
+    };
+    let Number::Is(unit) = columns::get_at(src, 9, 3) else {
+        return Header::Invalid;
+    };
+    let Number::Is(part) = columns::get_at(src, 12, 4) else {
+        return Header::Invalid;
+    };
+    let Number::Is(key) = columns::get_at(src, 16, 4) else {
+        return Header::Invalid;
+    };
+    let Number::Is(second) = columns::get_at(src, 20, 8) else {
+        return Header::Invalid;
+    };
+    let f = Frame {
+        kind,
+        number,
+        unit,
+        part,
+        key,
+        second,
+    };
+    if in_range(f) {
+        Header::Is(f)
+    } else {
+        Header::Invalid
+    }
+}
+
+// The header that 30 bytes are. The kind letter and the end are looked at first: most bytes that are no header fail there.
+pub fn read_header(src: &[u8]) -> Header
+    requires { ⌜ length (now src) ≡ headerSize ⌝ }
+    ensures { λ r. ⌜ r ≡ headerOf (now (src .entry)) ⌝ }
+{
+    if !is_kind(src[0]) {
+        return Header::Invalid;
+    }
+    if !bytes::same(&src[28..30], b": ") {
+        return Header::Invalid;
+    }
+    read_fields(src)
+}

@@ -1,0 +1,11 @@
+-- Laws of the flash image, for the layers above: with them nothing there reasons about bytes.
+--   Steps     what a step leaves of the length, of each page and of each block
+--   Empties   empty pages and blocks, and what a step does to them
+--   Looks     sizes; the lowest empty block and the number of empty ones
+--   Plays     steps in a row, whole or cut
+--   Runs      steps under a power budget
+pub mod Steps
+pub mod Empties
+pub mod Looks
+pub mod Plays
+pub mod Runs

@@ -1,0 +1,126 @@
+-- Steps under a power budget: one step by cases, steps in a row, and what a budget of n steps and k bytes leaves.
+use Prim.Native.Nat.{ℕ, zero, suc, _+_, _-_, _<_, _≤_}
+use native.Mathlib.Omega.{arith}
+use native.Mathlib.Nat.{sub-zero}
+use native.Mathlib.Decide.{ℕ-discrete, decLt}
+use native.Mathlib.Numerals.{sub-one}
+use mathlib.Core.Path.{_≡_, refl, sym, ap, _∙_}
+use mathlib.Core.Bool.{Bool, true, false}
+use mathlib.Core.List.{List, [], _∷_, _++_}
+use lib.ListN.{length}
+use lib.Dec.{eqb, leb}
+use borrow.Author.Tests.{eq-eqb, ne-eqb, le-leb, lt-leb}
+use Rattle.image.specs.declared.Power.{Power}
+use Rattle.image.specs.Step.{Step, upTo, whole, play, playAll}
+use Rattle.image.specs.Power.{Device, device, powerFor, act, run}
+use Rattle.image.proofs.Plays.{play-all}
+
+-- ---- one step, by cases
+-- the power after it failed in a step
+abbrev pub spent : ℕ → Power
+spent k = record { steps = 0; bytes = k; on = false }
+
+pub act-off : (s : Step) (p : Power) (img : List ℕ) → p .on ≡ false → act s (device p img) ≡ device p img
+unfolding act
+act-off s p img e = rw e
+
+pub act-cut : (s : Step) (p : Power) (img : List ℕ) → p .on ≡ true → p .steps ≡ 0
+    → act s (device p img) ≡ device (spent (p .bytes)) (upTo (p .bytes) s img)
+unfolding act
+act-cut s p img e z = rw (e, eq-eqb _ _ z)
+
+pub act-whole : (s : Step) (p : Power) (img : List ℕ) → p .on ≡ true → (p .steps ≡ 0 → ⊥)
+    → act s (device p img) ≡ device (powerFor (p .steps - 1) (p .bytes)) (whole s img)
+unfolding act
+act-whole s p img e z = rw (e, ne-eqb _ _ z)
+
+-- ---- steps in a row
+pub run-nil : (d : Device) → run [] d ≡ d
+unfolding run
+run-nil d = refl
+
+pub run-cons : (s : Step) (ss : List Step) (d : Device) → run (s ∷ ss) d ≡ run ss (act s d)
+unfolding run
+run-cons s ss d = refl
+
+pub run-one : (s : Step) (d : Device) → run (s ∷ []) d ≡ act s d
+unfolding run
+run-one s d = refl
+
+pub run-append : (xs ys : List Step) (d : Device) → run (xs ++ ys) d ≡ run ys (run xs d)
+unfolding run
+run-append [] ys d = refl
+run-append (x ∷ xs) ys d = run-append xs ys (act x d)
+
+pub run-off : (ss : List Step) (p : Power) (img : List ℕ) → p .on ≡ false → run ss (device p img) ≡ device p img
+unfolding run
+run-off [] p img e = refl
+run-off (s ∷ ss) p img e = rw (act-off s p img e) (run-off ss p img e)
+
+-- ---- a budget of n steps and k bytes: enough for all the steps, or not
+act-powered : (s : Step) (n k : ℕ) (img : List ℕ) → act s (device (powerFor (suc n) k) img) ≡ device (powerFor n k) (whole s img)
+act-powered s n k img =
+    let e : suc n - 1 ≡ n = omega arith in
+    act-whole s (powerFor (suc n) k) img refl (λ z. omega arith) ∙ ap (λ (m : ℕ). device (powerFor m k) (whole s img)) e
+
+pub run-enough : (ss : List Step) (n k : ℕ) (img : List ℕ) → length ss ≤ n
+    → run ss (device (powerFor n k) img) ≡ device (powerFor (n - length ss) k) (playAll ss img)
+unfolding run playAll
+run-enough [] n k img h = rw sub-zero
+run-enough (s ∷ ss) zero k img h = absurd (omega arith)
+run-enough (s ∷ ss) (suc n) k img h =
+    let e : suc n - suc (length ss) ≡ n - length ss = omega arith in
+    ap (run ss) (act-powered s n k img) ∙ run-enough ss n k (whole s img) (omega arith) ∙ rw e
+
+pub run-short : (ss : List Step) (n k : ℕ) (img : List ℕ) → n < length ss
+    → run ss (device (powerFor n k) img) ≡ device (spent k) (play n k ss img)
+unfolding run play
+run-short [] n k img h = absurd (omega arith)
+run-short (s ∷ ss) zero k img h = ap (run ss) (act-cut s (powerFor 0 k) img refl refl) ∙ run-off ss (spent k) (upTo k s img) refl
+run-short (s ∷ ss) (suc n) k img h = ap (run ss) (act-powered s n k img) ∙ run-short ss n k (whole s img) (omega arith)
+
+-- the image is that of n steps whole and k bytes of the next
+pub run-play : (ss : List Step) (n k : ℕ) (img : List ℕ) → run ss (device (powerFor n k) img) .image ≡ play n k ss img
+run-play ss n k img = go (decLt n (length ss))
+  where
+    go : Dec (n < length ss) → run ss (device (powerFor n k) img) .image ≡ play n k ss img
+    go (yes h) = ap (λ (d : Device). d .image) (run-short ss n k img h)
+    go (no h) = ap (λ (d : Device). d .image) (run-enough ss n k img (omega arith)) ∙ sym (play-all n k ss img (omega arith))
+
+-- the power is then on exactly if n is at least the number of steps
+pub run-on : (ss : List Step) (n k : ℕ) (img : List ℕ) → run ss (device (powerFor n k) img) .power .on ≡ leb (length ss) n
+run-on ss n k img = go (decLt n (length ss))
+  where
+    go : Dec (n < length ss) → run ss (device (powerFor n k) img) .power .on ≡ leb (length ss) n
+    go (yes h) = ap (λ (d : Device). d .power .on) (run-short ss n k img h) ∙ sym (lt-leb (length ss) n h)
+    go (no h) = ap (λ (d : Device). d .power .on) (run-enough ss n k img (omega arith)) ∙ sym (le-leb (length ss) n (omega arith))
+
+-- ---- later steps chosen from the image as it then is
+-- with the power off it does not matter which
+dark : (xs ys : List Step) (f : List ℕ → List Step) (p : Power) (img : List ℕ) → p .on ≡ false
+    → run (f (run xs (device p img) .image)) (run xs (device p img)) ≡ run ys (device p img)
+dark xs ys f p img e = rw (run-off xs p img e) (run-off (f img) p img e ∙ sym (run-off ys p img e))
+
+-- they may be chosen from the image after whole steps: where the two images differ, the power is off
+pub run-bind : (xs : List Step) (f : List ℕ → List Step) (p : Power) (img : List ℕ)
+    → run (f (run xs (device p img) .image)) (run xs (device p img)) ≡ run (xs ++ f (playAll xs img)) (device p img)
+unfolding run playAll
+run-bind [] f p img = refl
+run-bind (s ∷ xs) f p img = go (p .on) refl (ℕ-discrete (p .steps) 0) (run-bind xs f (powerFor (p .steps - 1) (p .bytes)) (whole s img))
+  where
+    later : List Step
+    later = xs ++ f (playAll xs (whole s img))
+
+    go : (b : Bool) → p .on ≡ b → Dec (p .steps ≡ 0)
+        → run (f (run xs (device (powerFor (p .steps - 1) (p .bytes)) (whole s img)) .image)) (run xs (device (powerFor (p .steps - 1) (p .bytes)) (whole s img)))
+            ≡ run later (device (powerFor (p .steps - 1) (p .bytes)) (whole s img))
+        → run (f (run xs (act s (device p img)) .image)) (run xs (act s (device p img))) ≡ run later (act s (device p img))
+    go false e z r = rw (act-off s p img e) (dark xs later f p img e)
+    go true e (yes z) r = rw (act-cut s p img e z) (dark xs later f (spent (p .bytes)) (upTo (p .bytes) s img) refl)
+    go true e (no z) r = rw (act-whole s p img e z) r
+
+-- after one step
+pub run-bind-one : (s : Step) (f : List ℕ → List Step) (p : Power) (img : List ℕ)
+    → run (f (act s (device p img) .image)) (act s (device p img)) ≡ run (s ∷ f (whole s img)) (device p img)
+unfolding run playAll
+run-bind-one s f p img = run-bind (s ∷ []) f p img

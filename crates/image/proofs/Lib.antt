@@ -4,8 +4,10 @@
 --   Looks     sizes; the lowest empty block and the number of empty ones
 --   Plays     steps in a row, whole or cut
 --   Runs      steps under a power budget
+--   Rows      pages of a block that are programmed in a row
 pub mod Steps
 pub mod Empties
 pub mod Looks
 pub mod Plays
 pub mod Runs
+pub mod Rows

@@ -20,7 +20,7 @@ use Rattle.page.specs.Page.{cutPage}
 use Rattle.image.specs.Size.{blockSize, pagesInBlock}
 use Rattle.image.specs.Look.{pageAt, blockAt, pageEmpty, blockEmpty}
 use Rattle.image.specs.Step.{Step, program, erase, Inside, upTo, whole}
-use Rattle.image.proofs.Steps.{page-length, block-length, block-erase, page-program}
+use Rattle.image.proofs.Step.{page-length, block-length, block-erase, page-program}
 
 -- ---- bytes
 allAre-append : (v : ℕ) (xs ys : List ℕ) → allAre v (xs ++ ys) ≡ allAre v xs && allAre v ys

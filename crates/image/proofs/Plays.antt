@@ -9,7 +9,7 @@ use Rattle.base.specs.Each.{Each}
 use Rattle.image.specs.Size.{blockSize, pagesInBlock}
 use Rattle.image.specs.Look.{pageAt, blockAt}
 use Rattle.image.specs.Step.{Step, program, erase, Inside, upTo, whole, play, playAll}
-use Rattle.image.proofs.Steps.{blockOf, upTo-length, whole-length, block-upTo-other, block-whole-other, page-of-same}
+use Rattle.image.proofs.Step.{blockOf, upTo-length, whole-length, block-upTo-other, block-whole-other, page-of-same}
 
 -- ---- the definitions' clauses, for those who do not open them
 pub play-nil : (n k : ℕ) (img : List ℕ) → play n k [] img ≡ img

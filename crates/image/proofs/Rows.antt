@@ -14,7 +14,7 @@ use Rattle.page.specs.Page.{cutPage}
 use Rattle.image.specs.Size.{blockSize, pagesInBlock}
 use Rattle.image.specs.Look.{pageAt, blockAt}
 use Rattle.image.specs.Step.{Step, program, Inside, upTo, whole, play, playAll}
-use Rattle.image.proofs.Steps.{blockOf, whole-length, page-program, page-program-other, page-program-upTo, page-program-upTo-other}
+use Rattle.image.proofs.Step.{blockOf, whole-length, page-program, page-program-other, page-program-upTo, page-program-upTo-other}
 use Rattle.image.proofs.Plays.{play-all, play-nil, play-zero, play-suc}
 
 module _ (b : ℕ) (page : ℕ → List ℕ) where

@@ -11,8 +11,10 @@ use lib.ListN.{length}
 use lib.Dec.{eqb, leb}
 use borrow.Author.Tests.{eq-eqb, ne-eqb, le-leb, lt-leb}
 use Rattle.image.specs.declared.Power.{Power}
-use Rattle.image.specs.Step.{Step, upTo, whole, play, playAll}
-use Rattle.image.specs.Power.{Device, device, powerFor, act, run}
+use Rattle.image.specs.Size.{blockSize}
+use Rattle.image.specs.Step.{Step, Inside, upTo, whole, play, playAll}
+use Rattle.image.specs.Power.{Device, device, powerFor, act, run, reach, lessStep}
+use Rattle.image.proofs.Step.{upTo-whole}
 use Rattle.image.proofs.Plays.{play-all}
 
 -- ---- one step, by cases
@@ -33,6 +35,16 @@ pub act-whole : (s : Step) (p : Power) (img : List ℕ) → p .on ≡ true → (
     → act s (device p img) ≡ device (powerFor (p .steps - 1) (p .bytes)) (whole s img)
 unfolding act
 act-whole s p img e z = rw (e, ne-eqb _ _ z)
+
+-- with the power on: the step up to the byte that the power reaches
+pub act-on : (s : Step) (p : Power) (img : List ℕ) → p .on ≡ true → Inside (length img) s
+    → act s (device p img) ≡ device (lessStep p) (upTo (reach p) s img)
+act-on s p img e ins = go (ℕ-discrete (p .steps) 0)
+  where
+    go : Dec (p .steps ≡ 0) → act s (device p img) ≡ device (lessStep p) (upTo (reach p) s img)
+    go (yes z) = act-cut s p img e z ∙ rw (eq-eqb _ _ z)
+    go (no z) =
+        act-whole s p img e z ∙ rw (ne-eqb _ _ z) (ap (device _) (sym (upTo-whole blockSize (length img) s img ins (omega arith))))
 
 -- ---- steps in a row
 pub run-nil : (d : Device) → run [] d ≡ d

@@ -10,6 +10,8 @@ use mathlib.Core.List.{List, [], _∷_, _++_}
 use lib.ListN.{length}
 use lib.Dec.{eqb, leb}
 use borrow.Author.Tests.{eq-eqb, ne-eqb, le-leb, lt-leb}
+use Rattle.base.specs.Fold.{listFrom}
+use Rattle.base.proofs.Folds.{listFrom-next, listFrom-none}
 use Rattle.image.specs.declared.Power.{Power}
 use Rattle.image.specs.Size.{blockSize}
 use Rattle.image.specs.Step.{Step, Inside, upTo, whole, play, playAll}
@@ -68,6 +70,14 @@ pub run-off : (ss : List Step) (p : Power) (img : List ℕ) → p .on ≡ false 
 unfolding run
 run-off [] p img e = refl
 run-off (s ∷ ss) p img e = rw (act-off s p img e) (run-off ss p img e)
+
+-- ---- a loop's steps, as the code has them: i goes up to n
+module _ (f : ℕ → Step) (n i : ℕ) (d : Device) where
+  pub run-next : (e : Device) → i < n → e ≡ act (f i) d → run (listFrom f (n - i) i) d ≡ run (listFrom f (n - (i + 1)) (i + 1)) e
+  run-next e h q = rw (listFrom-next f n i h, q) (run-cons (f i) (listFrom f (n - (i + 1)) (i + 1)) d)
+
+  pub run-none : n ≤ i → run (listFrom f (n - i) i) d ≡ d
+  run-none h = rw (listFrom-none f n i h) (run-nil d)
 
 -- ---- a budget of n steps and k bytes: enough for all the steps, or not
 act-powered : (s : Step) (n k : ℕ) (img : List ℕ) → act s (device (powerFor (suc n) k) img) ≡ device (powerFor n k) (whole s img)

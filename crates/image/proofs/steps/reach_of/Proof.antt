@@ -4,10 +4,10 @@ use Rattle.image.proofs.steps.reach_of.Statement.{statement}
 use Rattle.image.proofs.steps.reach_of.Tie as tie
 
 returns : tie.Need-returns
-returns c = search (eq-eqb, ne-eqb)
+returns c = search eq-eqb
 
 returns-2 : tie.Need-returns-2
-returns-2 c = search (eq-eqb, ne-eqb)
+returns-2 c = search ne-eqb
 
 pub reach-of-spec : {M : Type 1} → statement M
 reach-of-spec = tie.close (tie.spec returns returns-2)

@@ -6,6 +6,7 @@
 --   Runs      steps under a power budget
 --   Rows      pages of a block that are programmed in a row
 --   Lent      a part of the image that is lent to the writer of a step
+--   KeyBlock  the keys of a key block, read and renewed
 pub mod Step
 pub mod Empties
 pub mod Looks
@@ -13,3 +14,4 @@ pub mod Plays
 pub mod Runs
 pub mod Rows
 pub mod Lent
+pub mod KeyBlock

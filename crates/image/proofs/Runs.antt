@@ -4,19 +4,21 @@ use native.Mathlib.Omega.{arith}
 use native.Mathlib.Nat.{sub-zero}
 use native.Mathlib.Decide.{ℕ-discrete, decLt}
 use native.Mathlib.Numerals.{sub-one}
-use mathlib.Core.Path.{_≡_, refl, sym, ap, _∙_}
+use mathlib.Core.Path.{_≡_, refl, sym, ap, subst, _∙_}
 use mathlib.Core.Bool.{Bool, true, false}
 use mathlib.Core.List.{List, [], _∷_, _++_}
 use lib.ListN.{length}
 use lib.Dec.{eqb, leb}
 use borrow.Author.Tests.{eq-eqb, ne-eqb, le-leb, lt-leb}
 use Rattle.base.specs.Fold.{listFrom}
+use Rattle.base.specs.Each.{Each}
 use Rattle.base.proofs.Folds.{listFrom-next, listFrom-none}
 use Rattle.image.specs.declared.Power.{Power}
 use Rattle.image.specs.Size.{blockSize}
+use Rattle.image.specs.Look.{blockAt}
 use Rattle.image.specs.Step.{Step, Inside, upTo, whole, play, playAll}
 use Rattle.image.specs.Power.{Device, device, powerFor, act, run, reach, lessStep}
-use Rattle.image.proofs.Step.{upTo-whole}
+use Rattle.image.proofs.Step.{blockOf, upTo-whole, upTo-length, block-upTo-other}
 use Rattle.image.proofs.Plays.{play-all}
 
 -- ---- one step, by cases
@@ -146,3 +148,35 @@ pub run-bind-one : (s : Step) (f : List ℕ → List Step) (p : Power) (img : Li
     → run (f (act s (device p img) .image)) (act s (device p img)) ≡ run (s ∷ f (whole s img)) (device p img)
 unfolding run playAll
 run-bind-one s f p img = run-bind (s ∷ []) f p img
+
+-- ---- steps inside the image keep its length, and every block that they do not work in
+-- the image after a step is the image before it, or after the first bytes of the step
+act-image : (P : List ℕ → Type 0) (s : Step) (d : Device) → Inside (length (d .image)) s → P (d .image) → ((k : ℕ) → P (upTo k s (d .image)))
+    → P (act s d .image)
+act-image P s d ins h f = go (d .power .on) refl
+  where
+    go : (b : Bool) → d .power .on ≡ b → P (act s d .image)
+    go true e = rw (act-on s (d .power) (d .image) e ins) (f (reach (d .power)))
+    go false e = rw (act-off s (d .power) (d .image) e) h
+
+pub act-length : (s : Step) (d : Device) → Inside (length (d .image)) s → length (act s d .image) ≡ length (d .image)
+act-length s d ins = act-image (λ (img : List ℕ). length img ≡ length (d .image)) s d ins refl (λ k. upTo-length k s (d .image) ins)
+
+pub block-act-other : (s : Step) (d : Device) (b : ℕ) → Inside (length (d .image)) s → (blockOf s ≡ b → ⊥) → blockAt (act s d .image) b ≡ blockAt (d .image) b
+block-act-other s d b ins o =
+    act-image (λ (img : List ℕ). blockAt img b ≡ blockAt (d .image) b) s d ins refl (λ k. block-upTo-other k s (d .image) ins b o)
+
+pub run-length : (ss : List Step) (d : Device) → Each (Inside (length (d .image))) ss → length (run ss d .image) ≡ length (d .image)
+unfolding run
+run-length [] d i = refl
+run-length (s ∷ ss) d i =
+    let l = act-length s d (i .0) in
+    run-length ss (act s d) (subst (λ (n : ℕ). Each (Inside n) ss) (sym l) (i .1)) ∙ l
+
+pub block-run-other : (ss : List Step) (d : Device) (b : ℕ) → Each (Inside (length (d .image))) ss → Each (λ (s : Step). blockOf s ≡ b → ⊥) ss
+    → blockAt (run ss d .image) b ≡ blockAt (d .image) b
+unfolding run
+block-run-other [] d b i o = refl
+block-run-other (s ∷ ss) d b i o =
+    block-run-other ss (act s d) b (subst (λ (n : ℕ). Each (Inside n) ss) (sym (act-length s d (i .0))) (i .1)) (o .1)
+    ∙ block-act-other s d b (i .0) (o .0)

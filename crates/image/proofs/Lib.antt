@@ -5,6 +5,7 @@
 --   Plays     steps in a row, whole or cut
 --   Runs      steps under a power budget
 --   Rows      pages of a block that are programmed in a row
+--   Pages     each kind of page has 256 bytes
 --   Lent      a part of the image that is lent to the writer of a step
 --   KeyBlock  the keys of a key block, read and renewed
 pub mod Step
@@ -13,5 +14,6 @@ pub mod Looks
 pub mod Plays
 pub mod Runs
 pub mod Rows
+pub mod Pages
 pub mod Lent
 pub mod KeyBlock

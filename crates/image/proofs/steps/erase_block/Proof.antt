@@ -61,9 +61,9 @@ same-length c = search needs
 returns-2 : tie.Need-returns-2
 returns-2 c =
     let a = c .before .before .before .before .before .before .before .before .before .before .args in
-    lent-erase (now (a .image)) (a .p) (c .after-step .result) (not-false _ (c .before .before .before .before .before .before .before .if1 .left)) (c .after-step .ensures) _
-    (a .b) (c .before .before .before .before .before .smaller .result) (search needs)
-    (rw (← c .before .before .before .before .before .before .reach-of .ensures) (c .before .before .before .before .before .smaller .ensures))
+    lent-erase (now (a .image)) (a .p) (c .after-step .result) (not-false _ (c .before .before .before .before .before .before .before .if1 .left)) (c .after-step .ensures)
+    (c .before .before .before .before .before .before .reach-of .result) (c .before .before .before .before .before .before .reach-of .ensures) _
+    (a .b) (c .before .before .before .before .before .smaller .result) (search needs) (c .before .before .before .before .before .smaller .ensures)
     (c .before .before .before .fill .ensures)
 
 pub erase-block-spec : {M : Type 1} → statement M

@@ -1,5 +1,5 @@
 -- Cases of document 01, computed from the definitions: P3 to P8, where a key position and a node stand.
-use Prim.Native.Nat.{ℕ, _+_, _*_}
+use Prim.Native.Nat.{_+_}
 use mathlib.Core.Path.{_≡_, refl}
 use Rattle.page.specs.Plan.{filePlan, countOf, startOf, placeOf}
 use Rattle.page.specs.Key.{keyBlock, keyPage, keySlot}

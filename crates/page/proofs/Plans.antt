@@ -10,7 +10,6 @@ use lib.Dec.{eqb, ltb, eqb→eq}
 use borrow.Author.Tests.{lt-ltb, le-ltb, ltb-true}
 use Rattle.base.proofs.Eachs.{table-rule}
 use Rattle.page.specs.Plan.{filePlan, lastFile, places, countOf, startOf, placeOf}
-use Rattle.page.specs.declared.Place.{Place}
 use Rattle.page.specs.declared.Place.the-variants.{At, Outside}
 
 -- ---- counts and sums of counts

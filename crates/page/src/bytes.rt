@@ -1,6 +1,7 @@
 // Runs of bytes: one value throughout, and a copy.
 ghost use mathlib.Core.Path.{_≡_};
 ghost use lib.ListN.{length, replicate};
+ghost use Rattle.base.specs.Each.{same as equal};
 
 // Sets every byte of dst to v.
 pub fn fill(dst: &mut [u8], v: u8)
@@ -23,4 +24,19 @@ pub fn copy(dst: &mut [u8], src: &[u8])
         dst[i] = src[i];
         i += 1;
     }
+}
+
+// Whether two runs of one length are the same bytes.
+pub fn same(a: &[u8], b: &[u8]) -> bool
+    requires { ⌜ length (now a) ≡ length (now b) ⌝ }
+    ensures { λ r. ⌜ r ≡ equal (now (a .entry)) (now (b .entry)) ⌝ }
+{
+    let mut i = 0;
+    while i < a.len() {
+        if a[i] != b[i] {
+            return false;
+        }
+        i += 1;
+    }
+    true
 }

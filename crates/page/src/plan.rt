@@ -24,7 +24,7 @@ const STARTS: [u32; 14] = [
     216,
 ];
 
-const LAST_FILE: u32 = 13;
+pub const LAST_FILE: u32 = 13;
 
 // How many nodes a file holds; none where there is no such file.
 pub fn count(file: u32) -> u32

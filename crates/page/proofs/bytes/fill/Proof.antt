@@ -1,9 +1,9 @@
 -- `page::bytes::fill` meets its contract: the bytes passed are v, the others as they were.
 use borrow.Author.Needs.{needs}
 use borrow.Author.Fill.{fill-more}
-use Prim.Native.Nat.{_≤_, _-_, _+_}
+use Prim.Native.Nat.{_≤_, _-_}
 use native.Mathlib.Omega.{arith}
-use mathlib.Core.Path.{_≡_, refl, _∙_, sym}
+use mathlib.Core.Path.{_≡_, refl, _∙_}
 use mathlib.Core.List.{_++_, append-nil}
 use lib.ListN.{length, replicate, drop, length-set, drop-of-length-le}
 use denote.Ref.{now}

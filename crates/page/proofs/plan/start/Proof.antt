@@ -1,5 +1,4 @@
 -- `page::plan::start` meets its contract: the table holds the sums of the plan's counts.
-use native.Mathlib.Omega.{arith}
 use borrow.Author.Needs.{needs}
 use Rattle.page.proofs.Plans.{starts-rule}
 use Rattle.page.proofs.plan.start.Statement.{statement}

@@ -1,0 +1,8 @@
+-- The laws of the cipher. A layer above cites TableRules and Laws; the others serve the proofs of this crate's functions.
+pub mod TableRules
+pub mod Sums
+pub mod WordLaws
+pub mod RoundLaws
+pub mod Schedule
+pub mod KeyStream
+pub mod Laws

@@ -1,0 +1,19 @@
+-- `apply_stream` hands the tables to the counter mode.
+use mathlib.Core.Path.{refl}
+use Rattle.cipher.specs.Table.{sBoxTable, roundTable}
+use borrow.Author.Needs.{needs}
+use Rattle.cipher.proofs.apply_stream.Statement.{statement}
+use Rattle.cipher.proofs.apply_stream.Tie as tie
+
+add-key-stream-requires : tie.Need-add-key-stream-requires
+unfolding sBoxTable roundTable
+add-key-stream-requires c κs = (refl, refl)
+
+same-length : tie.Need-same-length
+same-length c = search needs
+
+returns : tie.Need-returns
+returns c = search needs
+
+pub apply-stream-spec : {M : Type 1} → statement M
+apply-stream-spec = tie.close (tie.spec add-key-stream-requires same-length returns)

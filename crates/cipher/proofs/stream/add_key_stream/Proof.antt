@@ -1,0 +1,101 @@
+-- `add_key_stream` is the counter mode. After n turns the first n blocks of the key stream are added.
+use mathlib.Core.Path.{_≡_, refl, ap, sym, _∙_}
+use Prim.Native.Nat.{ℕ, _+_, _-_, _*_, _<_}
+use native.Mathlib.Omega.{arith}
+use borrow.Rule.Slice.PartMut.{same-len-mid}
+use denote.Ref.{now}
+use lib.ListN.{length}
+use borrow.Author.Needs.{needs}
+use Rattle.cipher.specs.Words.{xorBytes}
+use Rattle.cipher.specs.Cipher.{cipher}
+use Rattle.cipher.specs.CounterMode.{blocks, keyStream, counterMode}
+use Rattle.cipher.proofs.Sums.{xor-nil}
+use Rattle.cipher.proofs.KeyStream.{key-stream-more}
+use Rattle.cipher.proofs.stream.add_key_stream.Statement.{statement}
+use Rattle.cipher.proofs.stream.add_key_stream.Tie as tie
+
+abbrev Inv-loop : tie.InvT-loop
+Inv-loop sbox table w text₀ at₀ n₀ text at n =
+    (at ≡ 16 * n) × (at < length text₀ + 16) × (length text ≡ length text₀) × (text ≡ xorBytes text₀ (keyStream w n))
+
+abbrev μ-loop : tie.MeasureT-loop
+μ-loop sbox table w text₀ at₀ n₀ text at n = length text₀ + 16 - at
+
+loop-holds : tie.Need-loop-holds Inv-loop μ-loop
+unfolding keyStream
+loop-holds c = (refl, omega arith, refl, sym (xor-nil _))
+
+counter-block-requires : tie.Need-counter-block-requires Inv-loop μ-loop
+counter-block-requires c κs = search needs
+
+encrypt-columns-requires : tie.Need-encrypt-columns-requires Inv-loop μ-loop
+encrypt-columns-requires c κs = search needs
+
+to-block-requires : tie.Need-to-block-requires Inv-loop μ-loop
+to-block-requires c κs = search needs
+
+sub-add-block : tie.Need-sub-add-block Inv-loop μ-loop
+sub-add-block c = omega arith
+
+part-add-block-start : tie.Need-part-add-block-start Inv-loop μ-loop
+part-add-block-start c = omega arith
+
+part-add-block-end : tie.Need-part-add-block-end Inv-loop μ-loop
+part-add-block-end c = omega arith
+
+add-block-requires : tie.Need-add-block-requires Inv-loop μ-loop
+add-block-requires c κs = search needs
+
+add-at : tie.Need-add-at Inv-loop μ-loop
+add-at c = omega arith
+
+add-n : tie.Need-add-n Inv-loop μ-loop
+add-n c = omega arith
+
+loop-less : tie.Need-loop-less Inv-loop μ-loop
+loop-less c = omega arith
+
+loop-again : tie.Need-loop-again Inv-loop μ-loop
+loop-again c =
+    let a = c .before .before .before .before .before .before .before .before .before .before .args in
+    let l = c .before .before .before .before .before .before .before .before .loop in
+    let o = c .before .before .before .before in
+    let d = c .before .before .add-block in (
+      omega arith,
+      omega arith,
+      same-len-mid (l .at) (length (l .text) - l .at) (l .text) (d .last .0) (d .kept .0) ∙ l .inv .2,
+      key-stream-more (now (a .w)) (now (a .text)) (l .text) (l .n) (l .at) (o .to-block .result) (d .last .0) (omega arith) (l .inv .2) (l .inv .0) (l .inv .3) (d .ensures)
+          (o .to-block .ensures ∙ o .before .encrypt-columns .ensures ∙ ap (cipher (now (a .w))) (o .before .before .counter-block .ensures)),
+    )
+
+same-length : tie.Need-same-length Inv-loop μ-loop
+same-length c = c .before .loop .inv .2
+
+returns : tie.Need-returns Inv-loop μ-loop
+unfolding counterMode
+returns c =
+    let a = c .before .before .before .args in
+    let l = c .before .loop in
+    let n : l .n ≡ blocks (length (now (a .text))) = omega arith in
+    l .inv .3 ∙ ap (λ (m : ℕ). xorBytes (now (a .text)) (keyStream (now (a .w)) m)) n
+
+pub add-key-stream-spec : {M : Type 1} → statement M
+add-key-stream-spec =
+    tie.close
+    (tie.spec
+    Inv-loop
+    μ-loop
+    loop-holds
+    counter-block-requires
+    encrypt-columns-requires
+    to-block-requires
+    sub-add-block
+    part-add-block-start
+    part-add-block-end
+    add-block-requires
+    add-at
+    add-n
+    loop-less
+    loop-again
+    same-length
+    returns)

@@ -1,0 +1,58 @@
+-- `sub_bytes` reads four entries of the S-box.
+use mathlib.Core.Path.{_∙_}
+use Prim.Native.Nat.{_/_, _%_}
+use native.Mathlib.Omega.{arith}
+use Rattle.cipher.proofs.WordLaws.{four-eq}
+use Rattle.cipher.proofs.RoundLaws.{s-box-entry}
+use borrow.Author.Needs.{needs}
+use Rattle.cipher.proofs.words.sub_bytes.Statement.{statement}
+use Rattle.cipher.proofs.words.sub_bytes.Tie as tie
+
+cast-from-le-bytes : tie.Need-cast-from-le-bytes
+cast-from-le-bytes c = search needs
+
+element-copy-out-from-le-bytes : tie.Need-element-copy-out-from-le-bytes
+element-copy-out-from-le-bytes c = search needs
+
+cast-from-le-bytes-2 : tie.Need-cast-from-le-bytes-2
+cast-from-le-bytes-2 c = search needs
+
+element-copy-out-from-le-bytes-2 : tie.Need-element-copy-out-from-le-bytes-2
+element-copy-out-from-le-bytes-2 c = search needs
+
+cast-from-le-bytes-3 : tie.Need-cast-from-le-bytes-3
+cast-from-le-bytes-3 c = search needs
+
+element-copy-out-from-le-bytes-3 : tie.Need-element-copy-out-from-le-bytes-3
+element-copy-out-from-le-bytes-3 c = search needs
+
+cast-from-le-bytes-4 : tie.Need-cast-from-le-bytes-4
+cast-from-le-bytes-4 c = search needs
+
+element-copy-out-from-le-bytes-4 : tie.Need-element-copy-out-from-le-bytes-4
+element-copy-out-from-le-bytes-4 c = search needs
+
+from-le-bytes-requires : tie.Need-from-le-bytes-requires
+from-le-bytes-requires c κs = search needs
+
+returns : tie.Need-returns
+returns c =
+    let s = c .before .before .before .before .before in
+    c .from-le-bytes .ensures
+    ∙ four-eq (s-box-entry (s .pre) (s .args .a % 256) (omega arith)) (s-box-entry (s .pre) (s .args .b / 256 % 256) (omega arith))
+    (s-box-entry (s .pre) (s .args .c / 65536 % 256) (omega arith)) (s-box-entry (s .pre) (s .args .d / 16777216 % 256) (omega arith))
+
+pub sub-bytes-spec : {M : Type 1} → statement M
+sub-bytes-spec =
+    tie.close
+    (tie.spec
+    cast-from-le-bytes
+    element-copy-out-from-le-bytes
+    cast-from-le-bytes-2
+    element-copy-out-from-le-bytes-2
+    cast-from-le-bytes-3
+    element-copy-out-from-le-bytes-3
+    cast-from-le-bytes-4
+    element-copy-out-from-le-bytes-4
+    from-le-bytes-requires
+    returns)

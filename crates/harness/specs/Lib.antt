@@ -1,0 +1,2 @@
+-- What the entry points of the test harness answer.
+pub mod Answer

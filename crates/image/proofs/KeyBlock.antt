@@ -11,12 +11,15 @@ use lib.Seq.{drop-append-add, take-at, take-all, length-take-le}
 use borrow.Rule.Slice.PartMut.{putMid}
 use Rattle.base.specs.Part.{part}
 use Rattle.base.proofs.Parts.{part-length, part-part}
-use Rattle.page.specs.Frame.{pageSize, headerSize}
+use Rattle.page.specs.Frame.{pageSize, headerSize, payloadSize}
 use Rattle.page.specs.Entry.{usedLetter}
-use Rattle.page.specs.Key.{keySize, keysInPage, positions, keyPage, keySlot, keyInPage, keyInNoise}
-use Rattle.image.specs.Size.{blockSize}
+use Rattle.page.specs.Key.{keySize, keysInPage, keysInBlock, positions, keyPage, keySlot, keyInPage, keyInNoise}
+use Rattle.page.specs.Page.{keysPage}
+use Rattle.page.proofs.Pages.{keys-length}
+use Rattle.image.specs.Size.{blockSize, pagesInBlock}
 use Rattle.image.specs.Look.{blockAt}
 use Rattle.image.specs.Block.{keyInBlock, keysFrom, renewedKey}
+use Rattle.image.proofs.Step.{block-length}
 
 -- ---- the key of a position in a key block of the image
 pub key-in-block-at : (img : List ℕ) (b p : ℕ) → keyInPage (part img (b * blockSize + pageSize * keyPage p) pageSize) (keySlot p) ≡ keyInBlock (blockAt img b) p
@@ -44,12 +47,16 @@ renewed-length old letters noise p l m h = go (eqb (getD letters p 0) usedLetter
     go true = key-in-block-length old p l
     go false = key-in-noise-length noise p m h
 
+pub renewed-at-length : (img letters noise : List ℕ) (old : ℕ) → old * blockSize + blockSize ≤ length img → length noise ≡ keySize * positions
+    → (p : ℕ) → p < positions → length (renewedKey (blockAt img old) letters noise p) ≡ keySize
+renewed-at-length img letters noise old f m p h = renewed-length (blockAt img old) letters noise p (block-length img old f) m h
+
 -- ---- keys in a row
-pub keys-length : (key : ℕ → List ℕ) (n p : ℕ) → ((j : ℕ) → p ≤ j → j < p + n → length (key j) ≡ keySize) → length (keysFrom key n p) ≡ keySize * n
+pub keys-from-length : (key : ℕ → List ℕ) (n p : ℕ) → ((j : ℕ) → p ≤ j → j < p + n → length (key j) ≡ keySize) → length (keysFrom key n p) ≡ keySize * n
 unfolding keysFrom
-keys-length key zero p h = refl
-keys-length key (suc n) p h =
-    simp length-append (omega (arith, h p (omega arith) (omega arith), keys-length key n (suc p) (λ j a b. h j (omega arith) (omega arith))))
+keys-from-length key zero p h = refl
+keys-from-length key (suc n) p h =
+    simp length-append (omega (arith, h p (omega arith) (omega arith), keys-from-length key n (suc p) (λ j a b. h j (omega arith) (omega arith))))
 
 -- the key at a place of the row
 pub keys-at : (key : ℕ → List ℕ) (n p j : ℕ) → ((j : ℕ) → p ≤ j → j < p + n → length (key j) ≡ keySize) → j < n
@@ -91,3 +98,15 @@ module _ (key : ℕ → List ℕ) (n p j : ℕ) (dst : List ℕ) where
   keys-done h l =
       let i : n - j ≡ 0 = omega arith in
       rw (i, append-nil, take-all (keySize * j) dst (omega arith))
+
+-- ---- the pages of a key block
+-- page i of key block 0 or 1 of an epoch
+abbrev pub keyBlockPage : ℕ → ℕ → (ℕ → List ℕ) → ℕ → List ℕ
+keyBlockPage epoch block key i = keysPage epoch block i (keysFrom key keysInPage (keysInBlock * block + keysInPage * i))
+
+module _ (epoch block : ℕ) (key : ℕ → List ℕ) (sizes : (p : ℕ) → p < positions → length (key p) ≡ keySize) (h : block < 2) where
+  keys-size : (i : ℕ) → i < pagesInBlock → length (keysFrom key keysInPage (keysInBlock * block + keysInPage * i)) ≡ payloadSize
+  keys-size i l = keys-from-length key keysInPage (keysInBlock * block + keysInPage * i) (λ j a b. sizes j (omega arith))
+
+  pub key-page-size : (i : ℕ) → i < pagesInBlock → length (keyBlockPage epoch block key i) ≡ pageSize
+  key-page-size i l = keys-length epoch block i (keysFrom key keysInPage (keysInBlock * block + keysInPage * i)) (keys-size i l)

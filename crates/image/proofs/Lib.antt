@@ -5,15 +5,15 @@
 --   Plays     steps in a row, whole or cut
 --   Runs      steps under a power budget
 --   Rows      pages of a block that are programmed in a row
---   Pages     each kind of page has 256 bytes
 --   Lent      a part of the image that is lent to the writer of a step
---   KeyBlock  the keys of a key block, read and renewed
+--   KeyBlock  the keys of a key block and its pages
+--   CommitBlock  the pages of a commit block
 pub mod Step
 pub mod Empties
 pub mod Looks
 pub mod Plays
 pub mod Runs
 pub mod Rows
-pub mod Pages
 pub mod Lent
 pub mod KeyBlock
+pub mod CommitBlock

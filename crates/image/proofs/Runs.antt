@@ -166,6 +166,11 @@ pub block-act-other : (s : Step) (d : Device) (b : ℕ) → Inside (length (d .i
 block-act-other s d b ins o =
     act-image (λ (img : List ℕ). blockAt img b ≡ blockAt (d .image) b) s d ins refl (λ k. block-upTo-other k s (d .image) ins b o)
 
+-- the same of a step that code did
+pub block-done-other : (s : Step) (p q : Power) (img img' : List ℕ) (b : ℕ) → device q img' ≡ act s (device p img) → Inside (length img) s → (blockOf s ≡ b → ⊥)
+    → blockAt img' b ≡ blockAt img b
+block-done-other s p q img img' b e ins o = ap (λ (d : Device). blockAt (d .image) b) e ∙ block-act-other s (device p img) b ins o
+
 pub run-length : (ss : List Step) (d : Device) → Each (Inside (length (d .image))) ss → length (run ss d .image) ≡ length (d .image)
 unfolding run
 run-length [] d i = refl

@@ -1,25 +1,30 @@
 -- The keys of a key block: where they stand, how many bytes they have, and keys in a row.
 use Prim.Native.Nat.{ℕ, zero, suc, _+_, _-_, _*_, _/_, _%_, _<_, _≤_}
 use native.Mathlib.Omega.{arith}
-use native.Mathlib.Numerals.{add-one}
+use native.Mathlib.Nat.{mul-comm}
 use mathlib.Core.Path.{_≡_, refl, sym, ap, subst, _∙_}
 use mathlib.Core.Bool.{Bool, true, false, cond}
 use mathlib.Core.List.{List, _++_, append-assoc, append-nil}
 use lib.Dec.{eqb}
 use lib.ListN.{length, getD, take, drop, length-append}
 use lib.Seq.{drop-append-add, take-at, take-all, length-take-le}
+use borrow.Author.Tests.{eq-eqb, ne-eqb}
 use borrow.Rule.Slice.PartMut.{putMid}
 use Rattle.base.specs.Part.{part}
+use Rattle.base.specs.Each.{Each}
 use Rattle.base.proofs.Parts.{part-length, part-part}
+use Rattle.base.proofs.Folds.{length-listFrom, listFrom-agree}
 use Rattle.page.specs.Frame.{pageSize, headerSize, payloadSize}
 use Rattle.page.specs.Entry.{usedLetter}
-use Rattle.page.specs.Key.{keySize, keysInPage, keysInBlock, positions, keyPage, keySlot, keyInPage, keyInNoise}
+use Rattle.page.specs.Key.{keySize, keysInPage, keysInBlock, positions, keyBlock, keyPage, keySlot, keyInPage, keyInNoise}
 use Rattle.page.specs.Page.{keysPage}
-use Rattle.page.proofs.Pages.{keys-length}
+use Rattle.page.proofs.Pages.{keys-length, key-back}
 use Rattle.image.specs.Size.{blockSize, pagesInBlock}
 use Rattle.image.specs.Look.{blockAt}
-use Rattle.image.specs.Block.{keyInBlock, keysFrom, renewedKey}
-use Rattle.image.proofs.Step.{block-length}
+use Rattle.image.specs.Step.{program, Inside, playAll}
+use Rattle.image.specs.Block.{keyInBlock, keysFrom, renewedKey, keyBlockSteps}
+use Rattle.image.proofs.Step.{block-length, page-of-block}
+use Rattle.image.proofs.Rows.{rowSteps, row-inside, row-page-done}
 
 -- ---- the key of a position in a key block of the image
 pub key-in-block-at : (img : List ℕ) (b p : ℕ) → keyInPage (part img (b * blockSize + pageSize * keyPage p) pageSize) (keySlot p) ≡ keyInBlock (blockAt img b) p
@@ -99,6 +104,16 @@ module _ (key : ℕ → List ℕ) (n p j : ℕ) (dst : List ℕ) where
       let i : n - j ≡ 0 = omega arith in
       rw (i, append-nil, take-all (keySize * j) dst (omega arith))
 
+-- ---- a key of the next copy: the old one of a used position, the noise of any other
+module _ (old letters noise : List ℕ) (p : ℕ) where
+  pub renewed-used : getD letters p 0 ≡ usedLetter → renewedKey old letters noise p ≡ keyInBlock old p
+  unfolding renewedKey
+  renewed-used e = rw (eq-eqb _ _ e)
+
+  pub renewed-other : (getD letters p 0 ≡ usedLetter → ⊥) → renewedKey old letters noise p ≡ keyInNoise noise p
+  unfolding renewedKey
+  renewed-other e = rw (ne-eqb _ _ e)
+
 -- ---- the pages of a key block
 -- page i of key block 0 or 1 of an epoch
 abbrev pub keyBlockPage : ℕ → ℕ → (ℕ → List ℕ) → ℕ → List ℕ
@@ -110,3 +125,40 @@ module _ (epoch block : ℕ) (key : ℕ → List ℕ) (sizes : (p : ℕ) → p <
 
   pub key-page-size : (i : ℕ) → i < pagesInBlock → length (keyBlockPage epoch block key i) ≡ pageSize
   key-page-size i l = keys-length epoch block i (keysFrom key keysInPage (keysInBlock * block + keysInPage * i)) (keys-size i l)
+
+  pub key-block-inside : (n b : ℕ) → b * blockSize + blockSize ≤ n → Each (Inside n) (keyBlockSteps epoch block b key)
+  unfolding keyBlockSteps
+  key-block-inside n b f = row-inside b (keyBlockPage epoch block key) key-page-size n pagesInBlock 0 f (omega arith)
+
+  -- the key of a position of the block, read back
+  pub key-block-key : (b p : ℕ) (img : List ℕ) → b * blockSize + blockSize ≤ length img → keyBlock p ≡ block
+      → keyInBlock (blockAt (playAll (keyBlockSteps epoch block b key) img) b) p ≡ key p
+  unfolding keyBlockSteps keyInBlock
+  key-block-key b p img f e =
+      let i = keyPage p in
+      let row = rowSteps b (keyBlockPage epoch block key) pagesInBlock 0 in
+      let page : part (blockAt (playAll row img) b) (pageSize * i) pageSize ≡ keyBlockPage epoch block key i =
+          ap (λ (a : ℕ). part (blockAt (playAll row img) b) a pageSize) (mul-comm pageSize i)
+          ∙ sym (page-of-block (playAll row img) b i (omega arith))
+          ∙ row-page-done b (keyBlockPage epoch block key) key-page-size pagesInBlock img (omega arith) f i (omega arith) in
+      ap (λ (xs : List ℕ). keyInPage xs (keySlot p)) page
+      ∙ key-back epoch block i (keysFrom key keysInPage (keysInBlock * block + keysInPage * i)) (keySlot p) (keys-size i (omega arith)) (omega arith)
+      ∙ keys-at key keysInPage (keysInBlock * block + keysInPage * i) (keySlot p) (λ j a b. sizes j (omega arith)) (omega arith)
+      ∙ ap key (omega arith)
+
+-- keys that agree at the block's positions make the same block
+pub key-block-agree : (epoch block b : ℕ) (key key' : ℕ → List ℕ) → ((p : ℕ) → keyBlock p ≡ block → key p ≡ key' p)
+    → keyBlockSteps epoch block b key ≡ keyBlockSteps epoch block b key'
+unfolding keyBlockSteps
+key-block-agree epoch block b key key' h =
+    listFrom-agree _ _ pagesInBlock 0
+    (λ i l m. ap (λ (keys : List ℕ). program (b * pagesInBlock + i) (keysPage epoch block i keys))
+    (keys-agree key key' keysInPage (keysInBlock * block + keysInPage * i) (λ j c d. h j (omega arith))))
+
+pub key-block-count : (epoch block b : ℕ) (key : ℕ → List ℕ) → length (keyBlockSteps epoch block b key) ≡ pagesInBlock
+unfolding keyBlockSteps
+key-block-count epoch block b key = length-listFrom _ pagesInBlock 0
+
+pub key-block-steps : (epoch block b : ℕ) (key : ℕ → List ℕ) → keyBlockSteps epoch block b key ≡ rowSteps b (keyBlockPage epoch block key) pagesInBlock 0
+unfolding keyBlockSteps
+key-block-steps epoch block b key = refl

@@ -1,8 +1,8 @@
 -- The keys of a key block: where they stand, how many bytes they have, and keys in a row.
-use Prim.Native.Nat.{ℕ, zero, suc, _+_, _-_, _*_, _/_, _%_, _<_, _≤_}
+use Prim.Native.Nat.{ℕ, zero, suc, _+_, _-_, _*_, _<_, _≤_}
 use native.Mathlib.Omega.{arith}
 use native.Mathlib.Nat.{mul-comm}
-use mathlib.Core.Path.{_≡_, refl, sym, ap, subst, _∙_}
+use mathlib.Core.Path.{_≡_, refl, sym, ap, _∙_}
 use mathlib.Core.Bool.{Bool, true, false, cond}
 use mathlib.Core.List.{List, _++_, append-assoc, append-nil}
 use lib.Dec.{eqb}
@@ -86,7 +86,7 @@ keys-agree key key' (suc n) p h =
 module _ (key : ℕ → List ℕ) (n p j : ℕ) (dst : List ℕ) where
   pub keys-next : (zs : List ℕ) → j < n → keySize * n ≤ length dst → zs ≡ key (p + j) → length zs ≡ keySize
       → take (keySize * j) dst ++ keysFrom key (n - j) (p + j)
-          ≡ take (keySize * (j + 1)) (putMid (keySize * j) ((keySize * j + keySize) - keySize * j) dst zs) ++ keysFrom key (n - (j + 1)) (p + (j + 1))
+      ≡ take (keySize * (j + 1)) (putMid (keySize * j) ((keySize * j + keySize) - keySize * j) dst zs) ++ keysFrom key (n - (j + 1)) (p + (j + 1))
   unfolding keysFrom
   keys-next zs h f e l =
       let front = take (keySize * j) dst in
@@ -95,7 +95,7 @@ module _ (key : ℕ → List ℕ) (n p j : ℕ) (dst : List ℕ) where
       let m : suc (p + j) ≡ p + (j + 1) = omega arith in
       let t : length front ≡ keySize * j = length-take-le (keySize * j) dst (omega arith) in
       let q : take (keySize * (j + 1)) (front ++ (zs ++ rest)) ≡ front ++ zs =
-          rw (← append-assoc front zs rest) (take-at (front ++ zs) rest (keySize * (j + 1)) (length-append front zs ∙ omega arith)) in
+      rw (← append-assoc front zs rest) (take-at (front ++ zs) rest (keySize * (j + 1)) (length-append front zs ∙ omega arith)) in
       rw (q, i, m, e) (sym (append-assoc front (key (p + j)) (keysFrom key (n - (j + 1)) (p + (j + 1)))))
 
   pub keys-done : n ≤ j → length dst ≡ keySize * j → take (keySize * j) dst ++ keysFrom key (n - j) (p + j) ≡ dst
@@ -138,9 +138,9 @@ module _ (epoch block : ℕ) (key : ℕ → List ℕ) (sizes : (p : ℕ) → p <
       let i = keyPage p in
       let row = rowSteps b (keyBlockPage epoch block key) pagesInBlock 0 in
       let page : part (blockAt (playAll row img) b) (pageSize * i) pageSize ≡ keyBlockPage epoch block key i =
-          ap (λ (a : ℕ). part (blockAt (playAll row img) b) a pageSize) (mul-comm pageSize i)
-          ∙ sym (page-of-block (playAll row img) b i (omega arith))
-          ∙ row-page-done b (keyBlockPage epoch block key) key-page-size pagesInBlock img (omega arith) f i (omega arith) in
+      ap (λ (a : ℕ). part (blockAt (playAll row img) b) a pageSize) (mul-comm pageSize i)
+      ∙ sym (page-of-block (playAll row img) b i (omega arith))
+      ∙ row-page-done b (keyBlockPage epoch block key) key-page-size pagesInBlock img (omega arith) f i (omega arith) in
       ap (λ (xs : List ℕ). keyInPage xs (keySlot p)) page
       ∙ key-back epoch block i (keysFrom key keysInPage (keysInBlock * block + keysInPage * i)) (keySlot p) (keys-size i (omega arith)) (omega arith)
       ∙ keys-at key keysInPage (keysInBlock * block + keysInPage * i) (keySlot p) (λ j a b. sizes j (omega arith)) (omega arith)

@@ -3,12 +3,11 @@ use Prim.Native.Nat.{ℕ, zero, suc, _+_, _-_, _<_, _≤_}
 use native.Mathlib.Omega.{arith}
 use native.Mathlib.Nat.{sub-zero}
 use native.Mathlib.Decide.{ℕ-discrete, decLt}
-use native.Mathlib.Numerals.{sub-one}
 use mathlib.Core.Path.{_≡_, refl, sym, ap, subst, _∙_}
 use mathlib.Core.Bool.{Bool, true, false}
 use mathlib.Core.List.{List, [], _∷_, _++_}
 use lib.ListN.{length}
-use lib.Dec.{eqb, leb}
+use lib.Dec.{leb}
 use borrow.Author.Tests.{eq-eqb, ne-eqb, le-leb, lt-leb}
 use Rattle.base.specs.Fold.{listFrom}
 use Rattle.base.specs.Each.{Each}
@@ -137,7 +136,7 @@ run-bind (s ∷ xs) f p img = go (p .on) refl (ℕ-discrete (p .steps) 0) (run-b
 
     go : (b : Bool) → p .on ≡ b → Dec (p .steps ≡ 0)
         → run (f (run xs (device (powerFor (p .steps - 1) (p .bytes)) (whole s img)) .image)) (run xs (device (powerFor (p .steps - 1) (p .bytes)) (whole s img)))
-            ≡ run later (device (powerFor (p .steps - 1) (p .bytes)) (whole s img))
+        ≡ run later (device (powerFor (p .steps - 1) (p .bytes)) (whole s img))
         → run (f (run xs (act s (device p img)) .image)) (run xs (act s (device p img))) ≡ run later (act s (device p img))
     go false e z r = rw (act-off s p img e) (dark xs later f p img e)
     go true e (yes z) r = rw (act-cut s p img e z) (dark xs later f (spent (p .bytes)) (upTo (p .bytes) s img) refl)

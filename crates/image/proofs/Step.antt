@@ -1,12 +1,12 @@
 -- What one step of the flash, whole or cut, leaves of the image's length, of each page and of each block.
-use Prim.Native.Nat.{ℕ, zero, suc, _+_, _-_, _*_, _/_, _%_, _<_, _≤_, min}
+use Prim.Native.Nat.{ℕ, _+_, _-_, _*_, _/_, _%_, _<_, _≤_, min}
 use native.Mathlib.Omega.{arith}
 use native.Mathlib.Nat.{add-zero}
 use native.Mathlib.Decide.{decLe, decLt}
 use mathlib.Core.Path.{_≡_, refl, sym, ap, subst, _∙_}
-use mathlib.Core.List.{List, [], _∷_, _++_, append-nil}
-use lib.ListN.{length, getD, take, drop, replicate, length-append, length-take, length-drop, length-replicate, getD-replicate, List·getD-append}
-use lib.Seq.{drop-length, take-all, getD-append-add, getD-drop, ext-getD}
+use mathlib.Core.List.{List, _++_, append-nil}
+use lib.ListN.{length, getD, drop, replicate, length-append, length-drop, length-replicate, getD-replicate, List·getD-append}
+use lib.Seq.{drop-length, getD-append-add, getD-drop, ext-getD}
 use Rattle.base.specs.Part.{part, splice}
 use Rattle.base.proofs.Parts.{part-length, part-at, part-part, part-splice, part-splice-before, part-splice-after, part-splice-within, splice-length}
 use Rattle.page.specs.Frame.{pageSize, erased}

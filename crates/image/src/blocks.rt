@@ -41,7 +41,17 @@ pub fn erase_all(image: &mut [u8], p: Power) -> Power
 }
 
 // Programs page i of block b with the next keys of key block 0 or 1, whose last copy is block old.
-fn program_next_keys(image: &mut [u8], b: usize, epoch: u32, block: u32, i: usize, old: usize, letters: &[u8], noise: &[u8], p: Power) -> Power
+fn program_next_keys(
+    image: &mut [u8],
+    b: usize,
+    epoch: u32,
+    block: u32,
+    i: usize,
+    old: usize,
+    letters: &[u8],
+    noise: &[u8],
+    p: Power,
+) -> Power
     requires { ⌜ (b * blockSize + blockSize ≤ length (now image)) × (old * blockSize + blockSize ≤ length (now image)) × (block < 2) × (i < pagesInBlock) ⌝ }
     requires { ⌜ (length (now letters) ≡ positions) × (length (now noise) ≡ keySize * positions) ⌝ }
     ensures { λ r. ⌜ device r (now (image .exit)) ≡ act (program (b * pagesInBlock + i) (keysPage epoch block i (keysFrom (renewedKey (blockAt (now (image .entry)) old) (now (letters .entry)) (now (noise .entry))) keysInPage (keysInBlock * block + keysInPage * i)))) (device p (now (image .entry))) ⌝ }
@@ -49,11 +59,28 @@ fn program_next_keys(image: &mut [u8], b: usize, epoch: u32, block: u32, i: usiz
     let mut next = [0u8; 224];
     let first = KEYS_IN_BLOCK * block as usize + KEYS_IN_PAGE * i;
     keys::renew_keys(&mut next, image, old, letters, noise, first);
-    steps::program_key_page(image, b * PAGES_IN_BLOCK + i, epoch, block, i as u32, &next, p)
+    steps::program_key_page(
+        image,
+        b * PAGES_IN_BLOCK + i,
+        epoch,
+        block,
+        i as u32,
+        &next,
+        p,
+    )
 }
 
 // Programs block b with key block 0 or 1: the keys of used positions from its last copy, block old, all others from noise.
-pub fn program_key_block(image: &mut [u8], b: usize, epoch: u32, block: u32, old: usize, letters: &[u8], noise: &[u8], p: Power) -> Power
+pub fn program_key_block(
+    image: &mut [u8],
+    b: usize,
+    epoch: u32,
+    block: u32,
+    old: usize,
+    letters: &[u8],
+    noise: &[u8],
+    p: Power,
+) -> Power
     requires { ⌜ (b * blockSize + blockSize ≤ length (now image)) × (old * blockSize + blockSize ≤ length (now image)) × (block < 2) × (b ≡ old → ⊥) ⌝ }
     requires { ⌜ (length (now letters) ≡ positions) × (length (now noise) ≡ keySize * positions) ⌝ }
     ensures { λ r. ⌜ device r (now (image .exit)) ≡ run (keyBlockSteps epoch block b (renewedKey (blockAt (now (image .entry)) old) (now (letters .entry)) (now (noise .entry)))) (device p (now (image .entry))) ⌝ }
@@ -68,18 +95,43 @@ pub fn program_key_block(image: &mut [u8], b: usize, epoch: u32, block: u32, old
 }
 
 // Programs page i of block b with part i of a commit.
-fn program_part(image: &mut [u8], b: usize, epoch: u32, covered: u32, i: usize, map: &[u16], letters: &[u8], p: Power) -> Power
+fn program_part(
+    image: &mut [u8],
+    b: usize,
+    epoch: u32,
+    covered: u32,
+    i: usize,
+    map: &[u16],
+    letters: &[u8],
+    p: Power,
+) -> Power
     requires { ⌜ (b * blockSize + blockSize ≤ length (now image)) × (i < parts) ⌝ }
     requires { ⌜ (length (now map) ≡ places + places) × (length (now letters) ≡ positions) ⌝ }
     ensures { λ r. ⌜ device r (now (image .exit)) ≡ act (program (b * pagesInBlock + i) (commitPage epoch i covered (commitPayload (now (map .entry)) (now (letters .entry)) i))) (device p (now (image .entry))) ⌝ }
 {
     let mut payload = [0u8; 224];
     entries::write_commit_payload(&mut payload, map, letters, i);
-    steps::program_commit_page(image, b * PAGES_IN_BLOCK + i, epoch, i as u32, covered, &payload, p)
+    steps::program_commit_page(
+        image,
+        b * PAGES_IN_BLOCK + i,
+        epoch,
+        i as u32,
+        covered,
+        &payload,
+        p,
+    )
 }
 
 // Programs block b with a commit of an epoch and a covered sequence, from map and letters.
-pub fn program_commit_block(image: &mut [u8], b: usize, epoch: u32, covered: u32, map: &[u16], letters: &[u8], p: Power) -> Power
+pub fn program_commit_block(
+    image: &mut [u8],
+    b: usize,
+    epoch: u32,
+    covered: u32,
+    map: &[u16],
+    letters: &[u8],
+    p: Power,
+) -> Power
     requires { ⌜ b * blockSize + blockSize ≤ length (now image) ⌝ }
     requires { ⌜ (length (now map) ≡ places + places) × (length (now letters) ≡ positions) ⌝ }
     ensures { λ r. ⌜ device r (now (image .exit)) ≡ run (commitBlockSteps epoch covered b (now (map .entry)) (now (letters .entry))) (device p (now (image .entry))) ⌝ }

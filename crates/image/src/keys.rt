@@ -46,7 +46,14 @@ fn renew_key(dst: &mut [u8], image: &[u8], old: usize, letters: &[u8], noise: &[
 }
 
 // Writes the next keys of a key page, the positions from first on.
-pub fn renew_keys(dst: &mut [u8], image: &[u8], old: usize, letters: &[u8], noise: &[u8], first: usize)
+pub fn renew_keys(
+    dst: &mut [u8],
+    image: &[u8],
+    old: usize,
+    letters: &[u8],
+    noise: &[u8],
+    first: usize,
+)
     requires { ⌜ (length (now dst) ≡ payloadSize) × (old * blockSize + blockSize ≤ length (now image)) ⌝ }
     requires { ⌜ (length (now letters) ≡ positions) × (length (now noise) ≡ keySize * positions) × (first + keysInPage ≤ positions) ⌝ }
     ensures { λ _. ⌜ now (dst .exit) ≡ keysFrom (renewedKey (blockAt (now (image .entry)) old) (now (letters .entry)) (now (noise .entry))) keysInPage first ⌝ }
@@ -54,7 +61,14 @@ pub fn renew_keys(dst: &mut [u8], image: &[u8], old: usize, letters: &[u8], nois
     let mut j = 0;
     while j < KEYS_IN_PAGE {
         let at = KEY_SIZE * j;
-        renew_key(&mut dst[at..at + KEY_SIZE], image, old, letters, noise, first + j);
+        renew_key(
+            &mut dst[at..at + KEY_SIZE],
+            image,
+            old,
+            letters,
+            noise,
+            first + j,
+        );
         j += 1;
     }
 }

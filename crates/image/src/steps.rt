@@ -70,7 +70,17 @@ pub fn erase_block(image: &mut [u8], b: usize, p: Power) -> Power
 }
 
 // Programs page g with a node.
-pub fn program_node(image: &mut [u8], g: usize, sequence: u32, file: u32, offset: u32, position: u32, key: [u8; 16], payload: &[u8], p: Power) -> Power
+pub fn program_node(
+    image: &mut [u8],
+    g: usize,
+    sequence: u32,
+    file: u32,
+    offset: u32,
+    position: u32,
+    key: [u8; 16],
+    payload: &[u8],
+    p: Power,
+) -> Power
     requires { ⌜ (g * pageSize + pageSize ≤ length (now image)) × (length (now payload) ≡ payloadSize) ⌝ }
     ensures { λ r. ⌜ device r (now (image .exit)) ≡ act (program g (nodePage sequence file offset position key (now (payload .entry)))) (device p (now (image .entry))) ⌝ }
 {
@@ -78,12 +88,28 @@ pub fn program_node(image: &mut [u8], g: usize, sequence: u32, file: u32, offset
         return p;
     }
     let start = g * PAGE_SIZE;
-    writers::write_node(&mut image[start..start + PAGE_SIZE], sequence, file, offset, position, key, payload, reach_of(p));
+    writers::write_node(
+        &mut image[start..start + PAGE_SIZE],
+        sequence,
+        file,
+        offset,
+        position,
+        key,
+        payload,
+        reach_of(p),
+    );
     after_step(p)
 }
 
 // Programs page g with a cut-off.
-pub fn program_cut_off(image: &mut [u8], g: usize, sequence: u32, file: u32, offset: u32, p: Power) -> Power
+pub fn program_cut_off(
+    image: &mut [u8],
+    g: usize,
+    sequence: u32,
+    file: u32,
+    offset: u32,
+    p: Power,
+) -> Power
     requires { ⌜ g * pageSize + pageSize ≤ length (now image) ⌝ }
     ensures { λ r. ⌜ device r (now (image .exit)) ≡ act (program g (cutOffPage sequence file offset)) (device p (now (image .entry))) ⌝ }
 {
@@ -91,12 +117,26 @@ pub fn program_cut_off(image: &mut [u8], g: usize, sequence: u32, file: u32, off
         return p;
     }
     let start = g * PAGE_SIZE;
-    writers::write_cut_off(&mut image[start..start + PAGE_SIZE], sequence, file, offset, reach_of(p));
+    writers::write_cut_off(
+        &mut image[start..start + PAGE_SIZE],
+        sequence,
+        file,
+        offset,
+        reach_of(p),
+    );
     after_step(p)
 }
 
 // Programs page g as page i of key block 0 or 1, with its keys.
-pub fn program_key_page(image: &mut [u8], g: usize, epoch: u32, block: u32, i: u32, keys: &[u8], p: Power) -> Power
+pub fn program_key_page(
+    image: &mut [u8],
+    g: usize,
+    epoch: u32,
+    block: u32,
+    i: u32,
+    keys: &[u8],
+    p: Power,
+) -> Power
     requires { ⌜ (g * pageSize + pageSize ≤ length (now image)) × (length (now keys) ≡ payloadSize) ⌝ }
     ensures { λ r. ⌜ device r (now (image .exit)) ≡ act (program g (keysPage epoch block i (now (keys .entry)))) (device p (now (image .entry))) ⌝ }
 {
@@ -104,12 +144,27 @@ pub fn program_key_page(image: &mut [u8], g: usize, epoch: u32, block: u32, i: u
         return p;
     }
     let start = g * PAGE_SIZE;
-    writers::write_key_page(&mut image[start..start + PAGE_SIZE], epoch, block, i, keys, reach_of(p));
+    writers::write_key_page(
+        &mut image[start..start + PAGE_SIZE],
+        epoch,
+        block,
+        i,
+        keys,
+        reach_of(p),
+    );
     after_step(p)
 }
 
 // Programs page g as part i of a commit.
-pub fn program_commit_page(image: &mut [u8], g: usize, epoch: u32, i: u32, covered: u32, payload: &[u8], p: Power) -> Power
+pub fn program_commit_page(
+    image: &mut [u8],
+    g: usize,
+    epoch: u32,
+    i: u32,
+    covered: u32,
+    payload: &[u8],
+    p: Power,
+) -> Power
     requires { ⌜ (g * pageSize + pageSize ≤ length (now image)) × (length (now payload) ≡ payloadSize) ⌝ }
     ensures { λ r. ⌜ device r (now (image .exit)) ≡ act (program g (commitPage epoch i covered (now (payload .entry)))) (device p (now (image .entry))) ⌝ }
 {
@@ -117,6 +172,13 @@ pub fn program_commit_page(image: &mut [u8], g: usize, epoch: u32, i: u32, cover
         return p;
     }
     let start = g * PAGE_SIZE;
-    writers::write_commit_page(&mut image[start..start + PAGE_SIZE], epoch, i, covered, payload, reach_of(p));
+    writers::write_commit_page(
+        &mut image[start..start + PAGE_SIZE],
+        epoch,
+        i,
+        covered,
+        payload,
+        reach_of(p),
+    );
     after_step(p)
 }

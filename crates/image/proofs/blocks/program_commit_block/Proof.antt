@@ -18,7 +18,7 @@ Inv-loop image₀ b epoch covered map letters q₀ i₀ image q i =
     (i ≤ parts)
     × (length image ≡ length image₀)
     × (run (rowSteps b (commitBlockPage epoch covered map letters) parts 0) (device q₀ image₀)
-        ≡ run (rowSteps b (commitBlockPage epoch covered map letters) (parts - i) i) (device q image))
+    ≡ run (rowSteps b (commitBlockPage epoch covered map letters) (parts - i) i) (device q image))
 
 abbrev μ-loop : tie.MeasureT-loop
 μ-loop image₀ b epoch covered map letters q₀ i₀ image q i = parts - i

@@ -21,7 +21,7 @@ Inv-loop image₀ b epoch block old letters noise q₀ i₀ image q i =
     × (length image ≡ length image₀)
     × (blockAt image old ≡ blockAt image₀ old)
     × (run (rowSteps b (keyBlockPage epoch block (renewedKey (blockAt image₀ old) letters noise)) pagesInBlock 0) (device q₀ image₀)
-        ≡ run (rowSteps b (keyBlockPage epoch block (renewedKey (blockAt image₀ old) letters noise)) (pagesInBlock - i) i) (device q image))
+    ≡ run (rowSteps b (keyBlockPage epoch block (renewedKey (blockAt image₀ old) letters noise)) (pagesInBlock - i) i) (device q image))
 
 abbrev μ-loop : tie.MeasureT-loop
 μ-loop image₀ b epoch block old letters noise q₀ i₀ image q i = pagesInBlock - i
@@ -46,7 +46,7 @@ loop-again c =
     let pre = c .before .before .before .before .before .before .before .before .before .pre in
     let e = rw (l .inv .2) at (w .ensures) in
     let size = key-page-size (a .epoch) (a .block) (renewedKey (blockAt (now (a .image)) (a .old)) (now (a .letters)) (now (a .noise)))
-        (renewed-at-length (now (a .image)) (now (a .letters)) (now (a .noise)) (a .old) (omega arith) (omega arith)) (omega arith) (l .i) (omega arith) in (
+    (renewed-at-length (now (a .image)) (now (a .letters)) (now (a .noise)) (a .old) (omega arith) (omega arith)) (omega arith) (l .i) (omega arith) in (
       omega arith,
       w .kept .0 ∙ l .inv .1,
       block-done-other _ (l .q) (w .result) (l .image) (w .last .0) (a .old) e (omega arith, size) (λ f. omega arith) ∙ l .inv .2,

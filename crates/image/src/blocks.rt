@@ -1,7 +1,9 @@
 // Whole blocks: all erased, and a key block and a commit block programmed page by page from page 0.
 use crate::Power;
 use crate::keys;
+use crate::look;
 use crate::steps;
+use page::Frame;
 use page::entries;
 ghost use mathlib.Core.Path.{_≡_};
 ghost use Prim.Native.Nat.{_≤_, _<_, _+_, _*_};
@@ -16,10 +18,7 @@ ghost use Rattle.image.specs.Step.{program};
 ghost use Rattle.image.specs.Power.{device, act, run};
 ghost use Rattle.image.specs.Block.{erasesFrom, keysFrom, renewedKey, keyBlockSteps, commitBlockSteps};
 
-const BLOCK_SIZE: usize = 4096;
-
-const PAGES_IN_BLOCK: usize = 16;
-
+// A key page holds 14 keys, a key block 224; a commit has 10 parts.
 const KEYS_IN_PAGE: usize = 14;
 
 const KEYS_IN_BLOCK: usize = 224;
@@ -30,7 +29,7 @@ const PARTS: usize = 10;
 pub fn erase_all(image: &mut [u8], p: Power) -> Power
     ensures { λ r. ⌜ device r (now (image .exit)) ≡ run (erasesFrom (blocks (now (image .entry))) 0) (device p (now (image .entry))) ⌝ }
 {
-    let n = image.len() / BLOCK_SIZE;
+    let n = image.len() / look::BLOCK_SIZE;
     let mut q = p;
     let mut b = 0;
     while b < n {
@@ -56,12 +55,12 @@ fn program_next_keys(
     requires { ⌜ (length (now letters) ≡ positions) × (length (now noise) ≡ keySize * positions) ⌝ }
     ensures { λ r. ⌜ device r (now (image .exit)) ≡ act (program (b * pagesInBlock + i) (keysPage epoch block i (keysFrom (renewedKey (blockAt (now (image .entry)) old) (now (letters .entry)) (now (noise .entry))) keysInPage (keysInBlock * block + keysInPage * i)))) (device p (now (image .entry))) ⌝ }
 {
-    let mut next = [0u8; 224];
+    let mut next = [0u8; Frame::PAYLOAD];
     let first = KEYS_IN_BLOCK * block as usize + KEYS_IN_PAGE * i;
     keys::renew_keys(&mut next, image, old, letters, noise, first);
     steps::program_key_page(
         image,
-        b * PAGES_IN_BLOCK + i,
+        b * look::PAGES_IN_BLOCK + i,
         epoch,
         block,
         i as u32,
@@ -87,7 +86,7 @@ pub fn program_key_block(
 {
     let mut q = p;
     let mut i = 0;
-    while i < PAGES_IN_BLOCK {
+    while i < look::PAGES_IN_BLOCK {
         q = program_next_keys(image, b, epoch, block, i, old, letters, noise, q);
         i += 1;
     }
@@ -109,11 +108,11 @@ fn program_part(
     requires { ⌜ (length (now map) ≡ places + places) × (length (now letters) ≡ positions) ⌝ }
     ensures { λ r. ⌜ device r (now (image .exit)) ≡ act (program (b * pagesInBlock + i) (commitPage epoch i covered (commitPayload (now (map .entry)) (now (letters .entry)) i))) (device p (now (image .entry))) ⌝ }
 {
-    let mut payload = [0u8; 224];
+    let mut payload = [0u8; Frame::PAYLOAD];
     entries::write_commit_payload(&mut payload, map, letters, i);
     steps::program_commit_page(
         image,
-        b * PAGES_IN_BLOCK + i,
+        b * look::PAGES_IN_BLOCK + i,
         epoch,
         i as u32,
         covered,

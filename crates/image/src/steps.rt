@@ -1,5 +1,7 @@
 // The two steps of the flash as far as the power goes: a block is erased, a page is programmed.
 use crate::Power;
+use crate::look;
+use page::Frame;
 use page::bytes;
 use page::writers;
 ghost use mathlib.Core.Path.{_≡_};
@@ -11,10 +13,7 @@ ghost use Rattle.image.specs.Size.{blockSize};
 ghost use Rattle.image.specs.Step.{program, erase};
 ghost use Rattle.image.specs.Power.{device, act, reach, lessStep};
 
-const PAGE_SIZE: usize = 256;
-
-const BLOCK_SIZE: usize = 4096;
-
+// An erased byte.
 const ERASED: u8 = 0xff;
 
 // How many bytes of the next step the power lasts for: no step has more than a block's.
@@ -24,7 +23,7 @@ fn reach_of(p: Power) -> usize
     if p.steps == 0 {
         return p.bytes;
     }
-    BLOCK_SIZE
+    look::BLOCK_SIZE
 }
 
 // What is left of the power after a step.
@@ -63,8 +62,8 @@ pub fn erase_block(image: &mut [u8], b: usize, p: Power) -> Power
     if !p.on {
         return p;
     }
-    let start = b * BLOCK_SIZE;
-    let n = smaller(reach_of(p), BLOCK_SIZE);
+    let start = b * look::BLOCK_SIZE;
+    let n = smaller(reach_of(p), look::BLOCK_SIZE);
     bytes::fill(&mut image[start..start + n], ERASED);
     after_step(p)
 }
@@ -87,9 +86,9 @@ pub fn program_node(
     if !p.on {
         return p;
     }
-    let start = g * PAGE_SIZE;
+    let start = g * Frame::PAGE;
     writers::write_node(
-        &mut image[start..start + PAGE_SIZE],
+        &mut image[start..start + Frame::PAGE],
         sequence,
         file,
         offset,
@@ -116,9 +115,9 @@ pub fn program_cut_off(
     if !p.on {
         return p;
     }
-    let start = g * PAGE_SIZE;
+    let start = g * Frame::PAGE;
     writers::write_cut_off(
-        &mut image[start..start + PAGE_SIZE],
+        &mut image[start..start + Frame::PAGE],
         sequence,
         file,
         offset,
@@ -143,9 +142,9 @@ pub fn program_key_page(
     if !p.on {
         return p;
     }
-    let start = g * PAGE_SIZE;
+    let start = g * Frame::PAGE;
     writers::write_key_page(
-        &mut image[start..start + PAGE_SIZE],
+        &mut image[start..start + Frame::PAGE],
         epoch,
         block,
         i,
@@ -171,9 +170,9 @@ pub fn program_commit_page(
     if !p.on {
         return p;
     }
-    let start = g * PAGE_SIZE;
+    let start = g * Frame::PAGE;
     writers::write_commit_page(
-        &mut image[start..start + PAGE_SIZE],
+        &mut image[start..start + Frame::PAGE],
         epoch,
         i,
         covered,

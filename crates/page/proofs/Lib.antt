@@ -9,6 +9,8 @@
 pub mod Slices
 pub mod Column
 pub mod Plans
+pub mod Ranges
+pub mod HeaderLaws
 pub mod Positions
 pub mod Commits
 pub mod Pages

@@ -1,8 +1,18 @@
 // Headers: the ranges of their fields, their 30 bytes, and the header that 30 bytes are.
 use crate::Frame;
+use crate::Header;
+use crate::Number;
+use crate::bytes;
+use crate::columns;
 use crate::plan;
 ghost use mathlib.Core.Path.{_≡_};
-ghost use Rattle.page.specs.Header.{lastNumber, within, inPlan, nodeRanges, cutOffRanges, keysRanges, commitRanges, inRange};
+ghost use mathlib.Core.Bool.{true, _||_};
+ghost use lib.ListN.{length};
+ghost use lib.Dec.{eqb};
+ghost use Rattle.base.specs.Part.{part};
+ghost use Rattle.base.specs.Each.{same};
+ghost use Rattle.page.specs.Frame.{headerSize, colonSpace};
+ghost use Rattle.page.specs.Header.{nodeLetter, cutOffLetter, keysLetter, commitLetter, lastNumber, within, inPlan, nodeRanges, cutOffRanges, keysRanges, commitRanges, inRange, headerBytes, headerOf};
 
 // The last number of each kind of field.
 const LAST_NUMBER: u32 = 99_999_999;
@@ -82,4 +92,64 @@ pub fn in_range(f: Frame) -> bool
         return is_commit(f);
     }
     false
+}
+
+// Writes the header of f into the 30 bytes of dst.
+pub fn write_header(dst: &mut [u8], f: Frame)
+    requires { ⌜ length (now dst) ≡ headerSize ⌝ }
+    ensures { λ _. ⌜ now (dst .exit) ≡ headerBytes f ⌝ }
+{
+    columns::put_at(dst, 1, 8, f.number);
+    columns::put_at(dst, 9, 3, f.unit);
+    columns::put_at(dst, 12, 4, f.part);
+    columns::put_at(dst, 16, 4, f.key);
+    columns::put_at(dst, 20, 8, f.second);
+    bytes::copy(&mut dst[28..30], b": ");
+    dst[0] = f.kind;
+}
+
+// Whether b is one of the four kind letters.
+fn is_kind(b: u8) -> bool
+    ensures { λ r. ⌜ r ≡ (eqb b nodeLetter || eqb b cutOffLetter || eqb b keysLetter || eqb b commitLetter) ⌝ }
+{
+    (b == Frame::NODE_LETTER)
+        | (b == Frame::CUT_OFF_LETTER)
+        | (b == Frame::KEYS_LETTER)
+        | (b == Frame::COMMIT_LETTER)
+}
+
+// The header that 30 bytes are which end in colon and space.
+fn read_fields(src: &[u8]) -> Header
+    requires { ⌜ (length (now src) ≡ headerSize) × (same (part (now src) 28 2) colonSpace ≡ true) ⌝ }
+    ensures { λ r. ⌜ r ≡ headerOf (now (src .entry)) ⌝ }
+{
+    let kind = src[0];
+    let Number::Is(number) = columns::get_at(src, 1, 8) else {
+        return Header::Invalid;
+    };
+    let Number::Is(unit) = columns::get_at(src, 9, 3) else {
+        return Header::Invalid;
+    };
+    let Number::Is(part) = columns::get_at(src, 12, 4) else {
+        return Header::Invalid;
+    };
+    let Number::Is(key) = columns::get_at(src, 16, 4) else {
+        return Header::Invalid;
+    };
+    let Number::Is(second) = columns::get_at(src, 20, 8) else {
+        return Header::Invalid;
+    };
+    let f = Frame {
+        kind,
+        number,
+        unit,
+        part,
+        key,
+        second,
+    };
+    if in_range(f) {
+        Header::Is(f)
+    } else {
+        Header::Invalid
+    }
 }

@@ -6,6 +6,7 @@ pub mod frames;
 pub mod headers;
 pub mod keys;
 pub mod plan;
+pub mod writers;
 
 // What columns hold.
 pub enum Number {

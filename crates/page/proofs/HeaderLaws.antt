@@ -21,8 +21,30 @@ use Rattle.page.specs.declared.Number.the-variants.{Is as IsNumber, Miss
 use Rattle.page.specs.declared.Frame.{Frame}
 use Rattle.page.specs.declared.Header.{Header}
 use Rattle.page.specs.declared.Header.the-variants.{Is, Invalid}
+use Rattle.page.proofs.Slices.{part-front, part-past, part-back}
 use Rattle.page.proofs.Column.{length-spell, number-spell, number-is, bytes-spell}
 use Rattle.page.proofs.Ranges.{other-kind, in-range-fits}
+
+-- ---- lengths
+module _ (f : Frame) where
+  ln : length (spell 8 (f .number)) ≡ 8
+  ln = length-spell 8 (f .number) (omega arith)
+
+  lu : length (spell 3 (f .unit)) ≡ 3
+  lu = length-spell 3 (f .unit) (omega arith)
+
+  lp : length (spell 4 (f .part)) ≡ 4
+  lp = length-spell 4 (f .part) (omega arith)
+
+  lk : length (spell 4 (f .key)) ≡ 4
+  lk = length-spell 4 (f .key) (omega arith)
+
+  ls : length (spell 8 (f .second)) ≡ 8
+  ls = length-spell 8 (f .second) (omega arith)
+
+  pub length-header : length (headerBytes f) ≡ headerSize
+  unfolding headerBytes
+  length-header = simp length-append (omega (arith, ln, lu, lp, lk, ls))
 
 -- ---- the fields of a header written one after the other
 splice-next : (p q ys : List ℕ) (a : ℕ) → length p ≡ a → splice (p ++ q) a ys ≡ (p ++ ys) ++ drop (length ys) q
@@ -59,27 +81,14 @@ pub header-written : (x : List ℕ) (f : Frame) → length x ≡ headerSize
     ≡ headerBytes f
 unfolding headerBytes
 header-written x f h =
-    let b = length-spell 8 (f .number) (omega arith) in
-    let c = length-spell 3 (f .unit) (omega arith) in
-    let d = length-spell 4 (f .part) (omega arith) in
-    let e = length-spell 4 (f .key) (omega arith) in
-    let g = length-spell 8 (f .second) (omega arith) in
-    fields-written x (f .kind) (spell 8 (f .number)) (spell 3 (f .unit)) (spell 4 (f .part)) (spell 4 (f .key)) (spell 8 (f .second)) colonSpace
-    (omega arith) 9 12 16 20 28 2 (omega arith) (omega arith) (omega arith) (omega arith) (omega arith) refl
+    let b = ln f in
+    let c = lu f in
+    let d = lp f in
+    let e = lk f in
+    let g = ls f in
+    fields-written x (f .kind) (spell 8 (f .number)) (spell 3 (f .unit)) (spell 4 (f .part)) (spell 4 (f .key)) (spell 8 (f .second)) colonSpace (omega arith) 9 12 16 20 28 2 (omega arith) (omega arith) (omega arith) (omega arith) (omega arith) refl
 
--- ---- the fields of a header found again
-part-here : (ys t : List ℕ) (n : ℕ) → length ys ≡ n → part (ys ++ t) 0 n ≡ ys
-unfolding part
-part-here ys t n h = take-at ys t n h
-
-part-all : (ys : List ℕ) (n : ℕ) → length ys ≡ n → part ys 0 n ≡ ys
-unfolding part
-part-all ys n h = take-all n ys (omega arith)
-
-part-after : (ys t : List ℕ) (a b n : ℕ) → length ys ≡ a → part (ys ++ t) (a + b) n ≡ part t b n
-unfolding part
-part-after ys t a b n h = sym (ap (take n) (drop-drop b a (ys ++ t))) ∙ rw (drop-at ys t a h)
-
+-- ---- the fields of a header read again
 -- what a header's columns hold, from the second number back to the first
 abbrev withSecond : List ℕ → ℕ → ℕ → ℕ → ℕ → ℕ → Header
 withSecond xs number unit part' key second =
@@ -180,38 +189,19 @@ module _ (k : ℕ) (a b c d e g : List ℕ) (la : length a ≡ 8) (lb : length b
   fields-found : (xs : List ℕ) → xs ≡ k ∷ (a ++ (b ++ (c ++ (d ++ (e ++ g)))))
       → (part xs 1 8 ≡ a) × (part xs 9 3 ≡ b) × (part xs 12 4 ≡ c) × (part xs 16 4 ≡ d) × (part xs 20 8 ≡ e) × (part xs 28 2 ≡ g)
   fields-found xs h =
-      let rest : (n w : ℕ) → part xs (1 + n) w ≡ part (a ++ (b ++ (c ++ (d ++ (e ++ g))))) n w = λ n w. rw h (part-after (k ∷ []) _ 1 n w refl) in (
-        rest 0 8 ∙ part-here a _ 8 la,
-        rest 8 3 ∙ part-after a _ 8 0 3 la ∙ part-here b _ 3 lb,
-        rest 11 4 ∙ part-after a _ 8 3 4 la ∙ part-after b _ 3 0 4 lb ∙ part-here c _ 4 lc,
-        rest 15 4 ∙ part-after a _ 8 7 4 la ∙ part-after b _ 3 4 4 lb ∙ part-after c _ 4 0 4 lc ∙ part-here d _ 4 ld,
-        rest 19 8 ∙ part-after a _ 8 11 8 la ∙ part-after b _ 3 8 8 lb ∙ part-after c _ 4 4 8 lc ∙ part-after d _ 4 0 8 ld ∙ part-here e _ 8 le,
-        rest 27 2 ∙ part-after a _ 8 19 2 la ∙ part-after b _ 3 16 2 lb ∙ part-after c _ 4 12 2 lc ∙ part-after d _ 4 8 2 ld ∙ part-after e _ 8 0 2 le ∙ part-all g 2 lg,
+      let rest : (n w : ℕ) → part xs (1 + n) w ≡ part (a ++ (b ++ (c ++ (d ++ (e ++ g))))) n w = λ n w. rw h (part-past (k ∷ []) _ 1 n w refl) in (
+        rest 0 8 ∙ part-front a _ 8 la,
+        rest 8 3 ∙ part-past a _ 8 0 3 la ∙ part-front b _ 3 lb,
+        rest 11 4 ∙ part-past a _ 8 3 4 la ∙ part-past b _ 3 0 4 lb ∙ part-front c _ 4 lc,
+        rest 15 4 ∙ part-past a _ 8 7 4 la ∙ part-past b _ 3 4 4 lb ∙ part-past c _ 4 0 4 lc ∙ part-front d _ 4 ld,
+        rest 19 8 ∙ part-past a _ 8 11 8 la ∙ part-past b _ 3 8 8 lb ∙ part-past c _ 4 4 8 lc ∙ part-past d _ 4 0 8 ld ∙ part-front e _ 8 le,
+        rest 27 2 ∙ part-past a _ 8 19 2 la ∙ part-past b _ 3 16 2 lb ∙ part-past c _ 4 12 2 lc ∙ part-past d _ 4 8 2 ld ∙ part-past e _ 8 0 2 le ∙ part-back [] g 0 2 refl lg,
       )
 
 abbrev Byte : ℕ → Type 0
 Byte x = x < 256
 
 module _ (f : Frame) where
-  ln : length (spell 8 (f .number)) ≡ 8
-  ln = length-spell 8 (f .number) (omega arith)
-
-  lu : length (spell 3 (f .unit)) ≡ 3
-  lu = length-spell 3 (f .unit) (omega arith)
-
-  lp : length (spell 4 (f .part)) ≡ 4
-  lp = length-spell 4 (f .part) (omega arith)
-
-  lk : length (spell 4 (f .key)) ≡ 4
-  lk = length-spell 4 (f .key) (omega arith)
-
-  ls : length (spell 8 (f .second)) ≡ 8
-  ls = length-spell 8 (f .second) (omega arith)
-
-  pub length-header : length (headerBytes f) ≡ headerSize
-  unfolding headerBytes
-  length-header = simp length-append (omega (arith, ln, lu, lp, lk, ls))
-
   pub header-kind : getD (headerBytes f) 0 0 ≡ f .kind
   unfolding headerBytes
   header-kind = refl
@@ -231,7 +221,7 @@ module _ (f : Frame) where
   unfolding headerBytes
   written-spelt e =
       let w = in-range-fits f e in
-      let p = fields-found (f .kind) (spell 8 (f .number)) (spell 3 (f .unit)) (spell 4 (f .part)) (spell 4 (f .key)) (spell 8 (f .second)) colonSpace ln lu lp lk ls refl (headerBytes f) refl in
+      let p = fields-found (f .kind) (spell 8 (f .number)) (spell 3 (f .unit)) (spell 4 (f .part)) (spell 4 (f .key)) (spell 8 (f .second)) colonSpace (ln f) (lu f) (lp f) (lk f) (ls f) refl (headerBytes f) refl in
       record {
         kind = refl;
         number = ap numberIn (p .0) ∙ number-spell 8 (f .number) (omega arith) (w .number);

@@ -153,3 +153,17 @@ fn read_fields(src: &[u8]) -> Header
         Header::Invalid
     }
 }
+
+// The header that 30 bytes are. The kind letter and the end are looked at first: most bytes that are no header fail there.
+pub fn read_header(src: &[u8]) -> Header
+    requires { ⌜ length (now src) ≡ headerSize ⌝ }
+    ensures { λ r. ⌜ r ≡ headerOf (now (src .entry)) ⌝ }
+{
+    if !is_kind(src[0]) {
+        return Header::Invalid;
+    }
+    if !bytes::same(&src[28..30], b": ") {
+        return Header::Invalid;
+    }
+    read_fields(src)
+}

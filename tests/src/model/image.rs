@@ -13,7 +13,7 @@ pub const SIZES: RangeInclusive<usize> = 8..=256;
 
 /// Whether an image is 8 to 256 full blocks.
 pub fn has_right_size(image: &[u8]) -> bool {
-    image.len() % BLOCK == 0 && SIZES.contains(&(image.len() / BLOCK))
+    image.len().is_multiple_of(BLOCK) && SIZES.contains(&(image.len() / BLOCK))
 }
 
 /// The pages of an image.

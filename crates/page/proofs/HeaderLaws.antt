@@ -1,17 +1,17 @@
 -- Laws of headers: what is written is what is read, and a header has one spelling.
-use Prim.Native.Nat.{ℕ, zero, suc, _+_, _-_, _<_, _≤_}
+use Prim.Native.Nat.{ℕ, _+_, _<_, _≤_}
 use native.Mathlib.Omega.{arith}
 use mathlib.Core.Path.{_≡_, refl, sym, ap, _∙_}
 use mathlib.Core.Bool.{Bool, true, false, cond, _&&_, _||_}
 use mathlib.Core.List.{List, [], _∷_, _++_, append-assoc, append-nil}
-use lib.ListN.{length, getD, take, drop, set, length-append, length-drop, drop-of-length-le, take-append-drop}
-use lib.Seq.{take-all, take-at, drop-at, drop-drop, drop-cons}
+use lib.ListN.{length, getD, drop, set, length-append, length-drop, drop-of-length-le, take-append-drop}
+use lib.Seq.{drop-drop, drop-cons}
 use lib.Dec.{eqb}
 use borrow.Rule.Slice.PartMut.{putMid}
 use Rattle.base.specs.Part.{part, splice}
 use Rattle.base.specs.Each.{Bytes, same}
 use Rattle.base.proofs.Parts.{put-next, part-length}
-use Rattle.base.proofs.Choice.{and-true, true-false}
+use Rattle.base.proofs.Choice.{and-true}
 use Rattle.base.proofs.Eachs.{same-true, same-refl, each-append}
 use Rattle.page.specs.Frame.{headerSize, colonSpace}
 use Rattle.page.specs.Column.{spell, numberIn}

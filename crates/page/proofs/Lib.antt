@@ -14,4 +14,5 @@ pub mod HeaderLaws
 pub mod Positions
 pub mod Commits
 pub mod Pages
+pub mod FormLaws
 pub mod Cases

@@ -8,6 +8,7 @@
 --   Lent         a part of the image that is lent to the writer of a step
 --   KeyBlock     the keys of a key block and its pages
 --   CommitBlock  the pages of a commit block
+--   Forms        the form of a page after a step
 --   Cases        document 01's case P9
 pub mod Step
 pub mod Empties
@@ -18,4 +19,5 @@ pub mod Rows
 pub mod Lent
 pub mod KeyBlock
 pub mod CommitBlock
+pub mod Forms
 pub mod Cases

@@ -1,4 +1,5 @@
 // What stands on the image: its size, empty pages and blocks, and the form of a page.
+use page::Form;
 use page::Frame;
 use page::forms;
 ghost use mathlib.Core.Path.{_≡_};
@@ -6,7 +7,7 @@ ghost use Prim.Native.Nat.{_≤_, _+_, _*_};
 ghost use lib.ListN.{length};
 ghost use Rattle.page.specs.Frame.{pageSize};
 ghost use Rattle.image.specs.Size.{blockSize, blocks, sizeRight};
-ghost use Rattle.image.specs.Look.{pageEmpty, blockEmpty, lowestEmpty, emptyBlocks};
+ghost use Rattle.image.specs.Look.{formAt, pageEmpty, blockEmpty, lowestEmpty, emptyBlocks};
 
 // A block has 4,096 bytes, 16 pages.
 pub const BLOCK_SIZE: usize = 4096;
@@ -30,6 +31,15 @@ pub fn size_right(image: &[u8]) -> bool
         return false;
     }
     n <= MOST_BLOCKS
+}
+
+// The form of page g.
+pub fn form_at(image: &[u8], g: usize) -> Form
+    requires { ⌜ g * pageSize + pageSize ≤ length (now image) ⌝ }
+    ensures { λ r. ⌜ r ≡ formAt (now (image .entry)) g ⌝ }
+{
+    let at = g * Frame::PAGE;
+    forms::form(&image[at..at + Frame::PAGE])
 }
 
 // Whether page g is empty.

@@ -13,7 +13,9 @@ use Rattle.page.specs.Entry.{parts}
 use Rattle.image.specs.Size.{pagesInBlock, blocks}
 use Rattle.image.specs.Look.{blockAt, lowestEmpty}
 use Rattle.image.specs.Step.{erase}
-use Rattle.image.specs.Block.{renewedKey, keyBlockSteps, commitBlockSteps}
+use Rattle.image.specs.Block.{renewedKey, keyBlockSteps}
+use Rattle.image.proofs.KeyBlock.{key-block-count}
+use Rattle.image.proofs.CommitBlock.{commit-block-count}
 use Rattle.store.specs.Record.{Record}
 use Rattle.store.specs.Format.{formatSteps, formatOf}
 use Rattle.store.specs.Mount.{mountNumbers, isStray, mountSteps, mountOf}
@@ -26,14 +28,6 @@ use Rattle.store.specs.declared.Reply.the-variants.{Done}
 use Rattle.store.proofs.Outcomes.{format-outcome, mount-outcome, write-outcome, read-stepless, cut-off-outcome, commit-outcome, wipe-outcome}
 
 -- ---- a block programmed, a block replaced: the new copy's pages, then the erase of the old one
-pub key-block-count : (epoch block b : ℕ) (key : ℕ → List ℕ) → length (keyBlockSteps epoch block b key) ≡ pagesInBlock
-unfolding keyBlockSteps
-key-block-count epoch block b key = length-listFrom _ pagesInBlock 0
-
-pub commit-block-count : (epoch covered b : ℕ) (map letters : List ℕ) → length (commitBlockSteps epoch covered b map letters) ≡ parts
-unfolding commitBlockSteps
-commit-block-count epoch covered b map letters = length-listFrom _ parts 0
-
 pub replace-keys-count : (img : List ℕ) (r : Record) (noise : List ℕ) (q : ℕ) → length (replaceKeys img r noise q) ≡ pagesInBlock + 1
 unfolding replaceKeys
 replace-keys-count img r noise q =

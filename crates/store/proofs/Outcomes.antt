@@ -13,6 +13,7 @@ use Rattle.base.proofs.Folds.{fold-keeps, length-listFrom}
 use Rattle.page.specs.Plan.{places}
 use Rattle.page.specs.Key.{positions}
 use Rattle.page.specs.Entry.{none, freeLetter, usedLetter, deletedLetter}
+use Rattle.image.proofs.Plays.{play-all}
 use Rattle.image.specs.Step.{Step, whole, play, playAll}
 use Rattle.store.specs.Reply.{verdict, isDone, numberOf}
 use Rattle.store.specs.Record.{Record, withNumbers, mapSize, keyOf, live}
@@ -158,13 +159,6 @@ module _ (img : List ℕ) (r : Record) (noise : List ℕ) (file offset : ℕ) wh
 -- what stands after a reply
 abbrev pub leaves : Reply → List ℕ → Record → List ℕ → Left
 leaves v img after lent = record { reply = v; image = img; after = after; lent = lent }
-
--- to be replaced by image's law of that name
-play-all : (n k : ℕ) (ss : List Step) (img : List ℕ) → length ss ≤ n → play n k ss img ≡ playAll ss img
-unfolding play playAll
-play-all n k [] img h = refl
-play-all zero k (s ∷ ss) img h = absurd (omega arith)
-play-all (suc n) k (s ∷ ss) img h = play-all n k ss (whole s img) (omega arith)
 
 module _ (n k : ℕ) (o : Outcome) (img : List ℕ) where
   -- n is at least the number of steps: the whole call

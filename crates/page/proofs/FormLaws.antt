@@ -6,7 +6,7 @@ use mathlib.Core.Path.{_≡_, refl, sym, ap, _∙_}
 use mathlib.Core.Logic.{_⊎_, inl, inr, _↔_}
 use mathlib.Core.Bool.{Bool, true, false, cond}
 use mathlib.Core.List.{List, [], _∷_, _++_}
-use lib.ListN.{length, getD, replicate}
+use lib.ListN.{length, getD, replicate, length-replicate}
 use lib.Dec.{eqb, ltb}
 use borrow.Author.Tests.{eqb-true, eq-eqb, ne-eqb, lt-ltb, le-ltb}
 use Rattle.base.specs.Part.{part}
@@ -14,19 +14,19 @@ use Rattle.base.specs.Each.{same, allAre}
 use Rattle.base.proofs.Choice.{and-true}
 use Rattle.base.proofs.Parts.{part-part, part-length}
 use Rattle.base.proofs.Eachs.{same-true, same-refl, same-false, allAre-true, allAre-replicate}
-use Rattle.page.specs.Frame.{headerSize, payloadSize, closingSize, pageSize, closingAt, erased, closing}
-use Rattle.page.specs.Header.{nodeLetter, cutOffLetter, keysLetter, commitLetter, inRange, headerBytes, headerOf}
+use Rattle.page.specs.Frame.{headerSize, payloadSize, closingSize, pageSize, closingAt, erased, closing, space}
+use Rattle.page.specs.Header.{nodeLetter, cutOffLetter, keysLetter, commitLetter, nodeFrame, cutOffFrame, keysFrame, commitFrame, inRange, headerBytes, headerOf}
 use Rattle.page.specs.Form.{isEmpty, closed, formBy, formOf}
-use Rattle.page.specs.Page.{pageBytes, payloadOf, cutPage}
+use Rattle.page.specs.Page.{pageBytes, enciphered, nodePage, cutOffPage, keysPage, commitPage, payloadOf, cutPage}
 use Rattle.page.specs.declared.Frame.{Frame}
 use Rattle.page.specs.declared.Header.{Header}
 use Rattle.page.specs.declared.Header.the-variants.{Is, Invalid}
 use Rattle.page.specs.declared.Form.{Form}
 use Rattle.page.specs.declared.Form.the-variants.{Empty, Whole, Torn, Spoilt}
 use Rattle.page.proofs.Slices.{part-replicate, part-halves}
-use Rattle.page.proofs.Ranges.{kinds}
+use Rattle.page.proofs.Ranges.{NodeRange, CutOffRange, KeysRange, CommitRange, node-range, cut-off-range, keys-range, commit-range, kinds}
 use Rattle.page.proofs.HeaderLaws.{header-read, header-is, header-range, no-kind, no-colon}
-use Rattle.page.proofs.Pages.{page-length, header-back, closing-back, cut-length, cut-whole, cut-before, cut-after}
+use Rattle.page.proofs.Pages.{enciphered-length, page-length, header-back, closing-back, cut-length, cut-whole, cut-before, cut-after}
 
 -- ---- a form goes by the header, by whether the page is closed and whether it is empty
 abbrev formFrom : Header → Bool → Bool → Form
@@ -156,6 +156,19 @@ form-none page = empty-form (cutPage 0 page) .1 (rw (cut-none page) (allAre-repl
 abbrev pub cutForm : ℕ → Frame → Form
 cutForm k f = cond (eqb k 0) Empty (cond (ltb k headerSize) Spoilt (cond (ltb k pageSize) (Torn f) (Whole f)))
 
+module _ (k : ℕ) (f : Frame) where
+  pub cut-empty : k ≡ 0 → cutForm k f ≡ Empty
+  cut-empty z = rw (eq-eqb k 0 z)
+
+  pub cut-spoilt : 0 < k → k < headerSize → cutForm k f ≡ Spoilt
+  cut-spoilt a b = rw (ne-eqb k 0 (λ z. omega arith), lt-ltb k headerSize b)
+
+  pub cut-torn : headerSize ≤ k → k < pageSize → cutForm k f ≡ Torn f
+  cut-torn a b = rw (ne-eqb k 0 (λ z. omega arith), le-ltb k headerSize a, lt-ltb k pageSize b)
+
+  pub cut-all : pageSize ≤ k → cutForm k f ≡ Whole f
+  cut-all a = rw (ne-eqb k 0 (λ z. omega arith), le-ltb k headerSize (omega arith), le-ltb k pageSize a)
+
 module _ (f : Frame) (payload : List ℕ) (ranges : inRange f ≡ true) (l : length payload ≡ payloadSize) where
   pub form-page : formOf (pageBytes f payload) ≡ Whole f
   unfolding closed
@@ -199,12 +212,41 @@ module _ (f : Frame) (payload : List ℕ) (ranges : inRange f ≡ true) (l : len
   pub form-cut : (k : ℕ) → formOf (cutPage k (pageBytes f payload)) ≡ cutForm k f
   form-cut k =
       elim (ℕ-discrete k 0) [
-        | yes z ↦ rw (eq-eqb k 0 z, z) (form-none (pageBytes f payload))
-        | no z ↦ rw (ne-eqb k 0 z) (elim (decLt k headerSize) [
-          | yes a ↦ rw (lt-ltb k headerSize a) (cut-header k (omega arith) a)
-          | no a ↦ rw (le-ltb k headerSize (omega arith)) (elim (decLt k pageSize) [
-            | yes b ↦ rw (lt-ltb k pageSize b) (cut-payload k (omega arith) b)
-            | no b ↦ rw (le-ltb k pageSize (omega arith), cut-whole k (pageBytes f payload) (page-length f payload l) (omega arith)) form-page
-          ])
-        ])
+        | yes z ↦ rw (cut-empty k f z, z) (form-none (pageBytes f payload))
+        | no z ↦ elim (decLt k headerSize) [
+          | yes a ↦ rw (cut-spoilt k f (omega arith) a) (cut-header k (omega arith) a)
+          | no a ↦ elim (decLt k pageSize) [
+            | yes b ↦ rw (cut-torn k f (omega arith) b) (cut-payload k (omega arith) b)
+            | no b ↦ rw (cut-all k f (omega arith), cut-whole k (pageBytes f payload) (page-length f payload l) (omega arith)) form-page
+          ]
+        ]
       ]
+
+-- ---- the pages of each kind
+pub form-node : (k sequence file offset position : ℕ) (key payload : List ℕ) → NodeRange (nodeFrame sequence file offset position) → length payload ≡ payloadSize
+    → formOf (cutPage k (nodePage sequence file offset position key payload)) ≡ cutForm k (nodeFrame sequence file offset position)
+unfolding nodePage
+form-node k sequence file offset position key payload r l =
+    let f = nodeFrame sequence file offset position in
+    form-cut f (enciphered key payload) (node-range f refl .1 r) (enciphered-length key payload ∙ l) k
+
+pub form-cut-off : (k sequence file offset : ℕ) → CutOffRange (cutOffFrame sequence file offset)
+    → formOf (cutPage k (cutOffPage sequence file offset)) ≡ cutForm k (cutOffFrame sequence file offset)
+unfolding cutOffPage
+form-cut-off k sequence file offset r =
+    let f = cutOffFrame sequence file offset in
+    form-cut f (replicate payloadSize space) (cut-off-range f refl .1 r) (length-replicate payloadSize space) k
+
+pub form-keys : (k epoch block i : ℕ) (keys : List ℕ) → KeysRange (keysFrame epoch block i) → length keys ≡ payloadSize
+    → formOf (cutPage k (keysPage epoch block i keys)) ≡ cutForm k (keysFrame epoch block i)
+unfolding keysPage
+form-keys k epoch block i keys r l =
+    let f = keysFrame epoch block i in
+    form-cut f keys (keys-range f refl .1 r) l k
+
+pub form-commit : (k epoch i covered : ℕ) (payload : List ℕ) → CommitRange (commitFrame epoch i covered) → length payload ≡ payloadSize
+    → formOf (cutPage k (commitPage epoch i covered payload)) ≡ cutForm k (commitFrame epoch i covered)
+unfolding commitPage
+form-commit k epoch i covered payload r l =
+    let f = commitFrame epoch i covered in
+    form-cut f payload (commit-range f refl .1 r) l k

@@ -1,6 +1,6 @@
 -- Definitions on lists and numbers that the toolchain's library lacks. They know nothing of flash or ciphers.
 --   Part     a part of a list, and a list with a part replaced
---   Search   the first, the number, all of those of some numbers in a row that pass a test
+--   Search   of some numbers in a row the first, the count, the list of those that pass a test; whether all or any do; the highest value
 --   Fold     a fold and a list over numbers in a row
 --   Each     a fact that holds of each element of a list; tests of whole lists
 -- Choice by a test is the library's `cond`, both tests `_&&_`: their laws are in proofs/Choice.antt.

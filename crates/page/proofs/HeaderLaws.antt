@@ -1,28 +1,49 @@
 -- Laws of headers: what is written is what is read, and a header has one spelling.
-use Prim.Native.Nat.{ℕ, zero, suc, _+_, _-_, _<_, _≤_}
+use Prim.Native.Nat.{ℕ, _+_, _<_, _≤_}
 use native.Mathlib.Omega.{arith}
 use mathlib.Core.Path.{_≡_, refl, sym, ap, _∙_}
-use mathlib.Core.Bool.{Bool, true, false, cond, _&&_, _||_}
+use mathlib.Core.Bool.{Bool, true, false, cond, _&&_}
 use mathlib.Core.List.{List, [], _∷_, _++_, append-assoc, append-nil}
-use lib.ListN.{length, getD, take, drop, set, length-append, length-drop, drop-of-length-le, take-append-drop}
-use lib.Seq.{take-all, take-at, drop-at, drop-drop, drop-cons}
-use lib.Dec.{eqb}
+use lib.ListN.{length, getD, drop, set, length-append, length-drop, drop-of-length-le, take-append-drop}
+use lib.Seq.{drop-drop, drop-cons}
 use borrow.Rule.Slice.PartMut.{putMid}
 use Rattle.base.specs.Part.{part, splice}
 use Rattle.base.specs.Each.{Bytes, same}
 use Rattle.base.proofs.Parts.{put-next, part-length}
-use Rattle.base.proofs.Choice.{and-true, true-false}
+use Rattle.base.proofs.Choice.{and-true}
 use Rattle.base.proofs.Eachs.{same-true, same-refl, each-append}
 use Rattle.page.specs.Frame.{headerSize, colonSpace}
 use Rattle.page.specs.Column.{spell, numberIn}
-use Rattle.page.specs.Header.{nodeLetter, cutOffLetter, keysLetter, commitLetter, inRange, headerBytes, andThen, headerOf}
+use Rattle.page.specs.Header.{inRange, headerBytes, andThen, headerOf}
 use Rattle.page.specs.declared.Number.{Number}
 use Rattle.page.specs.declared.Number.the-variants.{Is as IsNumber, Misspelt}
 use Rattle.page.specs.declared.Frame.{Frame}
 use Rattle.page.specs.declared.Header.{Header}
 use Rattle.page.specs.declared.Header.the-variants.{Is, Invalid}
+use Rattle.page.proofs.Slices.{part-front, part-past, part-back}
 use Rattle.page.proofs.Column.{length-spell, number-spell, number-is, bytes-spell}
-use Rattle.page.proofs.Ranges.{other-kind, in-range-fits}
+use Rattle.page.proofs.Ranges.{isKind, other-kind, in-range-fits}
+
+-- ---- lengths
+module _ (f : Frame) where
+  ln : length (spell 8 (f .number)) ≡ 8
+  ln = length-spell 8 (f .number) (omega arith)
+
+  lu : length (spell 3 (f .unit)) ≡ 3
+  lu = length-spell 3 (f .unit) (omega arith)
+
+  lp : length (spell 4 (f .part)) ≡ 4
+  lp = length-spell 4 (f .part) (omega arith)
+
+  lk : length (spell 4 (f .key)) ≡ 4
+  lk = length-spell 4 (f .key) (omega arith)
+
+  ls : length (spell 8 (f .second)) ≡ 8
+  ls = length-spell 8 (f .second) (omega arith)
+
+  pub length-header : length (headerBytes f) ≡ headerSize
+  unfolding headerBytes
+  length-header = simp length-append (omega (arith, ln, lu, lp, lk, ls))
 
 -- ---- the fields of a header written one after the other
 splice-next : (p q ys : List ℕ) (a : ℕ) → length p ≡ a → splice (p ++ q) a ys ≡ (p ++ ys) ++ drop (length ys) q
@@ -33,7 +54,8 @@ regroup : (b c d e f g : List ℕ) → (((((b ++ c) ++ d) ++ e) ++ f) ++ g) ++ [
 regroup b c d e f g = simp (append-assoc, append-nil)
 
 module _ (x : List ℕ) (k : ℕ) (b c d e f g : List ℕ) (h : length x ≡ 1 + length b + length c + length d + length e + length f + length g) where
-  pub fields-written : (i2 i3 i4 i5 i6 i7 : ℕ) → i2 ≡ 1 + length b → i3 ≡ i2 + length c → i4 ≡ i3 + length d → i5 ≡ i4 + length e → i6 ≡ i5 + length f → i7 ≡ length g
+  fields-written : (i2 i3 i4 i5 i6 i7 : ℕ) → i2 ≡ 1 + length b → i3 ≡ i2 + length c → i4 ≡ i3 + length d → i5 ≡ i4 + length e
+      → i6 ≡ i5 + length f → i7 ≡ length g
       → set (putMid i6 i7 (splice (splice (splice (splice (splice x 1 b) i2 c) i3 d) i4 e) i5 f) g) 0 k
       ≡ k ∷ (b ++ (c ++ (d ++ (e ++ (f ++ g)))))
   fields-written i2 i3 i4 i5 i6 i7 h2 h3 h4 h5 h6 h7 = go x h
@@ -54,32 +76,27 @@ module _ (x : List ℕ) (k : ℕ) (b c d e f g : List ℕ) (h : length x ≡ 1 +
           )
           (ap (λ (t : List ℕ). k ∷ t) (regroup b c d e f g))
 
-pub header-written : (x : List ℕ) (f : Frame) → length x ≡ headerSize
-    → set (putMid 28 2 (splice (splice (splice (splice (splice x 1 (spell 8 (f .number))) 9 (spell 3 (f .unit))) 12 (spell 4 (f .part))) 16 (spell 4 (f .key))) 20 (spell 8 (f .second))) colonSpace) 0 (f .kind)
-    ≡ headerBytes f
+-- the numbers of f written into x, each at its columns
+abbrev numbersIn : List ℕ → Frame → List ℕ
+numbersIn x f =
+    let number = splice x 1 (spell 8 (f .number)) in
+    let unit = splice number 9 (spell 3 (f .unit)) in
+    let part' = splice unit 12 (spell 4 (f .part)) in
+    let key = splice part' 16 (spell 4 (f .key)) in
+    splice key 20 (spell 8 (f .second))
+
+pub header-written : (x : List ℕ) (f : Frame) → length x ≡ headerSize → set (putMid 28 2 (numbersIn x f) colonSpace) 0 (f .kind) ≡ headerBytes f
 unfolding headerBytes
 header-written x f h =
-    let b = length-spell 8 (f .number) (omega arith) in
-    let c = length-spell 3 (f .unit) (omega arith) in
-    let d = length-spell 4 (f .part) (omega arith) in
-    let e = length-spell 4 (f .key) (omega arith) in
-    let g = length-spell 8 (f .second) (omega arith) in
+    let b = ln f in
+    let c = lu f in
+    let d = lp f in
+    let e = lk f in
+    let g = ls f in
     fields-written x (f .kind) (spell 8 (f .number)) (spell 3 (f .unit)) (spell 4 (f .part)) (spell 4 (f .key)) (spell 8 (f .second)) colonSpace
     (omega arith) 9 12 16 20 28 2 (omega arith) (omega arith) (omega arith) (omega arith) (omega arith) refl
 
--- ---- the fields of a header found again
-part-here : (ys t : List ℕ) (n : ℕ) → length ys ≡ n → part (ys ++ t) 0 n ≡ ys
-unfolding part
-part-here ys t n h = take-at ys t n h
-
-part-all : (ys : List ℕ) (n : ℕ) → length ys ≡ n → part ys 0 n ≡ ys
-unfolding part
-part-all ys n h = take-all n ys (omega arith)
-
-part-after : (ys t : List ℕ) (a b n : ℕ) → length ys ≡ a → part (ys ++ t) (a + b) n ≡ part t b n
-unfolding part
-part-after ys t a b n h = sym (ap (take n) (drop-drop b a (ys ++ t))) ∙ rw (drop-at ys t a h)
-
+-- ---- the fields of a header read again
 -- what a header's columns hold, from the second number back to the first
 abbrev withSecond : List ℕ → ℕ → ℕ → ℕ → ℕ → ℕ → Header
 withSecond xs number unit part' key second =
@@ -149,69 +166,46 @@ header-spelt xs f e =
     }
 
 -- ---- what is no header, by the kind letter or the end alone
-pub no-kind : (xs : List ℕ) → eqb (getD xs 0 0) nodeLetter || eqb (getD xs 0 0) cutOffLetter || eqb (getD xs 0 0) keysLetter || eqb (getD xs 0 0) commitLetter ≡ false
-    → headerOf xs ≡ Invalid
+invalid-by : (xs : List ℕ) → ((n u p k s : ℕ) → withSecond xs n u p k s ≡ Invalid) → headerOf xs ≡ Invalid
 unfolding headerOf
-no-kind xs h =
+invalid-by xs h =
     andThen-invalid (numberIn (part xs 1 8)) (withNumber xs) λ n.
     andThen-invalid (numberIn (part xs 9 3)) (withUnit xs n) λ u.
     andThen-invalid (numberIn (part xs 12 4)) (withPart xs n u) λ p.
     andThen-invalid (numberIn (part xs 16 4)) (withKey xs n u p) λ k.
-    andThen-invalid (numberIn (part xs 20 8)) (withSecond xs n u p k) λ s.
+    andThen-invalid (numberIn (part xs 20 8)) (withSecond xs n u p k) (h n u p k)
+
+pub no-kind : (xs : List ℕ) → isKind (getD xs 0 0) ≡ false → headerOf xs ≡ Invalid
+no-kind xs h =
+    invalid-by xs λ n u p k s.
     let f : Frame = record { kind = getD xs 0 0; number = n; unit = u; part = p; key = k; second = s } in
-    rw (other-kind f h) (and-false (same (part xs 28 2) colonSpace) (Is f))
+    rw (other-kind f h) (neither (same (part xs 28 2) colonSpace) (Is f))
   where
-    and-false : (b : Bool) (h : Header) → cond (b && false) h Invalid ≡ Invalid
-    and-false true h = refl
-    and-false false h = refl
+    neither : (b : Bool) (h : Header) → cond (b && false) h Invalid ≡ Invalid
+    neither true h = refl
+    neither false h = refl
 
 pub no-colon : (xs : List ℕ) → same (part xs 28 2) colonSpace ≡ false → headerOf xs ≡ Invalid
-unfolding headerOf
-no-colon xs h =
-    andThen-invalid (numberIn (part xs 1 8)) (withNumber xs) λ n.
-    andThen-invalid (numberIn (part xs 9 3)) (withUnit xs n) λ u.
-    andThen-invalid (numberIn (part xs 12 4)) (withPart xs n u) λ p.
-    andThen-invalid (numberIn (part xs 16 4)) (withKey xs n u p) λ k.
-    andThen-invalid (numberIn (part xs 20 8)) (withSecond xs n u p k) λ s.
-    rw h
+no-colon xs h = invalid-by xs λ n u p k s. rw h
 
 -- ---- what is written is what is read
 module _ (k : ℕ) (a b c d e g : List ℕ) (la : length a ≡ 8) (lb : length b ≡ 3) (lc : length c ≡ 4) (ld : length d ≡ 4) (le : length e ≡ 8) (lg : length g ≡ 2) where
   fields-found : (xs : List ℕ) → xs ≡ k ∷ (a ++ (b ++ (c ++ (d ++ (e ++ g)))))
       → (part xs 1 8 ≡ a) × (part xs 9 3 ≡ b) × (part xs 12 4 ≡ c) × (part xs 16 4 ≡ d) × (part xs 20 8 ≡ e) × (part xs 28 2 ≡ g)
   fields-found xs h =
-      let rest : (n w : ℕ) → part xs (1 + n) w ≡ part (a ++ (b ++ (c ++ (d ++ (e ++ g))))) n w = λ n w. rw h (part-after (k ∷ []) _ 1 n w refl) in (
-        rest 0 8 ∙ part-here a _ 8 la,
-        rest 8 3 ∙ part-after a _ 8 0 3 la ∙ part-here b _ 3 lb,
-        rest 11 4 ∙ part-after a _ 8 3 4 la ∙ part-after b _ 3 0 4 lb ∙ part-here c _ 4 lc,
-        rest 15 4 ∙ part-after a _ 8 7 4 la ∙ part-after b _ 3 4 4 lb ∙ part-after c _ 4 0 4 lc ∙ part-here d _ 4 ld,
-        rest 19 8 ∙ part-after a _ 8 11 8 la ∙ part-after b _ 3 8 8 lb ∙ part-after c _ 4 4 8 lc ∙ part-after d _ 4 0 8 ld ∙ part-here e _ 8 le,
-        rest 27 2 ∙ part-after a _ 8 19 2 la ∙ part-after b _ 3 16 2 lb ∙ part-after c _ 4 12 2 lc ∙ part-after d _ 4 8 2 ld ∙ part-after e _ 8 0 2 le ∙ part-all g 2 lg,
+      let rest : (n w : ℕ) → part xs (1 + n) w ≡ part (a ++ (b ++ (c ++ (d ++ (e ++ g))))) n w = λ n w. rw h (part-past (k ∷ []) _ 1 n w refl) in (
+        rest 0 8 ∙ part-front a _ 8 la,
+        rest 8 3 ∙ part-past a _ 8 0 3 la ∙ part-front b _ 3 lb,
+        rest 11 4 ∙ part-past a _ 8 3 4 la ∙ part-past b _ 3 0 4 lb ∙ part-front c _ 4 lc,
+        rest 15 4 ∙ part-past a _ 8 7 4 la ∙ part-past b _ 3 4 4 lb ∙ part-past c _ 4 0 4 lc ∙ part-front d _ 4 ld,
+        rest 19 8 ∙ part-past a _ 8 11 8 la ∙ part-past b _ 3 8 8 lb ∙ part-past c _ 4 4 8 lc ∙ part-past d _ 4 0 8 ld ∙ part-front e _ 8 le,
+        rest 27 2 ∙ part-past a _ 8 19 2 la ∙ part-past b _ 3 16 2 lb ∙ part-past c _ 4 12 2 lc ∙ part-past d _ 4 8 2 ld ∙ part-past e _ 8 0 2 le ∙ part-back [] g 0 2 refl lg,
       )
 
 abbrev Byte : ℕ → Type 0
 Byte x = x < 256
 
 module _ (f : Frame) where
-  ln : length (spell 8 (f .number)) ≡ 8
-  ln = length-spell 8 (f .number) (omega arith)
-
-  lu : length (spell 3 (f .unit)) ≡ 3
-  lu = length-spell 3 (f .unit) (omega arith)
-
-  lp : length (spell 4 (f .part)) ≡ 4
-  lp = length-spell 4 (f .part) (omega arith)
-
-  lk : length (spell 4 (f .key)) ≡ 4
-  lk = length-spell 4 (f .key) (omega arith)
-
-  ls : length (spell 8 (f .second)) ≡ 8
-  ls = length-spell 8 (f .second) (omega arith)
-
-  pub length-header : length (headerBytes f) ≡ headerSize
-  unfolding headerBytes
-  length-header = simp length-append (omega (arith, ln, lu, lp, lk, ls))
-
   pub header-kind : getD (headerBytes f) 0 0 ≡ f .kind
   unfolding headerBytes
   header-kind = refl
@@ -231,7 +225,8 @@ module _ (f : Frame) where
   unfolding headerBytes
   written-spelt e =
       let w = in-range-fits f e in
-      let p = fields-found (f .kind) (spell 8 (f .number)) (spell 3 (f .unit)) (spell 4 (f .part)) (spell 4 (f .key)) (spell 8 (f .second)) colonSpace ln lu lp lk ls refl (headerBytes f) refl in
+      let p = fields-found (f .kind) (spell 8 (f .number)) (spell 3 (f .unit)) (spell 4 (f .part)) (spell 4 (f .key)) (spell 8 (f .second)) colonSpace
+      (ln f) (lu f) (lp f) (lk f) (ls f) refl (headerBytes f) refl in
       record {
         kind = refl;
         number = ap numberIn (p .0) ∙ number-spell 8 (f .number) (omega arith) (w .number);

@@ -1,7 +1,7 @@
 -- Laws of the ranges of a header's fields: what each kind's ranges say, and that there is no fifth kind.
 use Prim.Native.Nat.{ℕ, _+_, _^_, _<_, _≤_}
 use native.Mathlib.Omega.{arith}
-use mathlib.Core.Path.{_≡_, refl, sym, _∙_}
+use mathlib.Core.Path.{_≡_, refl}
 use mathlib.Core.Logic.{_⊎_, inl, inr, _↔_}
 use mathlib.Core.Bool.{Bool, true, false, cond, _&&_, _||_}
 use lib.Dec.{eqb, leb, ltb}
@@ -45,6 +45,10 @@ pub record CommitRange (f : Frame) : Type 0 where
   pub key : f .key ≡ 0
   pub covered : f .second ≤ lastNumber
 
+-- whether a byte is one of the four kind letters
+abbrev pub isKind : ℕ → Bool
+isKind b = eqb b nodeLetter || eqb b cutOffLetter || eqb b keysLetter || eqb b commitLetter
+
 -- ---- tests and facts
 within-true : (low high n : ℕ) → within low high n ≡ true → (low ≤ n) × (n ≤ high)
 within-true low high n e =
@@ -86,10 +90,23 @@ module _ (f : Frame) where
           let t = and4 (within 1 lastNumber (f .number)) (inPlan f) (leb (f .key) lastPosition) (eqb (f .second) 0) e in
           let n = within-true 1 lastNumber (f .number) (t .0) in
           let p = plan-true f (t .1) in
-          record { from-one = n .0; number = n .1; file = p .0; offset = p .1; position = leb-true (f .key) lastPosition (t .2); second = eqb-true (f .second) 0 (t .3) }
+          record {
+            from-one = n .0;
+            number = n .1;
+            file = p .0;
+            offset = p .1;
+            position = leb-true (f .key) lastPosition (t .2);
+            second = eqb-true (f .second) 0 (t .3);
+          }
 
       from : NodeRange f → nodeRanges f ≡ true
-      from r = rw (within-intro 1 lastNumber (f .number) (r .from-one) (r .number), plan-intro f (r .file) (r .offset), le-leb (f .key) lastPosition (r .position), eq-eqb (f .second) 0 (r .second))
+      from r =
+          rw (
+            within-intro 1 lastNumber (f .number) (r .from-one) (r .number),
+            plan-intro f (r .file) (r .offset),
+            le-leb (f .key) lastPosition (r .position),
+            eq-eqb (f .second) 0 (r .second),
+          )
 
   pub cut-off-range : f .kind ≡ cutOffLetter → (inRange f ≡ true) ↔ CutOffRange f
   unfolding inRange
@@ -100,10 +117,23 @@ module _ (f : Frame) where
           let t = and4 (within 1 lastNumber (f .number)) (inPlan f) (eqb (f .key) 0) (eqb (f .second) 0) e in
           let n = within-true 1 lastNumber (f .number) (t .0) in
           let p = plan-true f (t .1) in
-          record { from-one = n .0; number = n .1; file = p .0; offset = p .1; key = eqb-true (f .key) 0 (t .2); second = eqb-true (f .second) 0 (t .3) }
+          record {
+            from-one = n .0;
+            number = n .1;
+            file = p .0;
+            offset = p .1;
+            key = eqb-true (f .key) 0 (t .2);
+            second = eqb-true (f .second) 0 (t .3);
+          }
 
       from : CutOffRange f → cutOffRanges f ≡ true
-      from r = rw (within-intro 1 lastNumber (f .number) (r .from-one) (r .number), plan-intro f (r .file) (r .offset), eq-eqb (f .key) 0 (r .key), eq-eqb (f .second) 0 (r .second))
+      from r =
+          rw (
+            within-intro 1 lastNumber (f .number) (r .from-one) (r .number),
+            plan-intro f (r .file) (r .offset),
+            eq-eqb (f .key) 0 (r .key),
+            eq-eqb (f .second) 0 (r .second),
+          )
 
   pub keys-range : f .kind ≡ keysLetter → (inRange f ≡ true) ↔ KeysRange f
   unfolding inRange
@@ -113,10 +143,24 @@ module _ (f : Frame) where
       to e =
           let t = and5 (within 1 lastNumber (f .number)) (leb (f .unit) lastKeyBlock) (leb (f .part) lastKeyPage) (eqb (f .key) 0) (eqb (f .second) 0) e in
           let n = within-true 1 lastNumber (f .number) (t .0) in
-          record { from-one = n .0; number = n .1; block = leb-true (f .unit) lastKeyBlock (t .1); page = leb-true (f .part) lastKeyPage (t .2); key = eqb-true (f .key) 0 (t .3); second = eqb-true (f .second) 0 (t .4) }
+          record {
+            from-one = n .0;
+            number = n .1;
+            block = leb-true (f .unit) lastKeyBlock (t .1);
+            page = leb-true (f .part) lastKeyPage (t .2);
+            key = eqb-true (f .key) 0 (t .3);
+            second = eqb-true (f .second) 0 (t .4);
+          }
 
       from : KeysRange f → keysRanges f ≡ true
-      from r = rw (within-intro 1 lastNumber (f .number) (r .from-one) (r .number), le-leb (f .unit) lastKeyBlock (r .block), le-leb (f .part) lastKeyPage (r .page), eq-eqb (f .key) 0 (r .key), eq-eqb (f .second) 0 (r .second))
+      from r =
+          rw (
+            within-intro 1 lastNumber (f .number) (r .from-one) (r .number),
+            le-leb (f .unit) lastKeyBlock (r .block),
+            le-leb (f .part) lastKeyPage (r .page),
+            eq-eqb (f .key) 0 (r .key),
+            eq-eqb (f .second) 0 (r .second),
+          )
 
   pub commit-range : f .kind ≡ commitLetter → (inRange f ≡ true) ↔ CommitRange f
   unfolding inRange
@@ -126,14 +170,28 @@ module _ (f : Frame) where
       to e =
           let t = and5 (within 1 lastNumber (f .number)) (eqb (f .unit) 0) (leb (f .part) lastPart) (eqb (f .key) 0) (leb (f .second) lastNumber) e in
           let n = within-true 1 lastNumber (f .number) (t .0) in
-          record { from-one = n .0; number = n .1; unit = eqb-true (f .unit) 0 (t .1); part = leb-true (f .part) lastPart (t .2); key = eqb-true (f .key) 0 (t .3); covered = leb-true (f .second) lastNumber (t .4) }
+          record {
+            from-one = n .0;
+            number = n .1;
+            unit = eqb-true (f .unit) 0 (t .1);
+            part = leb-true (f .part) lastPart (t .2);
+            key = eqb-true (f .key) 0 (t .3);
+            covered = leb-true (f .second) lastNumber (t .4);
+          }
 
       from : CommitRange f → commitRanges f ≡ true
-      from r = rw (within-intro 1 lastNumber (f .number) (r .from-one) (r .number), eq-eqb (f .unit) 0 (r .unit), le-leb (f .part) lastPart (r .part), eq-eqb (f .key) 0 (r .key), le-leb (f .second) lastNumber (r .covered))
+      from r =
+          rw (
+            within-intro 1 lastNumber (f .number) (r .from-one) (r .number),
+            eq-eqb (f .unit) 0 (r .unit),
+            le-leb (f .part) lastPart (r .part),
+            eq-eqb (f .key) 0 (r .key),
+            le-leb (f .second) lastNumber (r .covered),
+          )
 
   -- ---- four kinds
   -- a header of any other kind is out of range
-  pub other-kind : eqb (f .kind) nodeLetter || eqb (f .kind) cutOffLetter || eqb (f .kind) keysLetter || eqb (f .kind) commitLetter ≡ false → inRange f ≡ false
+  pub other-kind : isKind (f .kind) ≡ false → inRange f ≡ false
   unfolding inRange
   other-kind = go (eqb (f .kind) nodeLetter) (eqb (f .kind) cutOffLetter) (eqb (f .kind) keysLetter) (eqb (f .kind) commitLetter)
     where

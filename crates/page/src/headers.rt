@@ -14,6 +14,29 @@ ghost use Rattle.base.specs.Each.{same};
 ghost use Rattle.page.specs.Frame.{headerSize, colonSpace};
 ghost use Rattle.page.specs.Header.{nodeLetter, cutOffLetter, keysLetter, commitLetter, lastNumber, within, inPlan, nodeRanges, cutOffRanges, keysRanges, commitRanges, inRange, headerBytes, headerOf};
 
+// Where each number's columns start and how many there are; the kind letter is before them, colon and space after them.
+const NUMBER_AT: usize = 1;
+
+const NUMBER_COLUMNS: usize = 8;
+
+const UNIT_AT: usize = 9;
+
+const UNIT_COLUMNS: usize = 3;
+
+const PART_AT: usize = 12;
+
+const PART_COLUMNS: usize = 4;
+
+const KEY_AT: usize = 16;
+
+const KEY_COLUMNS: usize = 4;
+
+const SECOND_AT: usize = 20;
+
+const SECOND_COLUMNS: usize = 8;
+
+const END_AT: usize = 28;
+
 // The last number of each kind of field.
 const LAST_NUMBER: u32 = 99_999_999;
 
@@ -99,12 +122,12 @@ pub fn write_header(dst: &mut [u8], f: Frame)
     requires { ⌜ length (now dst) ≡ headerSize ⌝ }
     ensures { λ _. ⌜ now (dst .exit) ≡ headerBytes f ⌝ }
 {
-    columns::put_at(dst, 1, 8, f.number);
-    columns::put_at(dst, 9, 3, f.unit);
-    columns::put_at(dst, 12, 4, f.part);
-    columns::put_at(dst, 16, 4, f.key);
-    columns::put_at(dst, 20, 8, f.second);
-    bytes::copy(&mut dst[28..30], b": ");
+    columns::put_at(dst, NUMBER_AT, NUMBER_COLUMNS, f.number);
+    columns::put_at(dst, UNIT_AT, UNIT_COLUMNS, f.unit);
+    columns::put_at(dst, PART_AT, PART_COLUMNS, f.part);
+    columns::put_at(dst, KEY_AT, KEY_COLUMNS, f.key);
+    columns::put_at(dst, SECOND_AT, SECOND_COLUMNS, f.second);
+    bytes::copy(&mut dst[END_AT..Frame::HEADER], b": ");
     dst[0] = f.kind;
 }
 
@@ -124,19 +147,19 @@ fn read_fields(src: &[u8]) -> Header
     ensures { λ r. ⌜ r ≡ headerOf (now (src .entry)) ⌝ }
 {
     let kind = src[0];
-    let Number::Is(number) = columns::get_at(src, 1, 8) else {
+    let Number::Is(number) = columns::get_at(src, NUMBER_AT, NUMBER_COLUMNS) else {
         return Header::Invalid;
     };
-    let Number::Is(unit) = columns::get_at(src, 9, 3) else {
+    let Number::Is(unit) = columns::get_at(src, UNIT_AT, UNIT_COLUMNS) else {
         return Header::Invalid;
     };
-    let Number::Is(part) = columns::get_at(src, 12, 4) else {
+    let Number::Is(part) = columns::get_at(src, PART_AT, PART_COLUMNS) else {
         return Header::Invalid;
     };
-    let Number::Is(key) = columns::get_at(src, 16, 4) else {
+    let Number::Is(key) = columns::get_at(src, KEY_AT, KEY_COLUMNS) else {
         return Header::Invalid;
     };
-    let Number::Is(second) = columns::get_at(src, 20, 8) else {
+    let Number::Is(second) = columns::get_at(src, SECOND_AT, SECOND_COLUMNS) else {
         return Header::Invalid;
     };
     let f = Frame {
@@ -152,4 +175,18 @@ fn read_fields(src: &[u8]) -> Header
     } else {
         Header::Invalid
     }
+}
+
+// The header that 30 bytes are. The kind letter and the end are looked at first: most bytes that are no header fail there.
+pub fn read_header(src: &[u8]) -> Header
+    requires { ⌜ length (now src) ≡ headerSize ⌝ }
+    ensures { λ r. ⌜ r ≡ headerOf (now (src .entry)) ⌝ }
+{
+    if !is_kind(src[0]) {
+        return Header::Invalid;
+    }
+    if !bytes::same(&src[END_AT..Frame::HEADER], b": ") {
+        return Header::Invalid;
+    }
+    read_fields(src)
 }

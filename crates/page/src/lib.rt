@@ -2,6 +2,7 @@
 pub mod bytes;
 pub mod columns;
 pub mod entries;
+pub mod forms;
 pub mod frames;
 pub mod headers;
 pub mod keys;

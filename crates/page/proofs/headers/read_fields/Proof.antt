@@ -31,7 +31,14 @@ enum-told-2 c = search needs
 
 returns-2 : tie.Need-returns-2
 unfolding headerOf
-returns-2 c = rw (← c .before .before .before .before .before .before .get-at .ensures, c .before .before .before .before .number .given .1, ← c .before .before .get-at2 .ensures, c .enum-told2 .given .1)
+returns-2 c =
+    let number = c .before .before .before .before in
+    rw (
+      ← number .before .before .get-at .ensures,
+      number .number .given .1,
+      ← c .before .before .get-at2 .ensures,
+      c .enum-told2 .given .1,
+    )
 
 get-at-requires-3 : tie.Need-get-at-requires-3
 get-at-requires-3 c κs = search needs
@@ -44,7 +51,17 @@ enum-told-3 c = search needs
 
 returns-3 : tie.Need-returns-3
 unfolding headerOf
-returns-3 c = rw (← c .before .before .before .before .before .before .before .before .before .before .get-at .ensures, c .before .before .before .before .before .before .before .before .number .given .1, ← c .before .before .before .before .before .before .get-at2 .ensures, c .before .before .before .before .unit .given .1, ← c .before .before .get-at3 .ensures, c .enum-told3 .given .1)
+returns-3 c =
+    let unit = c .before .before .before .before in
+    let number = unit .before .before .before .before in
+    rw (
+      ← number .before .before .get-at .ensures,
+      number .number .given .1,
+      ← unit .before .before .get-at2 .ensures,
+      unit .unit .given .1,
+      ← c .before .before .get-at3 .ensures,
+      c .enum-told3 .given .1,
+    )
 
 get-at-requires-4 : tie.Need-get-at-requires-4
 get-at-requires-4 c κs = search needs
@@ -57,7 +74,20 @@ enum-told-4 c = search needs
 
 returns-4 : tie.Need-returns-4
 unfolding headerOf
-returns-4 c = rw (← c .before .before .before .before .before .before .before .before .before .before .before .before .before .before .get-at .ensures, c .before .before .before .before .before .before .before .before .before .before .before .before .number .given .1, ← c .before .before .before .before .before .before .before .before .before .before .get-at2 .ensures, c .before .before .before .before .before .before .before .before .unit .given .1, ← c .before .before .before .before .before .before .get-at3 .ensures, c .before .before .before .before .part .given .1, ← c .before .before .get-at4 .ensures, c .enum-told4 .given .1)
+returns-4 c =
+    let part' = c .before .before .before .before in
+    let unit = part' .before .before .before .before in
+    let number = unit .before .before .before .before in
+    rw (
+      ← number .before .before .get-at .ensures,
+      number .number .given .1,
+      ← unit .before .before .get-at2 .ensures,
+      unit .unit .given .1,
+      ← part' .before .before .get-at3 .ensures,
+      part' .part .given .1,
+      ← c .before .before .get-at4 .ensures,
+      c .enum-told4 .given .1,
+    )
 
 get-at-requires-5 : tie.Need-get-at-requires-5
 get-at-requires-5 c κs = search needs
@@ -70,18 +100,74 @@ enum-told-5 c = search needs
 
 returns-5 : tie.Need-returns-5
 unfolding headerOf
-returns-5 c = rw (← c .before .before .before .before .before .before .before .before .before .before .before .before .before .before .before .before .before .before .get-at .ensures, c .before .before .before .before .before .before .before .before .before .before .before .before .before .before .before .before .number .given .1, ← c .before .before .before .before .before .before .before .before .before .before .before .before .before .before .get-at2 .ensures, c .before .before .before .before .before .before .before .before .before .before .before .before .unit .given .1, ← c .before .before .before .before .before .before .before .before .before .before .get-at3 .ensures, c .before .before .before .before .before .before .before .before .part .given .1, ← c .before .before .before .before .before .before .get-at4 .ensures, c .before .before .before .before .key .given .1, ← c .before .before .get-at5 .ensures, c .enum-told5 .given .1)
+returns-5 c =
+    let key = c .before .before .before .before in
+    let part' = key .before .before .before .before in
+    let unit = part' .before .before .before .before in
+    let number = unit .before .before .before .before in
+    rw (
+      ← number .before .before .get-at .ensures,
+      number .number .given .1,
+      ← unit .before .before .get-at2 .ensures,
+      unit .unit .given .1,
+      ← part' .before .before .get-at3 .ensures,
+      part' .part .given .1,
+      ← key .before .before .get-at4 .ensures,
+      key .key .given .1,
+      ← c .before .before .get-at5 .ensures,
+      c .enum-told5 .given .1,
+    )
 
 in-range-requires : tie.Need-in-range-requires
 in-range-requires c κs = search needs
 
 returns-6 : tie.Need-returns-6
 unfolding headerOf
-returns-6 c = rw (← c .before .before .before .before .before .before .before .before .before .before .before .before .before .before .before .before .before .before .before .before .before .get-at .ensures, c .before .before .before .before .before .before .before .before .before .before .before .before .before .before .before .before .before .before .before .number .given .1, ← c .before .before .before .before .before .before .before .before .before .before .before .before .before .before .before .before .before .get-at2 .ensures, c .before .before .before .before .before .before .before .before .before .before .before .before .before .before .before .unit .given .1, ← c .before .before .before .before .before .before .before .before .before .before .before .before .before .get-at3 .ensures, c .before .before .before .before .before .before .before .before .before .before .before .part .given .1, ← c .before .before .before .before .before .before .before .before .before .get-at4 .ensures, c .before .before .before .before .before .before .before .key .given .1, ← c .before .before .before .before .before .get-at5 .ensures, c .before .before .before .second .given .1, c .before .before .before .before .before .before .before .before .before .before .before .before .before .before .before .before .before .before .before .before .before .before .before .before .pre .1, ← c .before .in-range .ensures, c .if1 .taken)
+returns-6 c =
+    let second = c .before .before .before in
+    let key = second .before .before .before .before in
+    let part' = key .before .before .before .before in
+    let unit = part' .before .before .before .before in
+    let number = unit .before .before .before .before in
+    rw (
+      ← number .before .before .get-at .ensures,
+      number .number .given .1,
+      ← unit .before .before .get-at2 .ensures,
+      unit .unit .given .1,
+      ← part' .before .before .get-at3 .ensures,
+      part' .part .given .1,
+      ← key .before .before .get-at4 .ensures,
+      key .key .given .1,
+      ← second .before .before .get-at5 .ensures,
+      second .second .given .1,
+      number .before .before .before .before .before .pre .1,
+      ← c .before .in-range .ensures,
+      c .if1 .taken,
+    )
 
 returns-7 : tie.Need-returns-7
 unfolding headerOf
-returns-7 c = rw (← c .before .before .before .before .before .before .before .before .before .before .before .before .before .before .before .before .before .before .before .before .before .get-at .ensures, c .before .before .before .before .before .before .before .before .before .before .before .before .before .before .before .before .before .before .before .number .given .1, ← c .before .before .before .before .before .before .before .before .before .before .before .before .before .before .before .before .before .get-at2 .ensures, c .before .before .before .before .before .before .before .before .before .before .before .before .before .before .before .unit .given .1, ← c .before .before .before .before .before .before .before .before .before .before .before .before .before .get-at3 .ensures, c .before .before .before .before .before .before .before .before .before .before .before .part .given .1, ← c .before .before .before .before .before .before .before .before .before .get-at4 .ensures, c .before .before .before .before .before .before .before .key .given .1, ← c .before .before .before .before .before .get-at5 .ensures, c .before .before .before .second .given .1, c .before .before .before .before .before .before .before .before .before .before .before .before .before .before .before .before .before .before .before .before .before .before .before .before .pre .1, ← c .before .in-range .ensures, c .if1 .left)
+returns-7 c =
+    let second = c .before .before .before in
+    let key = second .before .before .before .before in
+    let part' = key .before .before .before .before in
+    let unit = part' .before .before .before .before in
+    let number = unit .before .before .before .before in
+    rw (
+      ← number .before .before .get-at .ensures,
+      number .number .given .1,
+      ← unit .before .before .get-at2 .ensures,
+      unit .unit .given .1,
+      ← part' .before .before .get-at3 .ensures,
+      part' .part .given .1,
+      ← key .before .before .get-at4 .ensures,
+      key .key .given .1,
+      ← second .before .before .get-at5 .ensures,
+      second .second .given .1,
+      number .before .before .before .before .before .pre .1,
+      ← c .before .in-range .ensures,
+      c .if1 .left,
+    )
 
 pub read-fields-spec : {M : Type 1} → statement M
 read-fields-spec =

@@ -44,14 +44,19 @@ same-length c = simp length-set (search needs)
 
 returns : tie.Need-returns
 returns c =
-    let s = c .before .before .before .before .before .before .before .before .before .before .before .before .before .before .before .before .before .before .before .before .before .before .before .before .before .before in
+    let second = c .before .before .before .before .before .before .before in
+    let key = second .before .before .before .before in
+    let part' = key .before .before .before .before in
+    let unit = part' .before .before .before .before in
+    let number = unit .before .before .before .before in
+    let s = number .before .before .before in
     rw (
       c .before .before .copy .ensures,
-      c .before .before .before .before .before .before .before .put-at5 .ensures,
-      c .before .before .before .before .before .before .before .before .before .before .before .put-at4 .ensures,
-      c .before .before .before .before .before .before .before .before .before .before .before .before .before .before .before .put-at3 .ensures,
-      c .before .before .before .before .before .before .before .before .before .before .before .before .before .before .before .before .before .before .before .put-at2 .ensures,
-      c .before .before .before .before .before .before .before .before .before .before .before .before .before .before .before .before .before .before .before .before .before .before .before .put-at .ensures,
+      second .put-at5 .ensures,
+      key .put-at4 .ensures,
+      part' .put-at3 .ensures,
+      unit .put-at2 .ensures,
+      number .put-at .ensures,
     )
     (header-written (now (s .args .dst)) (s .args .f) (s .pre))
 

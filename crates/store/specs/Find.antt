@@ -1,0 +1,47 @@
+-- Document 01, "Calls and their refusals", Write: the key position and the page that a write takes.
+use Prim.Native.Nat.{ℕ, _+_, _*_, _-_, _/_, _%_}
+use mathlib.Core.Bool.{Bool, true, false, cond, _&&_}
+use mathlib.Core.List.{List}
+use lib.ListN.{getD}
+use lib.Dec.{eqb, leb, ltb}
+use Rattle.base.specs.Search.{firstFrom, allFrom}
+use Rattle.page.specs.Key.{positions}
+use Rattle.page.specs.Entry.{freeLetter}
+use Rattle.image.specs.Size.{pagesInBlock, pages}
+use Rattle.image.specs.Look.{pageEmpty, lowestEmpty, emptyBlocks}
+use Rattle.store.specs.Kind.{isData}
+use Rattle.store.specs.declared.Numbers.{Numbers}
+use Rattle.store.specs.declared.Found.{Found}
+use Rattle.store.specs.declared.Found.the-variants.{At, Nothing}
+
+-- a search over n numbers from 0 on that ended at i
+abbrev pub found : ℕ → ℕ → Found
+found n i = cond (ltb i n) (At i) Nothing
+
+-- the lowest f
+unfoldable pub lowestFree : List ℕ → Found
+lowestFree letters = found positions (firstFrom (λ p. eqb (getD letters p 0) freeLetter) positions 0)
+
+-- an empty page of a data block with only empty pages after it
+unfoldable pub isOpen : List ℕ → Numbers → ℕ → Bool
+isOpen img r g = isData img r (g / pagesInBlock) && allFrom (pageEmpty img) (pagesInBlock - g % pagesInBlock) g
+
+-- the first page of the lowest empty block if two are empty
+unfoldable pub freshPage : List ℕ → Found
+freshPage img = cond (leb 2 (emptyBlocks img)) (At (lowestEmpty img * pagesInBlock)) Nothing
+
+abbrev pub orElse : Found → Found → Found
+orElse (At i) other = At i
+orElse Nothing other = other
+
+-- the lowest such page of a data block, else the first page of an empty block
+unfoldable pub newPage : List ℕ → Numbers → Found
+newPage img r = orElse (found (pages img) (firstFrom (isOpen img r) (pages img) 0)) (freshPage img)
+
+abbrev pub isFound : Found → Bool
+isFound (At i) = true
+isFound Nothing = false
+
+abbrev pub foundAt : Found → ℕ
+foundAt (At i) = i
+foundAt Nothing = 0

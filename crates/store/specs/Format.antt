@@ -1,0 +1,56 @@
+-- Document 01, "Calls and their refusals": Format.
+use Prim.Native.Nat.{ℕ, _*_}
+use mathlib.Core.Bool.{Bool, _&&_}
+use mathlib.Core.List.{List, [], _∷_, _++_}
+use lib.ListN.{length, replicate}
+use lib.Dec.{eqb}
+use Rattle.base.specs.Fold.{listFrom}
+use Rattle.page.specs.Key.{keySize, positions, keyInNoise}
+use Rattle.page.specs.Entry.{none, freeLetter}
+use Rattle.image.specs.Size.{sizeRight, blocks}
+use Rattle.image.specs.Step.{Step, erase}
+use Rattle.image.specs.Block.{keyBlockSteps, commitBlockSteps}
+use Rattle.store.specs.Reply.{Test, _else_, verdict}
+use Rattle.store.specs.Record.{Record, mapSize}
+use Rattle.store.specs.Outcome.{Outcome, decided}
+use Rattle.store.specs.declared.Numbers.{Numbers}
+use Rattle.store.specs.declared.Reply.{Reply}
+use Rattle.store.specs.declared.Reply.the-variants.{ImageSize, BufferLength, NoiseLength}
+
+-- a key's worth of noise for each position: 7,168 bytes
+abbrev pub noiseSize : ℕ
+noiseSize = keySize * positions
+
+abbrev pub buffersRight : List ℕ → List ℕ → Bool
+buffersRight map letters = eqb (length map) mapSize && eqb (length letters) positions
+
+abbrev pub formatTests : List ℕ → List ℕ → List ℕ → List ℕ → List Test
+formatTests img map letters noise =
+    (sizeRight img else ImageSize)
+    ∷ (buffersRight map letters else BufferLength)
+    ∷ (eqb (length noise) noiseSize else NoiseLength)
+    ∷ []
+
+-- what a refused format or mount returns: all 0
+abbrev pub noNumbers : Numbers
+noNumbers = record { sequence = 0; epoch = 0; keys0 = 0; keys1 = 0; commit = 0 }
+
+-- next numbers 1 and 2; key blocks 0 and 1 in blocks 0 and 1, the commit in block 2
+abbrev pub formatNumbers : Numbers
+formatNumbers = record { sequence = 1; epoch = 2; keys0 = 0; keys1 = 1; commit = 2 }
+
+-- the map is all 65,535, the letters all f
+abbrev pub formatted : Record
+formatted = record { map = replicate mapSize none; letters = replicate positions freeLetter; numbers = formatNumbers }
+
+-- erases all blocks in order, writes key blocks 0 and 1 from the noise and a commit with no entries, all f, covered 0, all of epoch 1
+unfoldable pub formatSteps : List ℕ → List ℕ → List Step
+formatSteps img noise =
+    listFrom erase (blocks img) 0
+    ++ (keyBlockSteps 1 0 (formatNumbers .keys0) (keyInNoise noise)
+    ++ (keyBlockSteps 1 1 (formatNumbers .keys1) (keyInNoise noise)
+    ++ commitBlockSteps 1 0 (formatNumbers .commit) (formatted .map) (formatted .letters)))
+
+unfoldable pub formatOf : List ℕ → List ℕ → List ℕ → List ℕ → Outcome
+formatOf img map letters noise =
+    decided (verdict (formatTests img map letters noise)) (formatSteps img noise) formatted [] (record { map = map; letters = letters; numbers = noNumbers }) []

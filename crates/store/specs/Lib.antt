@@ -1,0 +1,22 @@
+-- Document 01 from block kinds to "Calls and their refusals", in the document's order. What a page is, is page's; what a step leaves, image's.
+--   Reply     the replies and their numbers; tests in order
+--   Kind      whole key blocks, whole commit blocks, data blocks
+--   Record    the working record, and when it fits
+--   Outcome   what a call leaves: reply, flash steps, record and lent buffer; and the same where the power fails
+--   Find      the lowest free key and the page that a write takes
+--   Format, Mount, Write, Read, CutOff, Commit, Wipe   the outcome of each call
+--   Taken     for each call, by name, what is known where it passed all its tests
+-- Letters used throughout: g a page of the image, b a block, p a key position, x a place, e an epoch, s a sequence, n and k the power.
+pub mod Reply
+pub mod Kind
+pub mod Record
+pub mod Outcome
+pub mod Find
+pub mod Format
+pub mod Mount
+pub mod Write
+pub mod Read
+pub mod CutOff
+pub mod Commit
+pub mod Wipe
+pub mod Taken

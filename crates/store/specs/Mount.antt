@@ -1,0 +1,187 @@
+-- Document 01, "Calls and their refusals": Mount. A decision for each place and each position, then the blocks to erase.
+use Prim.Native.Nat.{ℕ, _+_, _*_, _/_, _%_, max}
+use mathlib.Core.Bool.{Bool, true, false, cond, not, _&&_, _||_}
+use mathlib.Core.List.{List, [], _∷_, _++_, map}
+use lib.ListN.{length, getD, replicate}
+use lib.Dec.{eqb, leb, ltb}
+use Rattle.base.specs.Part.{part}
+use Rattle.base.specs.Search.{allFrom, anyFrom, whichFrom, highestFrom}
+use Rattle.base.specs.Fold.{foldFrom, listFrom}
+use Rattle.page.specs.Frame.{payloadSize}
+use Rattle.page.specs.Plan.{filePlan, places, countOf, startOf, placeOf}
+use Rattle.page.specs.Header.{nodeLetter, cutOffLetter}
+use Rattle.page.specs.Key.{positions}
+use Rattle.page.specs.Entry.{none, freeLetter, usedLetter, deletedLetter, entrySize, entryPart, entryAt, entryOf}
+use Rattle.page.specs.Page.{payloadOf}
+use Rattle.page.specs.declared.Frame.{Frame}
+use Rattle.page.specs.declared.Form.{Form}
+use Rattle.page.specs.declared.Form.the-variants.{Empty, Whole, Torn, Spoilt}
+use Rattle.page.specs.declared.Entry.{Entry}
+use Rattle.page.specs.declared.Entry.the-variants.{At as EntryAt, Vacant, Misspelt}
+use Rattle.image.specs.Size.{sizeRight, blocks, pages}
+use Rattle.image.specs.Look.{pageAt, blockEmpty, formAt}
+use Rattle.image.specs.Step.{Step, erase}
+use Rattle.store.specs.Reply.{Test, _else_, verdict, numberOf}
+use Rattle.store.specs.Kind.{pageIn, kindOf, keysEpoch, commitEpoch, coveredBy, isEventLetter, isData, isChosen}
+use Rattle.store.specs.Record.{Record, mapSize, pageOf, keyOf, isAt, placeFits, namedTimes, keysApart}
+use Rattle.store.specs.Outcome.{Outcome, decided}
+use Rattle.store.specs.Find.{isFound, foundAt}
+use Rattle.store.specs.Format.{buffersRight, noNumbers}
+use Rattle.store.specs.declared.Numbers.{Numbers}
+use Rattle.store.specs.declared.Found.{Found}
+use Rattle.store.specs.declared.Found.the-variants.{At, Nothing}
+use Rattle.store.specs.declared.Reply.{Reply}
+use Rattle.store.specs.declared.Reply.the-variants.{ImageSize, BufferLength, NoKeyBlock, NoCommit, EntryUnfit}
+
+-- ---- the chosen blocks: highest epoch, on a tie the lower block
+abbrev pub rankOf : (ℕ → ℕ) → Found → ℕ
+rankOf rank (At b) = rank b
+rankOf rank Nothing = 0
+
+-- the number below n of highest rank, the lowest of those; none where all ranks are 0
+unfoldable pub foremost : (ℕ → ℕ) → ℕ → Found
+foremost rank n = foldFrom (λ b best. cond (ltb (rankOf rank best) (rank b)) (At b) best) n 0 Nothing
+
+unfoldable pub chosenCommit : List ℕ → Found
+chosenCommit img = foremost (λ b. commitEpoch (kindOf img b)) (blocks img)
+
+unfoldable pub chosenKeys : List ℕ → ℕ → Found
+chosenKeys img q = foremost (λ b. keysEpoch q (kindOf img b)) (blocks img)
+
+-- ---- what the commit in block c says: the covered sequence, a letter for each position, an entry for each place
+unfoldable pub coveredIn : List ℕ → ℕ → ℕ
+coveredIn img c = coveredBy (kindOf img c)
+
+unfoldable pub letterIn : List ℕ → ℕ → ℕ → ℕ
+letterIn img c p = getD (payloadOf (pageAt img (pageIn c (p / payloadSize)))) (p % payloadSize) 0
+
+unfoldable pub entryIn : List ℕ → ℕ → ℕ → Entry
+entryIn img c x = entryOf (part (payloadOf (pageAt img (pageIn c (entryPart x)))) (entryAt x) entrySize)
+
+-- ---- what decides a place: the sequence of its event, or 0 for the commit's entry; and the page and key that it gives
+pub record Decision : Type 0 where
+  pub sequence : ℕ
+  pub page : ℕ
+  pub key : ℕ
+
+abbrev pub byEntry : Entry → Decision
+byEntry (EntryAt page key) = record { sequence = 0; page = page; key = key }
+byEntry Vacant = record { sequence = 0; page = none; key = none }
+byEntry Misspelt = record { sequence = 0; page = none; key = none }
+
+-- a cut-off removes the places of its file from its offset on
+unfoldable pub removes : ℕ → ℕ → ℕ → Bool
+removes file offset x =
+    leb (startOf filePlan file + offset) x && ltb x (startOf filePlan file + countOf filePlan file)
+
+-- a header that sets or removes place x
+unfoldable pub sets : ℕ → Frame → Bool
+sets x f = eqb (f .kind) nodeLetter && isAt x (placeOf filePlan (f .unit) (f .part))
+
+unfoldable pub cuts : ℕ → Frame → Bool
+cuts x f = eqb (f .kind) cutOffLetter && removes (f .unit) (f .part) x
+
+-- the event of a whole page g decides where its sequence is above the covered one and none seen before is higher: ties to the higher page
+abbrev pub decideBy : ℕ → ℕ → ℕ → Form → Decision → Decision
+decideBy s x g Empty d = d
+decideBy s x g (Torn f) d = d
+decideBy s x g Spoilt d = d
+decideBy s x g (Whole f) d =
+    cond (ltb s (f .number) && leb (d .sequence) (f .number))
+    (cond (sets x f) (record { sequence = f .number; page = g; key = f .key })
+    (cond (cuts x f) (record { sequence = f .number; page = none; key = none }) d))
+    d
+
+-- for each place the event of highest sequence above the covered one decides, else the commit's entry
+unfoldable pub decision : List ℕ → ℕ → ℕ → Decision
+decision img c x = foldFrom (λ g. decideBy (coveredIn img c) x g (formAt img g)) (pages img) 0 (byEntry (entryIn img c x))
+
+unfoldable pub mountMap : List ℕ → ℕ → List ℕ
+mountMap img c = listFrom (λ x. decision img c x .page) places 0 ++ listFrom (λ x. decision img c x .key) places 0
+
+-- scratch gets each place's deciding sequence or 0
+unfoldable pub mountScratch : List ℕ → ℕ → List ℕ
+mountScratch img c = listFrom (λ x. decision img c x .sequence) places 0
+
+-- a live entry fits: where the commit's entry decides, the place is none or names a whole N page of that file, offset and key
+unfoldable pub entriesFit : List ℕ → ℕ → Bool
+entriesFit img c = allFrom (λ x. not (eqb (decision img c x .sequence) 0) || placeFits img (mountMap img c) x) places 0
+
+-- ---- letters
+-- a whole or torn N page above the covered sequence that names position p
+abbrev pub spends : ℕ → ℕ → Form → Bool
+spends s p Empty = false
+spends s p (Whole f) = eqb (f .kind) nodeLetter && ltb s (f .number) && eqb (f .key) p
+spends s p (Torn f) = eqb (f .kind) nodeLetter && ltb s (f .number) && eqb (f .key) p
+spends s p Spoilt = false
+
+unfoldable pub isSpent : List ℕ → ℕ → ℕ → Bool
+isSpent img c p = anyFrom (λ g. spends (coveredIn img c) p (formAt img g)) (pages img) 0
+
+-- used if a live node names it; else deleted if its letter was not f or such a page names it; else free
+unfoldable pub mountLetter : List ℕ → ℕ → ℕ → ℕ
+mountLetter img c p =
+    cond (leb 1 (namedTimes (mountMap img c) p)) usedLetter
+    (cond (not (eqb (letterIn img c p) freeLetter) || isSpent img c p) deletedLetter freeLetter)
+
+-- ---- next numbers: one above the highest
+abbrev pub sequenceOf : Form → ℕ
+sequenceOf Empty = 0
+sequenceOf (Whole f) = cond (isEventLetter (f .kind)) (f .number) 0
+sequenceOf (Torn f) = cond (isEventLetter (f .kind)) (f .number) 0
+sequenceOf Spoilt = 0
+
+abbrev pub epochOf : List ℕ → ℕ → ℕ
+epochOf img b = max (commitEpoch (kindOf img b)) (max (keysEpoch 0 (kindOf img b)) (keysEpoch 1 (kindOf img b)))
+
+unfoldable pub mountNumbers : List ℕ → Numbers
+mountNumbers img =
+    let c = foundAt (chosenCommit img) in
+    record {
+      sequence = max (coveredIn img c) (highestFrom (λ g. sequenceOf (formAt img g)) (pages img) 0) + 1;
+      epoch = highestFrom (epochOf img) (blocks img) 0 + 1;
+      keys0 = foundAt (chosenKeys img 0);
+      keys1 = foundAt (chosenKeys img 1);
+      commit = c;
+    }
+
+unfoldable pub mounted : List ℕ → Record
+mounted img =
+    let c = foundAt (chosenCommit img) in
+    record { map = mountMap img c; letters = listFrom (mountLetter img c) positions 0; numbers = mountNumbers img }
+
+-- ---- every block not chosen, not data and not empty is erased, in order
+unfoldable pub isStray : List ℕ → Numbers → ℕ → Bool
+isStray img r b = not (isChosen r b) && not (isData img r b) && not (blockEmpty img b)
+
+unfoldable pub mountSteps : List ℕ → List Step
+mountSteps img = map erase (whichFrom (isStray img (mountNumbers img)) (blocks img) 0)
+
+-- ---- the call
+abbrev pub mountTests : List ℕ → List ℕ → List ℕ → List ℕ → List Test
+mountTests img map letters scratch =
+    let c = foundAt (chosenCommit img) in
+    (sizeRight img else ImageSize)
+    ∷ (buffersRight map letters && eqb (length scratch) places else BufferLength)
+    ∷ (isFound (chosenCommit img) else NoCommit)
+    ∷ (isFound (chosenKeys img 0) && isFound (chosenKeys img 1) else NoKeyBlock)
+    ∷ (entriesFit img c && keysApart (mountMap img c) else EntryUnfit)
+    ∷ []
+
+-- refusals 12 to 14 fill map with 65,535, letters with d, scratch with 0; 1 and 2 change nothing; either way the numbers are all 0
+abbrev pub fills : Reply → Bool
+fills v = leb 12 (numberOf v)
+
+abbrev pub unmounted : Reply → List ℕ → List ℕ → Record
+unmounted v map letters =
+    record {
+      map = cond (fills v) (replicate mapSize none) map;
+      letters = cond (fills v) (replicate positions deletedLetter) letters;
+      numbers = noNumbers;
+    }
+
+unfoldable pub mountOf : List ℕ → List ℕ → List ℕ → List ℕ → Outcome
+mountOf img map letters scratch =
+    let v = verdict (mountTests img map letters scratch) in
+    decided v (mountSteps img) (mounted img) (mountScratch img (foundAt (chosenCommit img)))
+    (unmounted v map letters) (cond (fills v) (replicate places 0) scratch)

@@ -1,0 +1,84 @@
+-- Document 01, "Calls and their refusals": Write.
+use Prim.Native.Nat.{ℕ, _+_}
+use mathlib.Core.Bool.{Bool, cond}
+use mathlib.Core.List.{List, [], _∷_}
+use lib.ListN.{length, getD, set}
+use lib.Dec.{eqb, leb, ltb}
+use Rattle.page.specs.Frame.{payloadSize}
+use Rattle.page.specs.Plan.{filePlan, lastFile, places, countOf, startOf}
+use Rattle.page.specs.Header.{lastNumber}
+use Rattle.page.specs.Key.{keyBlock}
+use Rattle.page.specs.Entry.{none, usedLetter, deletedLetter}
+use Rattle.page.specs.Page.{nodePage}
+use Rattle.image.specs.Size.{sizeRight}
+use Rattle.image.specs.Look.{blockAt}
+use Rattle.image.specs.Step.{Step, program}
+use Rattle.image.specs.Block.{keyInBlock}
+use Rattle.store.specs.Reply.{Test, _else_, verdict}
+use Rattle.store.specs.Record.{Record, pageOf, keyOf, live, fits}
+use Rattle.store.specs.Outcome.{Outcome, decided}
+use Rattle.store.specs.Find.{lowestFree, newPage, isFound, foundAt}
+use Rattle.store.specs.Format.{buffersRight}
+use Rattle.store.specs.declared.Numbers.{Numbers}
+use Rattle.store.specs.declared.Reply.{Reply}
+use Rattle.store.specs.declared.Reply.the-variants.{ImageSize, BufferLength, NoSuchFile, OffsetOutside, PayloadLength, RecordUnfit, NoFreeKey, NoRoom, NumbersSpent}
+
+-- refusals 4 and 5: file above 13; offset not below the count
+abbrev pub fileRight : ℕ → Bool
+fileRight file = leb file lastFile
+
+abbrev pub offsetRight : ℕ → ℕ → Bool
+offsetRight file offset = ltb offset (countOf filePlan file)
+
+abbrev pub writeTests : List ℕ → Record → ℕ → ℕ → List ℕ → List Test
+writeTests img r file offset payload =
+    (sizeRight img else ImageSize)
+    ∷ (buffersRight (r .map) (r .letters) else BufferLength)
+    ∷ (fileRight file else NoSuchFile)
+    ∷ (offsetRight file offset else OffsetOutside)
+    ∷ (eqb (length payload) payloadSize else PayloadLength)
+    ∷ (fits img r else RecordUnfit)
+    ∷ (leb (r .numbers .sequence) lastNumber else NumbersSpent)
+    ∷ (isFound (lowestFree (r .letters)) else NoFreeKey)
+    ∷ (isFound (newPage img (r .numbers)) else NoRoom)
+    ∷ []
+
+-- the place of a file and an offset below its count
+abbrev pub placeAt : ℕ → ℕ → ℕ
+placeAt file offset = startOf filePlan file + offset
+
+-- the key of position p, from its slot of the chosen key block
+abbrev pub keysBlock : Numbers → ℕ → ℕ
+keysBlock r q = cond (eqb q 0) (r .keys0) (r .keys1)
+
+unfoldable pub keyHeld : List ℕ → Numbers → ℕ → List ℕ
+keyHeld img r p = keyInBlock (blockAt img (keysBlock r (keyBlock p))) p
+
+-- each sequence or epoch used raises its next number by one
+abbrev pub nextSequence : Numbers → Numbers
+nextSequence r =
+    record { sequence = r .sequence + 1; epoch = r .epoch; keys0 = r .keys0; keys1 = r .keys1; commit = r .commit }
+
+-- a key replaced or removed becomes d
+abbrev pub released : List ℕ → List ℕ → ℕ → List ℕ
+released map letters x = cond (live map x) (set letters (keyOf map x) deletedLetter) letters
+
+-- the record with place x at page g and key position p
+abbrev pub placed : Record → ℕ → ℕ → ℕ → Record
+placed r x g p =
+    record {
+      map = set (set (r .map) x g) (places + x) p;
+      letters = set (released (r .map) (r .letters) x) p usedLetter;
+      numbers = nextSequence (r .numbers);
+    }
+
+unfoldable pub writeSteps : List ℕ → Record → ℕ → ℕ → List ℕ → List Step
+writeSteps img r file offset payload =
+    let p = foundAt (lowestFree (r .letters)) in
+    program (foundAt (newPage img (r .numbers))) (nodePage (r .numbers .sequence) file offset p (keyHeld img (r .numbers) p) payload) ∷ []
+
+unfoldable pub writeOf : List ℕ → Record → ℕ → ℕ → List ℕ → Outcome
+writeOf img r file offset payload =
+    decided (verdict (writeTests img r file offset payload)) (writeSteps img r file offset payload)
+    (placed r (placeAt file offset) (foundAt (newPage img (r .numbers))) (foundAt (lowestFree (r .letters)))) []
+    r []

@@ -1,0 +1,52 @@
+// The store: block kinds, the working record and its fit, and the calls of document 01.
+
+// The numbers of the working record: the next sequence and epoch, and the blocks of key block 0, key block 1 and the commit.
+pub struct Numbers {
+    pub sequence: u32,
+    pub epoch: u32,
+    pub keys0: u32,
+    pub keys1: u32,
+    pub commit: u32,
+}
+
+// What a block is, as far as its pages say it by themselves.
+pub enum Kind {
+    // A whole key block: its number, 0 or 1, and its epoch.
+    Keys(u32, u32),
+    // A whole commit block: its epoch and the covered sequence.
+    Commit(u32, u32),
+    Other,
+}
+
+// What a search finds.
+pub enum Found {
+    At(usize),
+    Nothing,
+}
+
+// What a call replies. Each case but the first and the last is a refusal of document 01.
+pub enum Reply {
+    Done,
+    ImageSize,
+    BufferLength,
+    NoiseLength,
+    NoSuchFile,
+    OffsetOutside,
+    PayloadLength,
+    RecordUnfit,
+    NothingThere,
+    NoFreeKey,
+    NoRoom,
+    NumbersSpent,
+    NoKeyBlock,
+    NoCommit,
+    EntryUnfit,
+    // The power failed before the call's last step was whole.
+    PowerCut,
+}
+
+// A call's answer: its reply, and the numbers of the record afterwards.
+pub struct Answer {
+    pub reply: Reply,
+    pub numbers: Numbers,
+}

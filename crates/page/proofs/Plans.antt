@@ -113,6 +113,9 @@ pub plan-sum : startOf filePlan (length filePlan) ≡ places
 unfolding startOf
 plan-sum = refl
 
+pub plan-file : (file offset x : ℕ) → placeOf filePlan file offset ≡ At x → file ≤ lastFile
+plan-file file offset x e = omega (arith, place-file filePlan file offset x e)
+
 pub plan-below : (file offset x : ℕ) → placeOf filePlan file offset ≡ At x → x < places
 plan-below file offset x e = rw plan-sum at (place-below filePlan file offset x e)
 

@@ -4,7 +4,7 @@ use native.Mathlib.Omega.{arith}
 use native.Mathlib.Nat.{add-zero, zero-add, le-of-eq}
 use native.Mathlib.Decide.{ℕ-discrete}
 use mathlib.Core.Path.{_≡_, refl, _∙_}
-use mathlib.Core.List.{List, _∷_}
+use mathlib.Core.List.{List}
 use lib.ListN.{length}
 use Rattle.base.specs.Each.{Each}
 use Rattle.base.specs.Fold.{listFrom}
@@ -18,13 +18,12 @@ use Rattle.image.proofs.Step.{blockOf, whole-length, page-program, page
 use Rattle.image.proofs.Plays.{play-all}
 
 module _ (b : ℕ) (page : ℕ → List ℕ) where
-  -- the steps that program n pages of block b from page j on
-  abbrev pub rowSteps : ℕ → ℕ → List Step
-  rowSteps n j = listFrom (λ (i : ℕ). program (b * pagesInBlock + i) (page i)) n j
+  -- the step that programs page i of block b, and those that program n pages from page j on
+  abbrev pub rowStep : ℕ → Step
+  rowStep i = program (b * pagesInBlock + i) (page i)
 
-  row-next : (n j : ℕ) → rowSteps (suc n) j ≡ program (b * pagesInBlock + j) (page j) ∷ rowSteps n (suc j)
-  unfolding listFrom
-  row-next n j = refl
+  abbrev pub rowSteps : ℕ → ℕ → List Step
+  rowSteps n j = listFrom rowStep n j
 
   pub row-in-block : (n j : ℕ) → j + n ≤ pagesInBlock → Each (λ (s : Step). blockOf s ≡ b) (rowSteps n j)
   unfolding listFrom

@@ -3,11 +3,12 @@ use Prim.Native.Nat.{_≤_, _-_}
 use native.Mathlib.Omega.{arith}
 use mathlib.Core.Path.{_≡_, refl, sym, _∙_}
 use lib.ListN.{length}
+use denote.Ref.{now}
 use borrow.Author.Needs.{needs}
 use Rattle.page.specs.Entry.{parts}
 use Rattle.image.specs.Power.{device, run}
 use Rattle.image.specs.Block.{commitBlockSteps}
-use Rattle.image.proofs.Rows.{rowSteps}
+use Rattle.image.proofs.Rows.{rowStep, rowSteps}
 use Rattle.image.proofs.Runs.{run-next, run-none}
 use Rattle.image.proofs.CommitBlock.{commitBlockPage}
 use Rattle.image.proofs.blocks.program_commit_block.Statement.{statement}
@@ -39,7 +40,12 @@ loop-again : tie.Need-loop-again Inv-loop μ-loop
 loop-again c =
     let l = c .before .before .before .before .before .loop in
     let w = c .before .before .program-part in
-    (omega arith, w .kept .0 ∙ l .inv .1, l .inv .2 ∙ run-next _ parts (l .i) _ _ (omega arith) (w .ensures))
+    let a = c .before .before .before .before .before .before .before .before .before .args in
+    let page = commitBlockPage (a .epoch) (a .covered) (now (a .map)) (now (a .letters)) in (
+      omega arith,
+      w .kept .0 ∙ l .inv .1,
+      l .inv .2 ∙ run-next (rowStep (a .b) page) parts (l .i) (device (l .q) (l .image)) (device (w .result) (w .last .0)) (omega arith) (w .ensures),
+    )
 
 same-length : tie.Need-same-length Inv-loop μ-loop
 same-length c = c .before .loop .inv .1

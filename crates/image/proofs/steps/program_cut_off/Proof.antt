@@ -3,6 +3,7 @@ use mathlib.Core.Path.{sym}
 use denote.Ref.{now}
 use borrow.Author.Tests.{not-true, not-false}
 use Rattle.image.proofs.Runs.{act-off}
+use Rattle.page.specs.Page.{cutOffPage}
 use Rattle.page.proofs.Pages.{cut-off-length}
 use Rattle.image.proofs.Lent.{lent-program}
 use borrow.Author.Needs.{needs}
@@ -43,7 +44,7 @@ returns-2 : tie.Need-returns-2
 returns-2 c =
     let a = c .before .before .before .before .before .before .before .before .before .args in
     lent-program (now (a .image)) (a .p) (c .after-step .result) (not-false _ (c .before .before .before .before .before .before .if1 .left)) (c .after-step .ensures)
-    (c .before .before .before .before .reach-of .result) (c .before .before .before .before .reach-of .ensures) _ (a .g) _
+    (c .before .before .before .before .reach-of .result) (c .before .before .before .before .reach-of .ensures) _ (a .g) (cutOffPage (a .sequence) (a .file) (a .offset))
     (search needs, cut-off-length (a .sequence) (a .file) (a .offset))
     (c .before .before .before .write-cut-off .ensures)
 

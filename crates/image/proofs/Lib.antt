@@ -9,7 +9,6 @@
 --   KeyBlock     the keys of a key block and its pages
 --   CommitBlock  the pages of a commit block
 --   Forms        the form of a page after a step
---   Cases        document 01's case P9
 pub mod Step
 pub mod Empties
 pub mod Looks
@@ -20,4 +19,3 @@ pub mod Lent
 pub mod KeyBlock
 pub mod CommitBlock
 pub mod Forms
-pub mod Cases

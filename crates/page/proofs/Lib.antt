@@ -8,7 +8,6 @@
 --   Commits    a commit's payloads: an entry has one spelling, letters and entries read back
 --   Pages      the bytes of a page: length, what reads back, what a cut program leaves
 --   FormLaws   page forms: the form of a page that was programmed whole or in part
---   Cases      document 01's cases
 pub mod Slices
 pub mod Column
 pub mod Plans
@@ -18,4 +17,3 @@ pub mod Positions
 pub mod Commits
 pub mod Pages
 pub mod FormLaws
-pub mod Cases

@@ -3,6 +3,7 @@ use mathlib.Core.Path.{_≡_, refl, ap, ap₂, _∙_}
 use mathlib.Core.List.{List, _++_, append-nil}
 use Prim.Native.Nat.{ℕ, _-_, _≤_}
 use native.Mathlib.Omega.{arith}
+use borrow.Author.Needs.{needs}
 use denote.Ref.{now}
 use lib.ListN.{length, getD, take, drop, set, length-set, drop-of-length-le}
 use lib.Seq.{take-all}
@@ -19,8 +20,14 @@ abbrev μ-loop : tie.MeasureT-loop
 loop-holds : tie.Need-loop-holds Inv-loop μ-loop
 loop-holds c = (omega arith, refl, refl)
 
+mul-dst : tie.Need-mul-dst Inv-loop μ-loop
+mul-dst c = search needs
+
 shared-slice-read-dst : tie.Need-shared-slice-read-dst Inv-loop μ-loop
 shared-slice-read-dst c = omega arith
+
+mul-dst-2 : tie.Need-mul-dst-2 Inv-loop μ-loop
+mul-dst-2 c = search needs
 
 slice-write-dst : tie.Need-slice-write-dst Inv-loop μ-loop
 slice-write-dst c = omega arith
@@ -58,7 +65,9 @@ copy-numbers-spec =
     Inv-loop
     μ-loop
     loop-holds
+    mul-dst
     shared-slice-read-dst
+    mul-dst-2
     slice-write-dst
     add-i
     loop-less

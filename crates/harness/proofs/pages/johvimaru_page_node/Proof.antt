@@ -1,38 +1,46 @@
+-- `pages::johvimaru_page_node` gives the page of a node up to byte k, or refuses a length.
+use mathlib.Core.Path.{ap, _∙_}
+use mathlib.Core.List.{List}
+use Prim.Native.Nat.{ℕ}
+use denote.Ref.{now}
+use borrow.Author.Tests.{eq-eqb, ne-eqb}
+use Rattle.page.specs.Page.{nodePage, cutPage}
+use Rattle.harness.specs.Answer.{answer}
+use Rattle.harness.specs.Page.{nodeAnswer}
 use borrow.Author.Needs.{needs}
 use Rattle.harness.proofs.pages.johvimaru_page_node.Statement.{statement}
 use Rattle.harness.proofs.pages.johvimaru_page_node.Tie as tie
-use Rattle.harness.proofs.pages.johvimaru_page_node.Reads as reads
-use Rattle.harness.proofs.pages.johvimaru_page_node.Lts as lts
-use Rattle.harness.proofs.array_of.Reads as array-of-reads
-use Rattle.page.proofs.writers.write_node.Reads as write-node-reads
 
--- src/pages.rt:190:9
 returns : tie.Need-returns
-returns c = ?
+unfolding nodeAnswer
+returns c = rw (ne-eqb _ _ (c .if1 .taken))
 
--- src/pages.rt:193:9
 returns-2 : tie.Need-returns-2
-returns-2 c = ?
+unfolding nodeAnswer
+returns-2 c = rw (eq-eqb _ _ (c .before .if1 .left), ne-eqb _ _ (c .if2 .taken))
 
--- src/pages.rt:196:9
 returns-3 : tie.Need-returns-3
-returns-3 c = ?
+unfolding nodeAnswer
+returns-3 c = rw (eq-eqb _ _ (c .before .before .if1 .left), eq-eqb _ _ (c .before .if2 .left), ne-eqb _ _ (c .if3 .taken))
 
--- src/pages.rt:204:9
 array-of-requires : tie.Need-array-of-requires
 array-of-requires c κs = search needs
 
--- src/pages.rt:198:5
 write-node-requires : tie.Need-write-node-requires
 write-node-requires c κs = search needs
 
--- src/pages.rt:176:1
 same-length : tie.Need-same-length
 same-length c = search needs
 
--- src/pages.rt:176:1
 returns-4 : tie.Need-returns-4
-returns-4 c = ?
+unfolding nodeAnswer
+returns-4 c = 
+    let e = c .before .before .before .before .before in
+    let a = e .before .before .before .before .before .before .args in
+    rw (eq-eqb _ _ (e .before .before .if1 .left), eq-eqb _ _ (e .before .if2 .left), eq-eqb _ _ (e .if3 .left))
+    (ap (answer 0)
+    (c .before .before .write-node .ensures
+    ∙ ap (λ (key : List ℕ). cutPage (a .k) (nodePage (a .sequence) (a .file) (a .offset) (a .position) key (now (a .payload)))) (c .before .before .before .array-of .ensures)))
 
 pub johvimaru-page-node-spec : {M : Type 1} → statement M
 johvimaru-page-node-spec =

@@ -1,38 +1,46 @@
+-- `pages::johvimaru_page_payload` gives the deciphered payload of a page, or refuses a length.
+use mathlib.Core.Path.{ap, _∙_}
+use mathlib.Core.List.{List}
+use Prim.Native.Nat.{ℕ}
+use denote.Ref.{now}
+use borrow.Author.Tests.{eq-eqb, ne-eqb}
+use Rattle.page.specs.Page.{payloadOf, enciphered}
+use Rattle.harness.specs.Answer.{answer}
+use Rattle.harness.specs.Page.{payloadAnswer}
 use borrow.Author.Needs.{needs}
 use Rattle.harness.proofs.pages.johvimaru_page_payload.Statement.{statement}
 use Rattle.harness.proofs.pages.johvimaru_page_payload.Tie as tie
-use Rattle.harness.proofs.pages.johvimaru_page_payload.Reads as reads
-use Rattle.harness.proofs.pages.johvimaru_page_payload.Lts as lts
-use Rattle.harness.proofs.array_of.Reads as array-of-reads
-use Rattle.page.proofs.writers.read_payload.Reads as read-payload-reads
 
--- src/pages.rt:217:9
 returns : tie.Need-returns
-returns c = ?
+unfolding payloadAnswer
+returns c = rw (ne-eqb _ _ (c .if1 .taken))
 
--- src/pages.rt:220:9
 returns-2 : tie.Need-returns-2
-returns-2 c = ?
+unfolding payloadAnswer
+returns-2 c = rw (eq-eqb _ _ (c .before .if1 .left), ne-eqb _ _ (c .if2 .taken))
 
--- src/pages.rt:223:9
 returns-3 : tie.Need-returns-3
-returns-3 c = ?
+unfolding payloadAnswer
+returns-3 c = rw (eq-eqb _ _ (c .before .before .if1 .left), eq-eqb _ _ (c .before .if2 .left), ne-eqb _ _ (c .if3 .taken))
 
--- src/pages.rt:225:33
 array-of-requires : tie.Need-array-of-requires
 array-of-requires c κs = search needs
 
--- src/pages.rt:225:5
 read-payload-requires : tie.Need-read-payload-requires
 read-payload-requires c κs = search needs
 
--- src/pages.rt:212:1
 same-length : tie.Need-same-length
 same-length c = search needs
 
--- src/pages.rt:212:1
 returns-4 : tie.Need-returns-4
-returns-4 c = ?
+unfolding payloadAnswer
+returns-4 c = 
+    let e = c .before .before .before .before .before in
+    let a = e .before .before .before .before .before .before .args in
+    rw (eq-eqb _ _ (e .before .before .if1 .left), eq-eqb _ _ (e .before .if2 .left), eq-eqb _ _ (e .if3 .left))
+    (ap (answer 0)
+    (c .before .before .read-payload .ensures
+    ∙ ap (λ (key : List ℕ). enciphered key (payloadOf (now (a .page)))) (c .before .before .before .before .array-of .ensures)))
 
 pub johvimaru-page-payload-spec : {M : Type 1} → statement M
 johvimaru-page-payload-spec =

@@ -2,21 +2,22 @@
 -- second; an entry as two: page and key.
 use mathlib.Core.Bool.{cond, _&&_}
 use mathlib.Core.List.{List, [], _∷_}
-use Prim.Native.Nat.{ℕ}
+use Prim.Native.Nat.{ℕ, _+_}
 use lib.Dec.{eqb, ltb}
 use lib.ListN.{length, getD}
 use Rattle.page.specs.Frame.{headerSize, payloadSize, pageSize}
 use Rattle.page.specs.Header.{inRange, headerBytes}
+use Rattle.page.specs.Plan.{places}
 use Rattle.page.specs.Form.{formOf}
-use Rattle.page.specs.Key.{keySize}
-use Rattle.page.specs.Entry.{entrySize, entryBytes, entryOf}
-use Rattle.page.specs.Page.{nodePage, payloadOf, enciphered, cutPage}
+use Rattle.page.specs.Key.{keySize, positions}
+use Rattle.page.specs.Entry.{entrySize, parts, entryBytes, entryOf, commitPayload, validPayload}
+use Rattle.page.specs.Page.{nodePage, cutOffPage, commitPage, payloadOf, enciphered, cutPage}
 use Rattle.page.specs.declared.Frame.{Frame}
 use Rattle.page.specs.declared.Form.{Form}
 use Rattle.page.specs.declared.Form.the-variants.{Empty, Whole, Torn, Spoilt}
 use Rattle.page.specs.declared.Entry.{Entry}
 use Rattle.page.specs.declared.Entry.the-variants.{At, Vacant, Misspelt}
-use Rattle.harness.specs.Answer.{Answer, answer, done, answerIf}
+use Rattle.harness.specs.Answer.{Answer, answer, done, refused, answerIf}
 
 -- ---- headers and forms
 abbrev pub fieldsInFrame : ℕ
@@ -86,3 +87,20 @@ unfoldable pub payloadAnswer : List ℕ → List ℕ → List ℕ → Answer
 payloadAnswer page key out =
     answerIf (eqb (length page) pageSize && eqb (length key) keySize && eqb (length out) payloadSize) out
     (answer done (enciphered key (payloadOf page)))
+
+-- ---- cut-offs and commits
+-- the page of a cut-off, up to byte k
+unfoldable pub cutOffAnswer : List ℕ → ℕ → ℕ → ℕ → ℕ → Answer
+cutOffAnswer page sequence file offset k =
+    answerIf (eqb (length page) pageSize) page (answer done (cutPage k (cutOffPage sequence file offset)))
+
+-- a part of a commit, up to byte k, from a map and letters
+unfoldable pub commitPageAnswer : List ℕ → ℕ → ℕ → ℕ → List ℕ → List ℕ → ℕ → Answer
+commitPageAnswer page epoch i covered map letters k =
+    answerIf (eqb (length page) pageSize && ltb i parts && eqb (length map) (places + places) && eqb (length letters) positions) page
+    (answer done (cutPage k (commitPage epoch i covered (commitPayload map letters i))))
+
+-- 1 where a payload is valid as that of part i, else 0
+unfoldable pub commitValidReply : List ℕ → ℕ → ℕ
+commitValidReply payload i =
+    cond (eqb (length payload) payloadSize && ltb i parts) (cond (validPayload i payload) 1 0) refused

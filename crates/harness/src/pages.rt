@@ -13,7 +13,7 @@ ghost use mathlib.Core.Path.{_≡_};
 ghost use Prim.Native.Nat.{_<_};
 ghost use lib.ListN.{length, getD};
 ghost use Rattle.harness.specs.Answer.{answer};
-ghost use Rattle.harness.specs.Page.{fieldsInFrame, fieldsOf, frameOf, byteRange, formAnswer, headerAnswer, entryAnswer, writeEntryAnswer, nodeAnswer, payloadAnswer};
+ghost use Rattle.harness.specs.Page.{fieldsInFrame, fieldsOf, frameOf, byteRange, formAnswer, headerAnswer, entryAnswer, writeEntryAnswer, nodeAnswer, payloadAnswer, cutOffAnswer, commitPageAnswer, commitValidReply};
 
 // The fields of a header: kind, number, unit, part, key, second.
 const FIELDS_IN_FRAME: usize = 6;
@@ -31,6 +31,13 @@ const BYTE_RANGE: u32 = 256;
 
 const MAP_RANGE: u32 = 65_536;
 
+// A map has 224 pages and 224 keys; there are 448 letters. A commit has 10 parts.
+const MAP: usize = 448;
+
+const LETTERS: usize = 448;
+
+const PARTS: u32 = 10;
+
 // The replies of a page's form.
 const EMPTY: u32 = 0;
 
@@ -47,6 +54,11 @@ const OUT_OF_RANGE: u32 = 1;
 const VACANT: u32 = 1;
 
 const MISSPELT: u32 = 2;
+
+// The replies of a test.
+const NO: u32 = 0;
+
+const YES: u32 = 1;
 
 // Copies numbers over as many.
 fn copy_numbers(dst: &mut [u32], src: &[u32])
@@ -224,4 +236,70 @@ pub extern "C" fn johvimaru_page_payload(page: &[u8], key: &[u8], out: &mut [u8]
     }
     writers::read_payload(page, array_of(key), out);
     DONE
+}
+
+// Writes the page of a cut-off up to byte k.
+#[no_mangle]
+pub extern "C" fn johvimaru_page_cut_off(
+    page: &mut [u8],
+    sequence: u32,
+    file: u32,
+    offset: u32,
+    k: usize,
+) -> u32
+    ensures { λ r. ⌜ answer r (now (page .exit)) ≡ cutOffAnswer (now (page .entry)) sequence file offset k ⌝ }
+{
+    if page.len() != Frame::PAGE {
+        return REFUSED;
+    }
+    writers::write_cut_off(page, sequence, file, offset, k);
+    DONE
+}
+
+// Writes a part of a commit up to byte k, from a map of 448 numbers and 448 letters.
+#[no_mangle]
+pub extern "C" fn johvimaru_commit_page(
+    page: &mut [u8],
+    epoch: u32,
+    part: u32,
+    covered: u32,
+    map: &[u16],
+    letters: &[u8],
+    k: usize,
+) -> u32
+    ensures { λ r. ⌜ answer r (now (page .exit)) ≡ commitPageAnswer (now (page .entry)) epoch part covered (now (map .entry)) (now (letters .entry)) k ⌝ }
+{
+    if page.len() != Frame::PAGE {
+        return REFUSED;
+    }
+    if PARTS <= part {
+        return REFUSED;
+    }
+    if map.len() != MAP {
+        return REFUSED;
+    }
+    if letters.len() != LETTERS {
+        return REFUSED;
+    }
+    let mut payload = [0u8; Frame::PAYLOAD];
+    entries::write_commit_payload(&mut payload, map, letters, part as usize);
+    writers::write_commit_page(page, epoch, part, covered, &payload, k);
+    DONE
+}
+
+// Whether 224 bytes are valid as the payload of a part of a commit: 1 or 0.
+#[no_mangle]
+pub extern "C" fn johvimaru_commit_valid(payload: &[u8], part: u32) -> u32
+    ensures { λ r. ⌜ r ≡ commitValidReply (now (payload .entry)) part ⌝ }
+{
+    if payload.len() != Frame::PAYLOAD {
+        return REFUSED;
+    }
+    if PARTS <= part {
+        return REFUSED;
+    }
+    if entries::valid_payload(payload, part as usize) {
+        return YES;
+    }
+    NO
 }

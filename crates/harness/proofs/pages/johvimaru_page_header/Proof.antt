@@ -3,7 +3,7 @@ use mathlib.Core.Path.{_≡_, ap, sym, _∙_}
 use mathlib.Core.Bool.{false}
 use Prim.Native.Nat.{_≤_}
 use native.Mathlib.Omega.{arith}
-use borrow.Author.Tests.{eq-eqb, ne-eqb}
+use borrow.Author.Tests.{eq-eqb, ne-eqb, not-true, not-false}
 use Rattle.page.specs.Header.{nodeLetter, cutOffLetter, keysLetter, commitLetter, inRange, headerBytes}
 use Rattle.page.specs.declared.Frame.{Frame}
 use Rattle.harness.specs.Answer.{answer}
@@ -46,7 +46,7 @@ unfolding headerAnswer
 returns-4 c = 
     let f = c .before .before in
     let e = f .before .before .before in
-    rw (eq-eqb _ _ (e .before .if1 .left), eq-eqb _ _ (e .if2 .left), sym (ap inRange (f .frame-of .ensures)) ∙ sym (c .before .in-range .ensures) ∙ c .if4 .taken)
+    rw (eq-eqb _ _ (e .before .if1 .left), eq-eqb _ _ (e .if2 .left), sym (ap inRange (f .frame-of .ensures)) ∙ sym (c .before .in-range .ensures) ∙ not-true _ (c .if4 .taken))
 
 write-header-requires : tie.Need-write-header-requires
 write-header-requires c κs = search needs
@@ -60,7 +60,7 @@ returns-5 c =
     let r = c .before .before .before .before in
     let f = r .before .before in
     let e = f .before .before .before in
-    rw (eq-eqb _ _ (e .before .if1 .left), eq-eqb _ _ (e .if2 .left), sym (ap inRange (f .frame-of .ensures)) ∙ sym (r .before .in-range .ensures) ∙ r .if4 .left)
+    rw (eq-eqb _ _ (e .before .if1 .left), eq-eqb _ _ (e .if2 .left), sym (ap inRange (f .frame-of .ensures)) ∙ sym (r .before .in-range .ensures) ∙ not-false _ (r .if4 .left))
     (ap (answer 0) (c .before .before .write-header .ensures ∙ ap headerBytes (f .frame-of .ensures)))
 
 pub johvimaru-page-header-spec : {M : Type 1} → statement M

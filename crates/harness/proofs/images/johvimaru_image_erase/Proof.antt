@@ -17,7 +17,7 @@ same-length c = search needs
 
 returns-2 : tie.Need-returns-2
 unfolding eraseAnswer
-returns-2 c = 
+returns-2 c =
     let e = c .before .before .before in
     rw (lt-ltb _ _ (e .before .before .if1 .left), ← e .erase-block .ensures, c .if2 .taken)
 
@@ -26,7 +26,7 @@ same-length-2 c = search needs
 
 returns-3 : tie.Need-returns-3
 unfolding eraseAnswer
-returns-3 c = 
+returns-3 c =
     let e = c .before .before .before in
     rw (lt-ltb _ _ (e .before .before .if1 .left), ← e .erase-block .ensures, c .if2 .left)
 

@@ -1,50 +1,56 @@
+-- `pages::johvimaru_commit_page` gives a part of a commit up to byte k, or refuses a length or a part.
+use mathlib.Core.Path.{ap, _∙_}
+use mathlib.Core.List.{List}
+use Prim.Native.Nat.{ℕ}
+use borrow.Author.Tests.{eq-eqb, ne-eqb, lt-ltb, le-ltb}
+use Rattle.page.specs.Page.{commitPage, cutPage}
+use Rattle.harness.specs.Answer.{answer}
+use Rattle.harness.specs.Page.{commitPageAnswer}
 use borrow.Author.Needs.{needs}
 use Rattle.harness.proofs.pages.johvimaru_commit_page.Statement.{statement}
 use Rattle.harness.proofs.pages.johvimaru_commit_page.Tie as tie
-use Rattle.harness.proofs.pages.johvimaru_commit_page.Reads as reads
-use Rattle.harness.proofs.pages.johvimaru_commit_page.Lts as lts
-use Rattle.page.proofs.entries.write_commit_payload.Reads as write-commit-payload-reads
-use Rattle.page.proofs.writers.write_commit_page.Reads as write-commit-page-reads
 
--- src/pages.rt:273:9
 returns : tie.Need-returns
-returns c = ?
+unfolding commitPageAnswer
+returns c = rw (ne-eqb _ _ (c .if1 .taken))
 
--- src/pages.rt:276:9
 returns-2 : tie.Need-returns-2
-returns-2 c = ?
+unfolding commitPageAnswer
+returns-2 c = rw (eq-eqb _ _ (c .before .if1 .left), le-ltb _ _ (c .if2 .taken))
 
--- src/pages.rt:279:9
 returns-3 : tie.Need-returns-3
-returns-3 c = ?
+unfolding commitPageAnswer
+returns-3 c = rw (eq-eqb _ _ (c .before .before .if1 .left), lt-ltb _ _ (c .before .if2 .left), ne-eqb _ _ (c .if3 .taken))
 
--- src/pages.rt:282:9
 returns-4 : tie.Need-returns-4
-returns-4 c = ?
+unfolding commitPageAnswer
+returns-4 c = rw (eq-eqb _ _ (c .before .before .before .if1 .left), lt-ltb _ _ (c .before .before .if2 .left), eq-eqb _ _ (c .before .if3 .left), ne-eqb _ _ (c .if4 .taken))
 
--- src/pages.rt:285:35
 slice-aggregate-write-commit-payload : tie.Need-slice-aggregate-write-commit-payload
 slice-aggregate-write-commit-payload c = search needs
 
--- src/pages.rt:285:5
 write-commit-payload-requires : tie.Need-write-commit-payload-requires
 write-commit-payload-requires c κs = search needs
 
--- src/pages.rt:286:60
 slice-aggregate-write-commit-page : tie.Need-slice-aggregate-write-commit-page
 slice-aggregate-write-commit-page c = search needs
 
--- src/pages.rt:286:5
 write-commit-page-requires : tie.Need-write-commit-page-requires
 write-commit-page-requires c κs = search needs
 
--- src/pages.rt:260:1
 same-length : tie.Need-same-length
 same-length c = search needs
 
--- src/pages.rt:260:1
 returns-5 : tie.Need-returns-5
-returns-5 c = ?
+unfolding commitPageAnswer
+returns-5 c =
+    let w = c .before .before .before .before .before .before in
+    let e = w .before .before in
+    let a = e .before .before .before .before .before .before .before .args in
+    rw (eq-eqb _ _ (e .before .before .before .if1 .left), lt-ltb _ _ (e .before .before .if2 .left), eq-eqb _ _ (e .before .if3 .left), eq-eqb _ _ (e .if4 .left))
+    (ap (answer 0)
+    (c .before .before .write-commit-page .ensures
+    ∙ ap (λ (payload : List ℕ). cutPage (a .k) (commitPage (a .epoch) (a .part) (a .covered) payload)) (w .write-commit-payload .ensures)))
 
 pub johvimaru-commit-page-spec : {M : Type 1} → statement M
 johvimaru-commit-page-spec =

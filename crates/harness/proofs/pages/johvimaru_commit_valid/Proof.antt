@@ -1,29 +1,32 @@
+-- `pages::johvimaru_commit_valid` tells whether a payload is valid, or refuses a length or a part.
+use borrow.Author.Tests.{eq-eqb, ne-eqb, lt-ltb, le-ltb}
+use Rattle.harness.specs.Page.{commitValidReply}
 use borrow.Author.Needs.{needs}
 use Rattle.harness.proofs.pages.johvimaru_commit_valid.Statement.{statement}
 use Rattle.harness.proofs.pages.johvimaru_commit_valid.Tie as tie
-use Rattle.harness.proofs.pages.johvimaru_commit_valid.Reads as reads
-use Rattle.harness.proofs.pages.johvimaru_commit_valid.Lts as lts
-use Rattle.page.proofs.entries.valid_payload.Reads as valid-payload-reads
 
--- src/pages.rt:296:9
 returns : tie.Need-returns
-returns c = ?
+unfolding commitValidReply
+returns c = rw (ne-eqb _ _ (c .if1 .taken))
 
--- src/pages.rt:299:9
 returns-2 : tie.Need-returns-2
-returns-2 c = ?
+unfolding commitValidReply
+returns-2 c = rw (eq-eqb _ _ (c .before .if1 .left), le-ltb _ _ (c .if2 .taken))
 
--- src/pages.rt:301:8
 valid-payload-requires : tie.Need-valid-payload-requires
 valid-payload-requires c κs = search needs
 
--- src/pages.rt:302:9
 returns-3 : tie.Need-returns-3
-returns-3 c = ?
+unfolding commitValidReply
+returns-3 c =
+    let e = c .before .before in
+    rw (eq-eqb _ _ (e .before .if1 .left), lt-ltb _ _ (e .if2 .left), ← c .before .valid-payload .ensures, c .if3 .taken)
 
--- src/pages.rt:291:1
 returns-4 : tie.Need-returns-4
-returns-4 c = ?
+unfolding commitValidReply
+returns-4 c =
+    let e = c .before .before in
+    rw (eq-eqb _ _ (e .before .if1 .left), lt-ltb _ _ (e .if2 .left), ← c .before .valid-payload .ensures, c .if3 .left)
 
 pub johvimaru-commit-valid-spec : {M : Type 1} → statement M
 johvimaru-commit-valid-spec =

@@ -1,25 +1,25 @@
+-- `pages::johvimaru_page_cut_off` gives the page of a cut-off up to byte k, or refuses a length.
+use mathlib.Core.Path.{ap}
+use borrow.Author.Tests.{eq-eqb, ne-eqb}
+use Rattle.harness.specs.Answer.{answer}
+use Rattle.harness.specs.Page.{cutOffAnswer}
 use borrow.Author.Needs.{needs}
 use Rattle.harness.proofs.pages.johvimaru_page_cut_off.Statement.{statement}
 use Rattle.harness.proofs.pages.johvimaru_page_cut_off.Tie as tie
-use Rattle.harness.proofs.pages.johvimaru_page_cut_off.Reads as reads
-use Rattle.harness.proofs.pages.johvimaru_page_cut_off.Lts as lts
-use Rattle.page.proofs.writers.write_cut_off.Reads as write-cut-off-reads
 
--- src/pages.rt:253:9
 returns : tie.Need-returns
-returns c = ?
+unfolding cutOffAnswer
+returns c = rw (ne-eqb _ _ (c .if1 .taken))
 
--- src/pages.rt:255:5
 write-cut-off-requires : tie.Need-write-cut-off-requires
 write-cut-off-requires c κs = search needs
 
--- src/pages.rt:242:1
 same-length : tie.Need-same-length
 same-length c = search needs
 
--- src/pages.rt:242:1
 returns-2 : tie.Need-returns-2
-returns-2 c = ?
+unfolding cutOffAnswer
+returns-2 c = rw (eq-eqb _ _ (c .before .before .before .before .if1 .left)) (ap (answer 0) (c .before .before .write-cut-off .ensures))
 
 pub johvimaru-page-cut-off-spec : {M : Type 1} → statement M
 johvimaru-page-cut-off-spec =

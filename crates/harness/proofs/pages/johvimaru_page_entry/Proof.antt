@@ -38,7 +38,7 @@ same-length c = search needs
 
 returns-3 : tie.Need-returns-3
 unfolding entryAnswer
-returns-3 c = 
+returns-3 c =
     let m = c .before .before .before .before .before .before in
     let r = m .before .before in
     rw (eq-eqb _ _ (r .before .before .if1 .left), eq-eqb _ _ (r .before .if2 .left), ← r .read-entry .ensures, m .page .given .1)
@@ -46,13 +46,13 @@ returns-3 c =
 
 returns-4 : tie.Need-returns-4
 unfolding entryAnswer
-returns-4 c = 
+returns-4 c =
     let r = c .before .before in
     rw (eq-eqb _ _ (r .before .before .if1 .left), eq-eqb _ _ (r .before .if2 .left), ← r .read-entry .ensures, c .enum-told .given .1)
 
 returns-5 : tie.Need-returns-5
 unfolding entryAnswer
-returns-5 c = 
+returns-5 c =
     let r = c .before .before in
     rw (eq-eqb _ _ (r .before .before .if1 .left), eq-eqb _ _ (r .before .if2 .left), ← r .read-entry .ensures, c .enum-told2 .given .1)
 

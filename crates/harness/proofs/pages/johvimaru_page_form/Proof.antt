@@ -38,7 +38,7 @@ enum-told-2 c = search needs
 
 returns-3 : tie.Need-returns-3
 unfolding formAnswer
-returns-3 c = 
+returns-3 c =
     let r = c .before .before in
     rw (eq-eqb _ _ (r .before .before .if1 .left), eq-eqb _ _ (r .before .if2 .left), ← r .form .ensures, c .enum-told .given .1)
 
@@ -47,7 +47,7 @@ same-length c = search needs
 
 returns-4 : tie.Need-returns-4
 unfolding formAnswer
-returns-4 c = 
+returns-4 c =
     let m = c .before .before .before .before .before in
     let r = m .before .before in
     rw (eq-eqb _ _ (r .before .before .if1 .left), eq-eqb _ _ (r .before .if2 .left), ← r .form .ensures, m .f .given .1)
@@ -58,7 +58,7 @@ same-length-2 c = search needs
 
 returns-5 : tie.Need-returns-5
 unfolding formAnswer
-returns-5 c = 
+returns-5 c =
     let m = c .before .before .before .before .before in
     let r = m .before .before in
     rw (eq-eqb _ _ (r .before .before .if1 .left), eq-eqb _ _ (r .before .if2 .left), ← r .form .ensures, m .f2 .given .1)
@@ -66,7 +66,7 @@ returns-5 c =
 
 returns-6 : tie.Need-returns-6
 unfolding formAnswer
-returns-6 c = 
+returns-6 c =
     let r = c .before .before in
     rw (eq-eqb _ _ (r .before .before .if1 .left), eq-eqb _ _ (r .before .if2 .left), ← r .form .ensures, c .enum-told2 .given .1)
 

@@ -31,7 +31,7 @@ shared-slice-read-if3 c = search needs
 
 returns-3 : tie.Need-returns-3
 unfolding headerAnswer
-returns-3 c = 
+returns-3 c =
     let e = c .before .before in
     rw (eq-eqb _ _ (e .before .if1 .left), eq-eqb _ _ (e .if2 .left), no-kind (frameOf _) (c .if3 .taken))
 
@@ -43,7 +43,7 @@ in-range-requires c κs = search needs
 
 returns-4 : tie.Need-returns-4
 unfolding headerAnswer
-returns-4 c = 
+returns-4 c =
     let f = c .before .before in
     let e = f .before .before .before in
     rw (eq-eqb _ _ (e .before .if1 .left), eq-eqb _ _ (e .if2 .left), sym (ap inRange (f .frame-of .ensures)) ∙ sym (c .before .in-range .ensures) ∙ not-true _ (c .if4 .taken))
@@ -56,7 +56,7 @@ same-length c = search needs
 
 returns-5 : tie.Need-returns-5
 unfolding headerAnswer
-returns-5 c = 
+returns-5 c =
     let r = c .before .before .before .before in
     let f = r .before .before in
     let e = f .before .before .before in

@@ -34,7 +34,7 @@ same-length c = search needs
 
 returns-4 : tie.Need-returns-4
 unfolding nodeAnswer
-returns-4 c = 
+returns-4 c =
     let e = c .before .before .before .before .before in
     let a = e .before .before .before .before .before .before .args in
     rw (eq-eqb _ _ (e .before .before .if1 .left), eq-eqb _ _ (e .before .if2 .left), eq-eqb _ _ (e .if3 .left))

@@ -33,7 +33,7 @@ same-length c = search needs
 
 returns-4 : tie.Need-returns-4
 unfolding writeEntryAnswer
-returns-4 c = 
+returns-4 c =
     let e = c .before .before .before .before in
     rw (lt-ltb _ _ (e .before .before .if1 .left), lt-ltb _ _ (e .before .if2 .left), eq-eqb _ _ (e .if3 .left))
     (ap (answer 0) (c .before .before .write-entry .ensures))

@@ -157,9 +157,7 @@ pub mod page {
     /// (6 numbers).
     pub fn form(page: &[u8], fields: &mut [u32]) -> u32 {
         // SAFETY: each pointer goes with the length of a slice that is borrowed for the whole call.
-        unsafe {
-            johvimaru_page_form(page.as_ptr(), page.len(), fields.as_mut_ptr(), fields.len())
-        }
+        unsafe { johvimaru_page_form(page.as_ptr(), page.len(), fields.as_mut_ptr(), fields.len()) }
     }
 
     /// Writes the header of `fields` (6 numbers) into `header` (30 bytes).
@@ -240,9 +238,7 @@ pub mod page {
     /// Writes the page of a cut-off into `page` (256 bytes), as a program that is cut after `k` bytes.
     pub fn cut_off(page: &mut [u8], sequence: u32, file: u32, offset: u32, k: usize) -> u32 {
         // SAFETY: as in `form`.
-        unsafe {
-            johvimaru_page_cut_off(page.as_mut_ptr(), page.len(), sequence, file, offset, k)
-        }
+        unsafe { johvimaru_page_cut_off(page.as_mut_ptr(), page.len(), sequence, file, offset, k) }
     }
 
     /// The commit of which [`commit_page`] writes a part.

@@ -25,7 +25,7 @@ type Fields = [u32; 6];
 /// What the fields hold before a call that must not change them.
 const UNTOUCHED: Fields = [u32::MAX; 6];
 
-/// The bytes of an entry of none, as a map holds it.
+/// None, as a map has it.
 const NONE: u16 = 65_535;
 
 /// A part of a page as text, for a message.
@@ -73,23 +73,28 @@ fn compare_form(what: &str, page: &Page) {
     );
 }
 
-/// A header of a random kind with random fields, small ones as often as large ones.
+/// A sequence or epoch, a small one as often as a large one.
+fn random_number(rng: &mut Rng) -> u32 {
+    let last = [9, 1_000, LAST][rng.below(3)];
+    1 + rng.below(last as usize) as u32
+}
+
+/// A header of a random kind with random fields.
 fn random_header(rng: &mut Rng) -> Header {
-    let number = |rng: &mut Rng| 1 + rng.below([9, 1_000, LAST as usize][rng.below(3)]) as u32;
     let file = rng.below(FILES);
     let offset = rng.below(COUNTS[file]);
     match rng.below(4) {
-        0 => Header::Node { sequence: number(rng), file, offset, key: rng.below(POSITIONS) },
-        1 => Header::CutOff { sequence: number(rng), file, offset },
+        0 => Header::Node { sequence: random_number(rng), file, offset, key: rng.below(POSITIONS) },
+        1 => Header::CutOff { sequence: random_number(rng), file, offset },
         2 => Header::Keys {
-            epoch: number(rng),
+            epoch: random_number(rng),
             block: rng.below(2),
             page: rng.below(PAGES_IN_BLOCK),
         },
         _ => Header::Commit {
-            epoch: number(rng),
+            epoch: random_number(rng),
             part: rng.below(PARTS),
-            covered: number(rng) - 1,
+            covered: random_number(rng) - 1,
         },
     }
 }
@@ -311,7 +316,7 @@ fn compare_page(what: &str, page: &Page, k: usize, write: impl Fn(&mut [u8], usi
 fn random_node(rng: &mut Rng) -> (Header, [u8; KEY], [u8; PAYLOAD], Page) {
     let file = rng.below(FILES);
     let header = Header::Node {
-        sequence: 1 + rng.below(LAST as usize) as u32,
+        sequence: random_number(rng),
         file,
         offset: rng.below(COUNTS[file]),
         key: rng.below(POSITIONS),
@@ -351,7 +356,7 @@ fn cut_off_pages_agree() {
     for seed in 0..16 {
         let mut rng = Rng::new(seed);
         let file = rng.below(FILES);
-        let (sequence, offset) = (1 + rng.below(LAST as usize) as u32, rng.below(COUNTS[file]));
+        let (sequence, offset) = (random_number(&mut rng), rng.below(COUNTS[file]));
         let expected = Header::CutOff { sequence, file, offset }.page(&[b' '; PAYLOAD]);
         for k in cuts() {
             compare_page(&format!("seed {seed}"), &expected, k, |page, k| {
@@ -371,7 +376,7 @@ fn random_commit(rng: &mut Rng) -> Commit {
             _ => Some(Entry { page: rng.below(4_096) as u16, key: rng.below(POSITIONS) as u16 }),
         })
         .collect();
-    let (epoch, covered) = (1 + rng.below(LAST as usize) as u32, rng.below(LAST as usize) as u32);
+    let (epoch, covered) = (random_number(rng), random_number(rng) - 1);
     Commit { epoch, covered, letters, entries }
 }
 
@@ -541,8 +546,7 @@ fn writers_refuse_other_lengths() {
         let mut lent = Guarded::new(0, &bytes[..a]);
         if a != PAGE {
             let (key, payload) = (&bytes[..KEY], &bytes[..PAYLOAD]);
-            let node =
-                page::Node { sequence: 1, file: 0, offset: 0, position: 0, key, payload };
+            let node = page::Node { sequence: 1, file: 0, offset: 0, position: 0, key, payload };
             assert_eq!(page::node(lent.lent(), node, PAGE), REFUSED, "node, page of {a}");
             assert_eq!(page::cut_off(lent.lent(), 1, 0, 0, PAGE), REFUSED, "cut-off, {a}");
         }

@@ -1,8 +1,7 @@
 //! The crate `cipher` through the static library `harness`: the vectors of the public documents,
 //! and the second implementation on many inputs.
 
-use johvimaru_tests::ffi::cipher::{self, WRONG_LENGTH};
-use johvimaru_tests::ffi::DONE;
+use johvimaru_tests::ffi::{cipher, DONE, REFUSED};
 use johvimaru_tests::guarded::Guarded;
 use johvimaru_tests::hex;
 use johvimaru_tests::model::aes::{self, BLOCK, KEY, ROUND_KEYS};
@@ -292,7 +291,7 @@ fn check_refusals(
                 continue;
             }
             let (reply, old, new) = lend(call, key_length, length, 0);
-            assert_eq!(reply, WRONG_LENGTH, "key of {key_length} bytes, buffer of {length}");
+            assert_eq!(reply, REFUSED, "key of {key_length} bytes, buffer of {length}");
             assert_eq!(new, old, "key of {key_length} bytes, buffer of {length}");
         }
     }

@@ -4,10 +4,11 @@ use borrow.Author.Tests.{eq-eqb, ne-eqb}
 use lib.ListN.{length}
 use Rattle.cipher.specs.KeyExpansion.{keyExpansion}
 use Rattle.cipher.proofs.Laws.{length-key-expansion}
-use Rattle.harness.specs.Answer.{answer, expandAnswer}
+use Rattle.harness.specs.Answer.{answer}
+use Rattle.harness.specs.Cipher.{expandAnswer}
 use borrow.Author.Needs.{needs}
-use Rattle.harness.proofs.johvimaru_cipher_expand.Statement.{statement}
-use Rattle.harness.proofs.johvimaru_cipher_expand.Tie as tie
+use Rattle.harness.proofs.ciphers.johvimaru_cipher_expand.Statement.{statement}
+use Rattle.harness.proofs.ciphers.johvimaru_cipher_expand.Tie as tie
 
 returns : tie.Need-returns
 unfolding expandAnswer

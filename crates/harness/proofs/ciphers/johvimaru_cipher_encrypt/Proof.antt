@@ -3,10 +3,11 @@ use mathlib.Core.Path.{ap, ap₂, _∙_}
 use borrow.Author.Tests.{eq-eqb, ne-eqb}
 use Rattle.cipher.specs.Cipher.{cipher}
 use Rattle.cipher.specs.KeyExpansion.{keyExpansion}
-use Rattle.harness.specs.Answer.{answer, encryptAnswer}
+use Rattle.harness.specs.Answer.{answer}
+use Rattle.harness.specs.Cipher.{encryptAnswer}
 use borrow.Author.Needs.{needs}
-use Rattle.harness.proofs.johvimaru_cipher_encrypt.Statement.{statement}
-use Rattle.harness.proofs.johvimaru_cipher_encrypt.Tie as tie
+use Rattle.harness.proofs.ciphers.johvimaru_cipher_encrypt.Statement.{statement}
+use Rattle.harness.proofs.ciphers.johvimaru_cipher_encrypt.Tie as tie
 
 returns : tie.Need-returns
 unfolding encryptAnswer

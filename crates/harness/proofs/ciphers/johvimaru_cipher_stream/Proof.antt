@@ -6,10 +6,11 @@ use borrow.Author.Tests.{eq-eqb, ne-eqb}
 use denote.Ref.{now}
 use Rattle.cipher.specs.KeyExpansion.{keyExpansion}
 use Rattle.cipher.specs.CounterMode.{counterMode}
-use Rattle.harness.specs.Answer.{answer, streamAnswer}
+use Rattle.harness.specs.Answer.{answer}
+use Rattle.harness.specs.Cipher.{streamAnswer}
 use borrow.Author.Needs.{needs}
-use Rattle.harness.proofs.johvimaru_cipher_stream.Statement.{statement}
-use Rattle.harness.proofs.johvimaru_cipher_stream.Tie as tie
+use Rattle.harness.proofs.ciphers.johvimaru_cipher_stream.Statement.{statement}
+use Rattle.harness.proofs.ciphers.johvimaru_cipher_stream.Tie as tie
 
 returns : tie.Need-returns
 unfolding streamAnswer

@@ -1,14 +1,15 @@
--- `copy` makes one slice the same as another. After i turns the first i bytes are copied.
+-- `pages::copy_numbers` makes one slice the same as another. After i turns the first i numbers are copied.
 use mathlib.Core.Path.{_≡_, refl, ap, ap₂, _∙_}
 use mathlib.Core.List.{List, _++_, append-nil}
 use Prim.Native.Nat.{ℕ, _-_, _≤_}
 use native.Mathlib.Omega.{arith}
+use borrow.Author.Needs.{needs}
 use denote.Ref.{now}
 use lib.ListN.{length, getD, take, drop, set, length-set, drop-of-length-le}
 use lib.Seq.{take-all}
 use Rattle.base.proofs.Parts.{copy-more}
-use Rattle.harness.proofs.copy.Statement.{statement}
-use Rattle.harness.proofs.copy.Tie as tie
+use Rattle.harness.proofs.pages.copy_numbers.Statement.{statement}
+use Rattle.harness.proofs.pages.copy_numbers.Tie as tie
 
 abbrev Inv-loop : tie.InvT-loop
 Inv-loop dst₀ src i₀ dst i = (i ≤ length src) × (length dst ≡ length dst₀) × (dst ≡ take i src ++ drop i dst₀)
@@ -19,8 +20,14 @@ abbrev μ-loop : tie.MeasureT-loop
 loop-holds : tie.Need-loop-holds Inv-loop μ-loop
 loop-holds c = (omega arith, refl, refl)
 
+mul-dst : tie.Need-mul-dst Inv-loop μ-loop
+mul-dst c = search needs
+
 shared-slice-read-dst : tie.Need-shared-slice-read-dst Inv-loop μ-loop
 shared-slice-read-dst c = omega arith
+
+mul-dst-2 : tie.Need-mul-dst-2 Inv-loop μ-loop
+mul-dst-2 c = search needs
 
 slice-write-dst : tie.Need-slice-write-dst Inv-loop μ-loop
 slice-write-dst c = omega arith
@@ -51,14 +58,16 @@ returns c =
     ∙ ap₂ (λ (x y : List ℕ). x ++ y) (take-all (l .i) (now (a .src)) (omega arith)) (drop-of-length-le (now (a .dst)) {i = l .i} (omega arith))
     ∙ append-nil (now (a .src))
 
-pub copy-spec : {M : Type 1} → statement M
-copy-spec =
+pub copy-numbers-spec : {M : Type 1} → statement M
+copy-numbers-spec =
     tie.close
     (tie.spec
     Inv-loop
     μ-loop
     loop-holds
+    mul-dst
     shared-slice-read-dst
+    mul-dst-2
     slice-write-dst
     add-i
     loop-less

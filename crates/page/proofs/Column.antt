@@ -10,7 +10,9 @@ use lib.ListN.{length, getD, set, drop, length-set, drop-of-length-le}
 use lib.Seq.{drop-cons, drop-drop, drop-set-lt, getD-set-same}
 use lib.Dec.{eqb, ltb}
 use borrow.Author.Tests.{eqb-true, le-ltb, ltb-false}
+use Rattle.base.specs.Part.{part}
 use Rattle.base.specs.Each.{Bytes, same}
+use Rattle.base.proofs.Parts.{part-length}
 use Rattle.base.proofs.Eachs.{same-true, same-refl}
 use Rattle.page.specs.Frame.{space}
 use Rattle.page.specs.Column.{zeroDigit, column, columns, spell, digit, valueAfter, numberIn}
@@ -127,6 +129,10 @@ number-is xs n h = go (same (spell (length xs) (valueAfter 0 xs)) xs) refl h
     go : (b : Bool) → same (spell (length xs) (valueAfter 0 xs)) xs ≡ b → cond b (Is (valueAfter 0 xs)) Misspelt ≡ Is n → xs ≡ spell (length xs) n
     go true e k = cc (same-true (spell (length xs) (valueAfter 0 xs)) xs e)
     go false e k = absurd (let z : _≡_ {A = ℕ} 0 1 = cc in omega arith)
+
+-- the same of a part that is read as n
+pub number-part : (xs : List ℕ) (a w n : ℕ) → a + w ≤ length xs → numberIn (part xs a w) ≡ Is n → part xs a w ≡ spell w n
+number-part xs a w n h e = number-is (part xs a w) n e ∙ rw (part-length xs a w h)
 
 pub one-spelling : (xs ys : List ℕ) (n : ℕ) → length xs ≡ length ys → numberIn xs ≡ Is n → numberIn ys ≡ Is n → xs ≡ ys
 one-spelling xs ys n l p q = number-is xs n p ∙ rw l (sym (number-is ys n q))

@@ -30,7 +30,7 @@ use Rattle.page.specs.declared.Number.the-variants.{Is as IsNumber, Miss
 use Rattle.page.specs.declared.Entry.{Entry}
 use Rattle.page.specs.declared.Entry.the-variants.{At, Vacant, Misspelt}
 use Rattle.page.proofs.Slices.{part-front, part-past, part-back, part-halves}
-use Rattle.page.proofs.Column.{length-spell, number-spell, number-is}
+use Rattle.page.proofs.Column.{length-spell, number-spell, number-part}
 
 -- ---- one entry
 pub entry-length : (page key : ℕ) → length (entryBytes page key) ≡ entrySize
@@ -69,9 +69,6 @@ unfolding entryBytes entryOf same
 entry-none key = refl
 
 -- one spelling: what is read as an entry is that entry's bytes, and no others
-number-part : (xs : List ℕ) (a w n : ℕ) → a + w ≤ length xs → numberIn (part xs a w) ≡ IsNumber n → part xs a w ≡ spell w n
-number-part xs a w n h e = number-is (part xs a w) n e ∙ rw (part-length xs a w h)
-
 abbrev read : Bool → Number → Number → Entry
 read b m n = cond b Vacant (andThen m λ page. andThen n λ key. cond (leb page lastPage && leb key lastPosition) (At page key) Misspelt)
 

@@ -1,5 +1,5 @@
 -- Laws of headers: what is written is what is read, and a header has one spelling.
-use Prim.Native.Nat.{ℕ, _+_, _<_, _≤_}
+use Prim.Native.Nat.{ℕ, _+_, _<_}
 use native.Mathlib.Omega.{arith}
 use mathlib.Core.Path.{_≡_, refl, sym, ap, _∙_}
 use mathlib.Core.Bool.{Bool, true, false, cond, _&&_}
@@ -9,7 +9,7 @@ use lib.Seq.{drop-drop, drop-cons}
 use borrow.Rule.Slice.PartMut.{putMid}
 use Rattle.base.specs.Part.{part, splice}
 use Rattle.base.specs.Each.{Bytes, same}
-use Rattle.base.proofs.Parts.{put-next, part-length}
+use Rattle.base.proofs.Parts.{put-next}
 use Rattle.base.proofs.Choice.{and-true}
 use Rattle.base.proofs.Eachs.{same-true, same-refl, each-append}
 use Rattle.page.specs.Frame.{headerSize, colonSpace}
@@ -21,7 +21,7 @@ use Rattle.page.specs.declared.Frame.{Frame}
 use Rattle.page.specs.declared.Header.{Header}
 use Rattle.page.specs.declared.Header.the-variants.{Is, Invalid}
 use Rattle.page.proofs.Slices.{part-front, part-past, part-back}
-use Rattle.page.proofs.Column.{length-spell, number-spell, number-is, bytes-spell}
+use Rattle.page.proofs.Column.{length-spell, number-spell, number-part, bytes-spell}
 use Rattle.page.proofs.Ranges.{isKind, other-kind, in-range-fits}
 
 -- ---- lengths
@@ -245,9 +245,6 @@ module _ (f : Frame) where
 split-part : (xs : List ℕ) (a n : ℕ) → drop a xs ≡ part xs a n ++ drop (a + n) xs
 unfolding part
 split-part xs a n = sym (rw (← drop-drop n a xs) (take-append-drop n (drop a xs)))
-
-number-part : (xs : List ℕ) (a w n : ℕ) → a + w ≤ length xs → numberIn (part xs a w) ≡ IsNumber n → part xs a w ≡ spell w n
-number-part xs a w n h e = number-is (part xs a w) n e ∙ ap (λ (k : ℕ). spell k n) (part-length xs a w h)
 
 pub spelt-bytes : (xs : List ℕ) (f : Frame) → length xs ≡ headerSize → Spelt xs f → xs ≡ headerBytes f
 unfolding headerBytes

@@ -5,3 +5,4 @@ pub mod WordLaws
 pub mod RoundLaws
 pub mod Schedule
 pub mod KeyStream
+pub mod Laws

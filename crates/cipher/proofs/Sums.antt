@@ -1,12 +1,36 @@
--- Laws of the sum of two lists of bytes.
-use mathlib.Core.Path.{_≡_, refl, ap, sym}
+-- Laws of sums, of bytes and of lists of bytes.
+use mathlib.Core.Path.{_≡_, refl, ap, ap₂, sym, _∙_}
 use mathlib.Core.List.{List, [], _∷_, _++_}
-use Prim.Native.Nat.{ℕ, zero, suc, _≤_, _<_}
-use native.Mathlib.Nat.{not-suc-le-zero, le-of-suc-le-suc}
+use Prim.Native.Nat.{ℕ, zero, suc, _+_, _*_, _/_, _%_, _≤_, _<_}
+use native.Mathlib.Nat.{not-suc-le-zero, le-of-suc-le-suc, div-add-mod'}
+use native.Mathlib.Omega.{arith}
+use lib.Arith.{bin-ind}
+use lib.Bits.{differ, xor-step, xor-shr, xor-mod, xor-self}
 use lib.ListN.{length, getD, take, drop, set}
 use Rattle.cipher.specs.Field.{_⊕_}
 use Rattle.cipher.specs.Words.{xorBytes}
 
+-- ---- numbers: a number added twice is gone
+differ-twice : (x y : ℕ) → x < 2 → y < 2 → differ (x ⊕ y) y ≡ x
+differ-twice zero zero h k = refl
+differ-twice zero (suc zero) h k = refl
+differ-twice zero (suc (suc y)) h k = absurd (omega arith)
+differ-twice (suc zero) zero h k = refl
+differ-twice (suc zero) (suc zero) h k = refl
+differ-twice (suc zero) (suc (suc y)) h k = absurd (omega arith)
+differ-twice (suc (suc x)) y h k = absurd (omega arith)
+
+pub xor-twice : (a b : ℕ) → a ⊕ b ⊕ b ≡ a
+xor-twice =
+    bin-ind (λ (n : ℕ). (b : ℕ) → n ⊕ b ⊕ b ≡ n) xor-self
+    (λ n ih b.
+    xor-step (n ⊕ b) b
+    ∙ ap₂ (λ (x y : ℕ). x * 2 + y)
+    (ap (λ (x : ℕ). x ⊕ (b / 2)) (xor-shr n b 1) ∙ ih (b / 2))
+    (ap (λ (x : ℕ). differ x (b % 2)) (xor-mod n b 1) ∙ differ-twice (n % 2) (b % 2) (omega arith) (omega arith))
+    ∙ div-add-mod' n 2)
+
+-- ---- lists
 pub xor-nil : (q : List ℕ) → xorBytes q [] ≡ q
 xor-nil [] = refl
 xor-nil (a ∷ q) = refl
@@ -15,6 +39,19 @@ pub length-xor : (q k : List ℕ) → length (xorBytes q k) ≡ length q
 length-xor [] k = refl
 length-xor (a ∷ q) [] = refl
 length-xor (a ∷ q) (b ∷ k) = ap suc (length-xor q k)
+
+-- byte i of a sum
+pub xor-at : (q k : List ℕ) (i : ℕ) → i < length q → i < length k → getD (xorBytes q k) i 0 ≡ getD q i 0 ⊕ getD k i 0
+xor-at [] k i h g = absurd (not-suc-le-zero h)
+xor-at (a ∷ q) [] i h g = absurd (not-suc-le-zero g)
+xor-at (a ∷ q) (b ∷ k) zero h g = refl
+xor-at (a ∷ q) (b ∷ k) (suc i) h g = xor-at q k i (le-of-suc-le-suc h) (le-of-suc-le-suc g)
+
+-- a list added twice is gone
+pub xor-bytes-twice : (q k : List ℕ) → xorBytes (xorBytes q k) k ≡ q
+xor-bytes-twice [] k = refl
+xor-bytes-twice (a ∷ q) [] = refl
+xor-bytes-twice (a ∷ q) (b ∷ k) = ap₂ (λ (x : ℕ) (l : List ℕ). x ∷ l) (xor-twice a b) (xor-bytes-twice q k)
 
 -- one more byte added
 pub xor-more : (q k : List ℕ) (j : ℕ) → j < length q → j < length k

@@ -1,10 +1,11 @@
 -- The counter mode, SP 800-38A, section 6.5, with the counters 0, 1, 2, ..
 --   counterBlock n    the counter n as a block
---   keyStream w n     the first n output blocks
+--   keyStream w n     the first n output blocks, one after the other
+--   streamByte w i    byte i of the key stream
 --   counterMode w s   s enciphered, or deciphered: the same
 use mathlib.Core.List.{List, [], _++_}
-use Prim.Native.Nat.{ℕ, zero, suc, _+_, _/_}
-use lib.ListN.{length}
+use Prim.Native.Nat.{ℕ, zero, suc, _+_, _/_, _%_}
+use lib.ListN.{length, getD}
 use Rattle.cipher.specs.Words.{xorBytes, bigEndian}
 use Rattle.cipher.specs.Cipher.{cipher}
 
@@ -20,6 +21,10 @@ counterBlock n = bigEndian blockLength n
 unfoldable pub keyStream : List ℕ → ℕ → List ℕ
 keyStream w zero = []
 keyStream w (suc n) = keyStream w n ++ cipher w (counterBlock n)
+
+-- byte i of all output blocks, one after the other
+abbrev pub streamByte : List ℕ → ℕ → ℕ
+streamByte w i = getD (cipher w (counterBlock (i / blockLength))) (i % blockLength) 0
 
 -- the blocks that n bytes take up, the last perhaps in part
 abbrev pub blocks : ℕ → ℕ

@@ -1,4 +1,11 @@
 // The pages of the flash: headers, page forms, commit entries and letters, the file plan, key positions.
+pub mod bytes;
+pub mod columns;
+pub mod entries;
+pub mod frames;
+pub mod headers;
+pub mod keys;
+pub mod plan;
 
 // What columns hold.
 pub enum Number {

@@ -1,0 +1,150 @@
+-- Laws of decimal columns: what is written is what is read, and a number has one spelling.
+use Prim.Native.Nat.{ℕ, zero, suc, _+_, _*_, _-_, _/_, _%_, _^_, _<_, _≤_}
+use native.Mathlib.Omega.{arith}
+use native.Mathlib.Nat.{pow-suc}
+use native.Mathlib.Numerals.{add-one, sub-one}
+use mathlib.Core.Path.{_≡_, refl, sym, ap, subst, _∙_}
+use mathlib.Core.List.{List, [], _∷_}
+use mathlib.Core.Bool.{Bool, true, false, cond}
+use lib.ListN.{length, getD, set, drop, length-set, drop-of-length-le}
+use lib.Seq.{drop-cons, drop-drop, drop-set-lt, getD-set-same}
+use lib.Dec.{eqb, ltb}
+use borrow.Author.Tests.{eqb-true, le-ltb, ltb-false}
+use Rattle.base.specs.Each.{Each, Bytes, same}
+use Rattle.base.proofs.Eachs.{same-true, same-refl}
+use Rattle.page.specs.Frame.{space}
+use Rattle.page.specs.Column.{zeroDigit, column, columns, spell, digit, valueAfter, numberIn}
+use Rattle.page.specs.declared.Number.{Number}
+use Rattle.page.specs.declared.Number.the-variants.{Is, Misspelt}
+
+-- ---- columns, from the right
+pub columns-step : (i m : ℕ) (t : List ℕ) → 0 < i → columns i m t ≡ columns (i - 1) (m / 10) (column m ∷ t)
+unfolding columns
+columns-step zero m t h = absurd (omega arith)
+columns-step (suc i) m t h = rw sub-one
+
+pub drop-columns : (i m : ℕ) (t : List ℕ) → drop i (columns i m t) ≡ t
+unfolding columns
+drop-columns zero m t = refl
+drop-columns (suc i) m t =
+    rw (← add-one)
+    (sym (drop-drop 1 i (columns i (m / 10) (column m ∷ t))) ∙ ap (drop 1) (drop-columns i (m / 10) (column m ∷ t)))
+
+pub length-columns : (i m : ℕ) (t : List ℕ) → length (columns i m t) ≡ i + length t
+unfolding columns
+length-columns zero m t = omega arith
+length-columns (suc i) m t = omega (arith, length-columns i (m / 10) (column m ∷ t))
+
+drop-set : (l : List ℕ) (i a : ℕ) → i < length l → drop i (set l i a) ≡ a ∷ drop (suc i) l
+drop-set l i a h =
+    drop-cons (set l i a) i 0 (simp length-set h) ∙ rw (getD-set-same l i a 0 h, drop-set-lt (suc i) l i a (omega arith))
+
+-- the last of w columns: written, found there, or another byte there
+module _ (xs : List ℕ) (w n : ℕ) (l : length xs ≡ w) (some : 1 ≤ w) where
+  none-past : drop (suc (w - 1)) xs ≡ []
+  none-past = drop-of-length-le xs {i = suc (w - 1)} (omega arith)
+
+  pub put-last : spell w n ≡ columns (w - 1) (n / 10) (drop (w - 1) (set xs (w - 1) (zeroDigit + n % 10)))
+  unfolding spell
+  put-last = rw (drop-set xs (w - 1) (zeroDigit + n % 10) (omega arith), none-past)
+
+  pub get-last : getD xs (w - 1) 0 ≡ zeroDigit + n % 10 → spell w n ≡ columns (w - 1) (n / 10) (drop (w - 1) xs)
+  unfolding spell
+  get-last g = rw (drop-cons xs (w - 1) 0 (omega arith), g, none-past)
+
+  pub last-differs : (getD xs (w - 1) 0 ≡ zeroDigit + n % 10 → ⊥) → spell w n ≡ xs → ⊥
+  unfolding spell
+  last-differs d e =
+      d (cc (drop-cons xs (w - 1) 0 (omega arith), ap (drop (w - 1)) e, drop-columns (w - 1) (n / 10) ((zeroDigit + n % 10) ∷ [])))
+
+-- one column more: written, found there, or another byte there
+module _ (xs s : List ℕ) (i m : ℕ) (more : 0 < i) (h : i < length xs) (e : s ≡ columns i m (drop i xs)) where
+  next : s ≡ columns (i - 1) (m / 10) (column m ∷ drop (suc (i - 1)) xs)
+  next =
+      let k : suc (i - 1) ≡ i = omega arith in
+      rw k (e ∙ columns-step i m (drop i xs) more)
+
+  pub put-next-column : s ≡ columns (i - 1) (m / 10) (drop (i - 1) (set xs (i - 1) (column m)))
+  put-next-column = rw (drop-set xs (i - 1) (column m) (omega arith)) next
+
+  pub get-next-column : getD xs (i - 1) 0 ≡ column m → s ≡ columns (i - 1) (m / 10) (drop (i - 1) xs)
+  get-next-column g = rw (drop-cons xs (i - 1) 0 (omega arith), g) next
+
+  pub column-differs : (getD xs (i - 1) 0 ≡ column m → ⊥) → s ≡ xs → ⊥
+  column-differs d q =
+      let t = drop-columns (i - 1) (m / 10) (column m ∷ drop (suc (i - 1)) xs) in
+      d (cc (drop-cons xs (i - 1) 0 (omega arith), ap (drop (i - 1)) (sym q ∙ next), t))
+
+-- ---- values
+pub digit-lt : (b : ℕ) → digit b < 10
+digit-lt b = go (ltb b zeroDigit) (ltb (zeroDigit + 9) b) refl
+  where
+    go : (s t : Bool) → ltb (zeroDigit + 9) b ≡ t → cond s 0 (cond t 0 (b - zeroDigit)) < 10
+    go true t e = omega arith
+    go false true e = omega arith
+    go false false e = omega (arith, ltb-false)
+
+-- a digit's byte has the digit's value
+digit-of-digit : (d : ℕ) → d < 10 → digit (zeroDigit + d) ≡ d
+digit-of-digit d h = rw (le-ltb (zeroDigit + d) zeroDigit (omega arith), le-ltb (zeroDigit + 9) (zeroDigit + d) (omega arith)) (omega arith)
+
+value-column : (m : ℕ) → m / 10 * 10 + digit (column m) ≡ m
+value-column m = go (eqb m 0) refl
+  where
+    go : (b : Bool) → eqb m 0 ≡ b → m / 10 * 10 + digit (cond b space (zeroDigit + m % 10)) ≡ m
+    go true e = omega (arith, eqb-true m 0 e)
+    go false e = rw (digit-of-digit (m % 10) (omega arith)) (omega arith)
+
+value-columns : (i m : ℕ) (t : List ℕ) → m < 10 ^ i → valueAfter 0 (columns i m t) ≡ valueAfter m t
+unfolding columns valueAfter
+value-columns zero m t h = ap (λ (k : ℕ). valueAfter k t) (omega arith)
+value-columns (suc i) m t h =
+    let k : m < 10 ^ i * 10 = rw pow-suc at h in
+    value-columns i (m / 10) (column m ∷ t) (omega arith) ∙ ap (λ (k : ℕ). valueAfter k t) (value-column m)
+
+-- ---- spellings
+module _ (w n : ℕ) (some : 1 ≤ w) where
+  pub length-spell : length (spell w n) ≡ w
+  unfolding spell
+  length-spell = length-columns (w - 1) (n / 10) _ ∙ omega arith
+
+  -- a spelling has the value that it spells
+  pub value-spell : n < 10 ^ w → valueAfter 0 (spell w n) ≡ n
+  unfolding spell valueAfter
+  value-spell h =
+      let k : n < 10 ^ (w - 1) * 10 = rw (← pow-suc) (subst (λ (k : ℕ). n < 10 ^ k) (omega arith) h) in
+      value-columns (w - 1) (n / 10) _ (omega arith) ∙ rw (digit-of-digit (n % 10) (omega arith)) (omega arith)
+
+  -- what is written is what is read
+  pub number-spell : n < 10 ^ w → numberIn (spell w n) ≡ Is n
+  unfolding numberIn
+  number-spell h = rw (length-spell, value-spell h, same-refl)
+
+-- one spelling: what is read as n is n's spelling, and no other
+pub number-is : (xs : List ℕ) (n : ℕ) → numberIn xs ≡ Is n → xs ≡ spell (length xs) n
+unfolding numberIn
+number-is xs n h = go (same (spell (length xs) (valueAfter 0 xs)) xs) refl h
+  where
+    go : (b : Bool) → same (spell (length xs) (valueAfter 0 xs)) xs ≡ b → cond b (Is (valueAfter 0 xs)) Misspelt ≡ Is n → xs ≡ spell (length xs) n
+    go true e k = cc (same-true (spell (length xs) (valueAfter 0 xs)) xs e)
+    go false e k = absurd (let z : _≡_ {A = ℕ} 0 1 = cc in omega arith)
+
+pub one-spelling : (xs ys : List ℕ) (n : ℕ) → length xs ≡ length ys → numberIn xs ≡ Is n → numberIn ys ≡ Is n → xs ≡ ys
+one-spelling xs ys n l p q = number-is xs n p ∙ rw l (sym (number-is ys n q))
+
+-- ---- each column is a byte
+column-byte : (m : ℕ) → column m < 256
+column-byte m = go (eqb m 0)
+  where
+    go : (b : Bool) → cond b space (zeroDigit + m % 10) < 256
+    go true = omega arith
+    go false = omega arith
+
+bytes-columns : (i m : ℕ) (t : List ℕ) → Bytes t → Bytes (columns i m t)
+unfolding columns
+bytes-columns zero m t b = b
+bytes-columns (suc i) m t b = bytes-columns i (m / 10) (column m ∷ t) (column-byte m, b)
+
+pub bytes-spell : (w n : ℕ) → Bytes (spell w n)
+unfolding spell
+bytes-spell w n = bytes-columns (w - 1) (n / 10) ((zeroDigit + n % 10) ∷ []) (omega arith, tt)

@@ -1,0 +1,146 @@
+-- The laws of a page's 256 bytes: their length, what reads back from them, and what a program that is cut leaves.
+use Prim.Native.Nat.{ℕ, _+_, _*_, _-_, _<_, _≤_}
+use native.Mathlib.Omega.{arith}
+use native.Mathlib.Decide.{decLe}
+use mathlib.Core.Path.{_≡_, refl, sym, ap, _∙_}
+use mathlib.Core.List.{List, [], _∷_, _++_, append-assoc, append-nil}
+use lib.ListN.{length, take, drop, replicate, length-append, length-replicate, length-take, length-drop, drop-of-length-le}
+use lib.Seq.{take-all}
+use borrow.Rule.Slice.PartMut.{putMid}
+use Rattle.base.specs.Part.{part, splice}
+use Rattle.base.proofs.Parts.{part-part, part-splice-before}
+use Rattle.cipher.specs.CounterMode.{counterMode}
+use Rattle.cipher.specs.KeyExpansion.{keyExpansion}
+use Rattle.cipher.proofs.Laws.{length-counter-mode, counter-mode-twice}
+use Rattle.page.specs.Frame.{headerSize, payloadSize, closingSize, pageSize, closingAt, erased, closing, space}
+use Rattle.page.specs.Column.{spell}
+use Rattle.page.specs.Header.{headerBytes, nodeFrame, cutOffFrame, keysFrame, commitFrame}
+use Rattle.page.specs.Key.{keySize, keysInPage, keyInPage}
+use Rattle.page.specs.Page.{pageBytes, enciphered, nodePage, cutOffPage, keysPage, commitPage, payloadOf, cutPage}
+use Rattle.page.specs.declared.Frame.{Frame}
+use Rattle.page.proofs.Column.{length-spell}
+use Rattle.page.proofs.Slices.{part-front, part-past, part-middle, part-back, part-replicate, splice-middle, three-parts}
+
+length-header : (f : Frame) → length (headerBytes f) ≡ headerSize
+unfolding headerBytes
+length-header f =
+    let a = length-spell 8 (f .number) (omega arith) in
+    let b = length-spell 3 (f .unit) (omega arith) in
+    let c = length-spell 4 (f .part) (omega arith) in
+    let d = length-spell 4 (f .key) (omega arith) in
+    let e = length-spell 8 (f .second) (omega arith) in
+    simp length-append (omega arith)
+
+-- ---- enciphering
+pub enciphered-length : (key payload : List ℕ) → length (enciphered key payload) ≡ length payload
+unfolding enciphered
+enciphered-length key payload = length-counter-mode (keyExpansion key) payload
+
+-- the same both ways
+pub enciphered-twice : (key payload : List ℕ) → enciphered key (enciphered key payload) ≡ payload
+unfolding enciphered
+enciphered-twice key payload = counter-mode-twice (keyExpansion key) payload
+
+-- ---- header, payload, closing
+module _ (f : Frame) (payload : List ℕ) (h : length payload ≡ payloadSize) where
+  pub page-length : length (pageBytes f payload) ≡ pageSize
+  unfolding pageBytes
+  page-length = let l = length-header f in simp length-append (omega arith)
+
+  pub header-back : part (pageBytes f payload) 0 headerSize ≡ headerBytes f
+  unfolding pageBytes
+  header-back = part-front (headerBytes f) (payload ++ closing) headerSize (length-header f)
+
+  pub payload-back : payloadOf (pageBytes f payload) ≡ payload
+  unfolding pageBytes payloadOf
+  payload-back = part-middle (headerBytes f) payload closing headerSize payloadSize (length-header f) h
+
+  pub closing-back : part (pageBytes f payload) closingAt closingSize ≡ closing
+  unfolding pageBytes
+  closing-back =
+      rw (← append-assoc)
+      (part-back (headerBytes f ++ payload) closing closingAt closingSize (let l = length-header f in simp length-append (omega arith)) refl)
+
+  -- the three parts, written one after the other
+  pub page-written : (x : List ℕ) → length x ≡ pageSize → putMid closingAt closingSize (putMid headerSize payloadSize (headerBytes f ++ drop headerSize x) payload) closing ≡ pageBytes f payload
+  unfolding pageBytes
+  page-written x l = three-parts x (headerBytes f) payload headerSize payloadSize (length-header f) h closing closingSize refl l
+
+  -- another payload in the place of this one
+  pub page-splice : (ys : List ℕ) → length ys ≡ payloadSize → splice (pageBytes f payload) headerSize ys ≡ pageBytes f ys
+  unfolding pageBytes
+  page-splice ys e = splice-middle (headerBytes f) payload closing ys headerSize (length-header f) (h ∙ sym e)
+
+-- ---- the pages of each kind
+pub node-length : (sequence file offset position : ℕ) (key payload : List ℕ) → length payload ≡ payloadSize → length (nodePage sequence file offset position key payload) ≡ pageSize
+unfolding nodePage
+node-length sequence file offset position key payload h =
+    page-length (nodeFrame sequence file offset position) (enciphered key payload) (enciphered-length key payload ∙ h)
+
+-- a node's payload, deciphered under its key
+pub node-back : (sequence file offset position : ℕ) (key payload : List ℕ) → length payload ≡ payloadSize
+    → enciphered key (payloadOf (nodePage sequence file offset position key payload)) ≡ payload
+unfolding nodePage
+node-back sequence file offset position key payload h =
+    rw (payload-back (nodeFrame sequence file offset position) (enciphered key payload) (enciphered-length key payload ∙ h)) (enciphered-twice key payload)
+
+pub cut-off-length : (sequence file offset : ℕ) → length (cutOffPage sequence file offset) ≡ pageSize
+unfolding cutOffPage
+cut-off-length sequence file offset =
+    page-length (cutOffFrame sequence file offset) (replicate payloadSize space) (length-replicate payloadSize space)
+
+pub keys-length : (epoch block i : ℕ) (keys : List ℕ) → length keys ≡ payloadSize → length (keysPage epoch block i keys) ≡ pageSize
+unfolding keysPage
+keys-length epoch block i keys h = page-length (keysFrame epoch block i) keys h
+
+pub commit-length : (epoch i covered : ℕ) (payload : List ℕ) → length payload ≡ payloadSize → length (commitPage epoch i covered payload) ≡ pageSize
+unfolding commitPage
+commit-length epoch i covered payload h = page-length (commitFrame epoch i covered) payload h
+
+-- the key in a slot of a key page
+pub key-back : (epoch block i : ℕ) (keys : List ℕ) (slot : ℕ) → length keys ≡ payloadSize → slot < keysInPage
+    → keyInPage (keysPage epoch block i keys) slot ≡ part keys (keySize * slot) keySize
+unfolding keysPage keyInPage
+key-back epoch block i keys slot h s =
+    sym (part-part (pageBytes (keysFrame epoch block i) keys) headerSize payloadSize (keySize * slot) keySize (omega arith))
+    ∙ ap (λ (p : List ℕ). part p (keySize * slot) keySize) (unfold payloadOf in payload-back (keysFrame epoch block i) keys h)
+
+-- ---- what a program that is cut leaves
+module _ (k : ℕ) (page : List ℕ) (h : length page ≡ pageSize) where
+  pub cut-length : length (cutPage k page) ≡ pageSize
+  unfolding cutPage
+  cut-length = simp (length-append, length-take, length-replicate) (omega arith)
+
+  pub cut-whole : pageSize ≤ k → cutPage k page ≡ page
+  unfolding cutPage
+  cut-whole l =
+      let m : pageSize - k ≡ 0 = omega arith in
+      rw (take-all k page (omega arith), m) (append-nil page)
+
+  cut-splice : k ≤ pageSize → cutPage k page ≡ splice page k (replicate (pageSize - k) erased)
+  unfolding cutPage splice
+  cut-splice l =
+      rw (length-replicate, drop-of-length-le (drop k page) {i = pageSize - k} (simp length-drop (omega arith)), append-nil)
+
+  -- the bytes before k are the page's, those from k on are erased
+  pub cut-before : (a n : ℕ) → a + n ≤ k → a + n ≤ pageSize → part (cutPage k page) a n ≡ part page a n
+  cut-before a n l m =
+      elim (decLe k pageSize) [
+        | yes q ↦ rw (cut-splice q) (part-splice-before page k (replicate (pageSize - k) erased) (simp length-replicate (omega arith)) a n l)
+        | no q ↦ rw (cut-whole (omega arith))
+      ]
+
+  pub cut-after : (a n : ℕ) → k ≤ a → a + n ≤ pageSize → part (cutPage k page) a n ≡ replicate n erased
+  unfolding cutPage
+  cut-after a n l m =
+      let j : a ≡ k + (a - k) = omega arith in
+      rw j
+      (part-past (take k page) (replicate (pageSize - k) erased) k (a - k) n (simp length-take (omega arith))
+      ∙ part-replicate (pageSize - k) (a - k) n erased (omega arith))
+
+  -- the rest of a page filled
+  pub cut-filled : (zs : List ℕ) → zs ≡ replicate (length (take (length page - k) (drop k page))) erased → k < pageSize → putMid k (length page - k) page zs ≡ cutPage k page
+  unfolding cutPage
+  cut-filled zs e l =
+      let m : length (take (length page - k) (drop k page)) ≡ pageSize - k = simp (length-take, length-drop) (omega arith) in
+      rw (e, m, drop-of-length-le (drop k page) {i = length page - k} (simp length-drop (omega arith))) (simp append-nil)

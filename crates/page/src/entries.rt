@@ -1,0 +1,165 @@
+// A commit's payloads: the letters of key positions, and the entries of places.
+use crate::Entry;
+use crate::Number;
+use crate::bytes;
+use crate::columns;
+ghost use mathlib.Core.Path.{_≡_};
+ghost use Prim.Native.Nat.{_≤_, _<_, _+_, _*_};
+ghost use lib.ListN.{length, getD};
+ghost use Rattle.base.specs.Part.{part};
+ghost use Rattle.base.specs.Search.{allFrom};
+ghost use Rattle.page.specs.Frame.{payloadSize};
+ghost use Rattle.page.specs.Plan.{places};
+ghost use Rattle.page.specs.Key.{positions};
+ghost use Rattle.page.specs.Entry.{isLetter, entrySize, entriesInPart, parts, entryBytes, entryOf, isEntry, entriesFrom, commitPayload, validPayload};
+
+// The letters of a key position: free, used, deleted.
+pub const FREE: u8 = b'f';
+
+pub const USED: u8 = b'u';
+
+pub const DELETED: u8 = b'd';
+
+// None, in a map.
+pub const NONE: u16 = 65_535;
+
+// An entry has 8 bytes; a part holds 28 of them, from part 2 on. There are 224 places.
+const ENTRY_SIZE: usize = 8;
+
+const ENTRIES_IN_PART: usize = 28;
+
+const FIRST_ENTRY_PART: usize = 2;
+
+const PAYLOAD_SIZE: usize = 224;
+
+const PLACES: usize = 224;
+
+// The last page and the last key position that an entry can name.
+const LAST_PAGE: u32 = 4095;
+
+const LAST_POSITION: u32 = 447;
+
+// Whether b is a letter of a key position.
+pub fn is_letter(b: u8) -> bool
+    ensures { λ r. ⌜ r ≡ isLetter b ⌝ }
+{
+    b == FREE || b == USED || b == DELETED
+}
+
+// Writes the entry of a page and a key, as a map has them.
+pub fn write_entry(dst: &mut [u8], page: u16, key: u16)
+    requires { ⌜ length (now dst) ≡ entrySize ⌝ }
+    ensures { λ _. ⌜ now (dst .exit) ≡ entryBytes page key ⌝ }
+{
+    if page == NONE {
+        bytes::copy(dst, b"   -   -");
+    } else {
+        columns::put(&mut dst[0..4], 4, page as u32);
+        columns::put(&mut dst[4..8], 4, key as u32);
+    }
+}
+
+// The entry that 8 bytes are.
+pub fn read_entry(src: &[u8]) -> Entry
+    requires { ⌜ length (now src) ≡ entrySize ⌝ }
+    ensures { λ r. ⌜ r ≡ entryOf (now (src .entry)) ⌝ }
+{
+    if bytes::same(src, b"   -   -") {
+        return Entry::Vacant;
+    }
+    let Number::Is(page) = columns::get(&src[0..4]) else {
+        return Entry::Misspelt;
+    };
+    let Number::Is(key) = columns::get(&src[4..8]) else {
+        return Entry::Misspelt;
+    };
+    if LAST_PAGE < page {
+        return Entry::Misspelt;
+    }
+    if LAST_POSITION < key {
+        return Entry::Misspelt;
+    }
+    Entry::At(page, key)
+}
+
+// Writes the entries of a map's places from first on, as many as a part holds.
+fn write_entries(dst: &mut [u8], map: &[u16], first: usize)
+    requires { ⌜ (length (now dst) ≡ payloadSize) × (length (now map) ≡ places + places) × (first + entriesInPart ≤ places) ⌝ }
+    ensures { λ _. ⌜ now (dst .exit) ≡ entriesFrom (now (map .entry)) entriesInPart first ⌝ }
+{
+    let mut j = 0;
+    while j < ENTRIES_IN_PART {
+        let at = ENTRY_SIZE * j;
+        let x = first + j;
+        write_entry(&mut dst[at..at + ENTRY_SIZE], map[x], map[PLACES + x]);
+        j += 1;
+    }
+}
+
+// Writes the payload of a commit's part i.
+pub fn write_commit_payload(dst: &mut [u8], map: &[u16], letters: &[u8], i: usize)
+    requires { ⌜ (length (now dst) ≡ payloadSize) × (length (now map) ≡ places + places) × (length (now letters) ≡ positions) × (i < parts) ⌝ }
+    ensures { λ _. ⌜ now (dst .exit) ≡ commitPayload (now (map .entry)) (now (letters .entry)) i ⌝ }
+{
+    if i < FIRST_ENTRY_PART {
+        let at = PAYLOAD_SIZE * i;
+        bytes::copy(dst, &letters[at..at + PAYLOAD_SIZE]);
+    } else {
+        write_entries(dst, map, ENTRIES_IN_PART * (i - FIRST_ENTRY_PART));
+    }
+}
+
+// Whether every byte of a payload is a letter.
+fn all_letters(payload: &[u8]) -> bool
+    requires { ⌜ length (now payload) ≡ payloadSize ⌝ }
+    ensures { λ r. ⌜ r ≡ allFrom (λ j. isLetter (getD (now (payload .entry)) j 0)) payloadSize 0 ⌝ }
+{
+    let mut j = 0;
+    while j < PAYLOAD_SIZE {
+        if !is_letter(payload[j]) {
+            return false;
+        }
+        j += 1;
+    }
+    true
+}
+
+// Whether 8 bytes are an entry.
+fn is_entry(src: &[u8]) -> bool
+    requires { ⌜ length (now src) ≡ entrySize ⌝ }
+    ensures { λ r. ⌜ r ≡ isEntry (entryOf (now (src .entry))) ⌝ }
+{
+    match read_entry(src) {
+        Entry::At(_, _) => true,
+        Entry::Vacant => true,
+        Entry::Misspelt => false,
+    }
+}
+
+// Whether a payload holds entries throughout.
+fn all_entries(payload: &[u8]) -> bool
+    requires { ⌜ length (now payload) ≡ payloadSize ⌝ }
+    ensures { λ r. ⌜ r ≡ allFrom (λ j. isEntry (entryOf (part (now (payload .entry)) (entrySize * j) entrySize))) entriesInPart 0 ⌝ }
+{
+    let mut j = 0;
+    while j < ENTRIES_IN_PART {
+        let at = ENTRY_SIZE * j;
+        if !is_entry(&payload[at..at + ENTRY_SIZE]) {
+            return false;
+        }
+        j += 1;
+    }
+    true
+}
+
+// Whether a payload is valid as that of a commit's part i.
+pub fn valid_payload(payload: &[u8], i: usize) -> bool
+    requires { ⌜ length (now payload) ≡ payloadSize ⌝ }
+    ensures { λ r. ⌜ r ≡ validPayload i (now (payload .entry)) ⌝ }
+{
+    if i < FIRST_ENTRY_PART {
+        all_letters(payload)
+    } else {
+        all_entries(payload)
+    }
+}

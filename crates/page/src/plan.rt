@@ -1,0 +1,56 @@
+// The file plan: how many nodes each file holds, and a node's place.
+use crate::Place;
+ghost use mathlib.Core.Path.{_≡_};
+ghost use Prim.Native.Nat.{_≤_, _<_, _+_};
+ghost use Rattle.page.specs.Plan.{filePlan, lastFile, countOf, startOf, placeOf};
+
+// The counts of files 0 to 13, and for each file the sum of the counts before it.
+const COUNTS: [u32; 14] = [32, 32, 24, 24, 16, 16, 16, 16, 8, 8, 8, 8, 8, 8];
+
+const STARTS: [u32; 14] = [
+    0,
+    32,
+    64,
+    88,
+    112,
+    128,
+    144,
+    160,
+    176,
+    184,
+    192,
+    200,
+    208,
+    216,
+];
+
+pub const LAST_FILE: u32 = 13;
+
+// How many nodes a file holds; none where there is no such file.
+pub fn count(file: u32) -> u32
+    ensures { λ r. ⌜ r ≡ countOf filePlan file ⌝ }
+{
+    if LAST_FILE < file {
+        return 0;
+    }
+    COUNTS[file as usize]
+}
+
+// How many nodes the files before a file hold.
+pub fn start(file: u32) -> u32
+    requires { ⌜ file ≤ lastFile ⌝ }
+    ensures { λ r. ⌜ r ≡ startOf filePlan file ⌝ }
+{
+    STARTS[file as usize]
+}
+
+// The place of a node.
+pub fn place(file: u32, offset: u32) -> Place
+    ensures { λ r. ⌜ r ≡ placeOf filePlan file offset ⌝ }
+{
+    if offset < count(file) {
+        Place::At((start(file) + offset) as usize)
+    } else {
+        Place::Outside
+    }
+}

@@ -11,7 +11,11 @@ use Rattle.page.specs.Key.{keysInPage, keysInBlock, keyPage, keySlot, keyInPage
 use Rattle.page.specs.Entry.{usedLetter, parts, commitPayload}
 use Rattle.page.specs.Page.{keysPage, commitPage}
 use Rattle.image.specs.Size.{pagesInBlock}
-use Rattle.image.specs.Step.{Step, program}
+use Rattle.image.specs.Step.{Step, program, erase}
+
+-- the erases of n blocks from b on, in order
+unfoldable pub erasesFrom : ℕ → ℕ → List Step
+erasesFrom n b = listFrom erase n b
 
 -- the key of position p in the 4,096 bytes of a key block
 unfoldable pub keyInBlock : List ℕ → ℕ → List ℕ

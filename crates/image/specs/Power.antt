@@ -3,6 +3,7 @@ use Prim.Native.Nat.{ℕ, _-_}
 use mathlib.Core.Bool.{true, false, cond}
 use mathlib.Core.List.{List, [], _∷_}
 use lib.Dec.{eqb}
+use Rattle.image.specs.Size.{blockSize}
 use Rattle.image.specs.Step.{Step, upTo, whole}
 use Rattle.image.specs.declared.Power.{Power}
 
@@ -30,3 +31,13 @@ act s d =
 unfoldable pub run : List Step → Device → Device
 run [] d = d
 run (s ∷ ss) d = run ss (act s d)
+
+-- ---- the same step by step, as code has it: of how many bytes the power does the next step, and what is left of it then
+abbrev pub reach : Power → ℕ
+reach p = cond (eqb (p .steps) 0) (p .bytes) blockSize
+
+abbrev pub lessStep : Power → Power
+lessStep p =
+    cond (eqb (p .steps) 0)
+    (record { steps = 0; bytes = p .bytes; on = false })
+    (record { steps = p .steps - 1; bytes = p .bytes; on = true })

@@ -25,6 +25,9 @@ blocks img = length img / blockSize
 abbrev pub pages : List ℕ → ℕ
 pages img = length img / pageSize
 
--- 8 to 256 full blocks
+-- a length of 8 to 256 full blocks
+abbrev pub rightLength : ℕ → Bool
+rightLength n = eqb (n % blockSize) 0 && leb fewestBlocks (n / blockSize) && leb (n / blockSize) mostBlocks
+
 unfoldable pub sizeRight : List ℕ → Bool
-sizeRight img = eqb (length img % blockSize) 0 && leb fewestBlocks (blocks img) && leb (blocks img) mostBlocks
+sizeRight img = rightLength (length img)

@@ -1,7 +1,8 @@
 -- Document 01, "The flash image" and "Contracts and cases": the two steps of the flash, and what n steps whole and the first k bytes of the next leave.
-use Prim.Native.Nat.{ℕ, zero, suc, _*_, min}
+use Prim.Native.Nat.{ℕ, zero, suc, _+_, _*_, _≤_, min}
+use mathlib.Core.Path.{_≡_}
 use mathlib.Core.List.{List, [], _∷_}
-use lib.ListN.{replicate}
+use lib.ListN.{length, replicate}
 use Rattle.base.specs.Part.{splice}
 use Rattle.page.specs.Frame.{pageSize, erased}
 use Rattle.page.specs.Page.{cutPage}
@@ -11,6 +12,11 @@ use Rattle.image.specs.Size.{blockSize}
 pub data Step : Type 0 where
   program : ℕ → List ℕ → Step
   erase : ℕ → Step
+
+-- the step is one of an image of n bytes: its page or block stands in the image, and a page has 256 bytes
+abbrev pub Inside : ℕ → Step → Type 0
+Inside n (program g page) = (g * pageSize + pageSize ≤ n) × (length page ≡ pageSize)
+Inside n (erase b) = b * blockSize + blockSize ≤ n
 
 -- a step of which the first k bytes were done: of a program the rest of the page is FFh, of an erase the rest of the block as before
 unfoldable pub upTo : ℕ → Step → List ℕ → List ℕ

@@ -1,0 +1,93 @@
+-- The keys of a key block: where they stand, how many bytes they have, and keys in a row.
+use Prim.Native.Nat.{ℕ, zero, suc, _+_, _-_, _*_, _/_, _%_, _<_, _≤_}
+use native.Mathlib.Omega.{arith}
+use native.Mathlib.Numerals.{add-one}
+use mathlib.Core.Path.{_≡_, refl, sym, ap, subst, _∙_}
+use mathlib.Core.Bool.{Bool, true, false, cond}
+use mathlib.Core.List.{List, _++_, append-assoc, append-nil}
+use lib.Dec.{eqb}
+use lib.ListN.{length, getD, take, drop, length-append}
+use lib.Seq.{drop-append-add, take-at, take-all, length-take-le}
+use borrow.Rule.Slice.PartMut.{putMid}
+use Rattle.base.specs.Part.{part}
+use Rattle.base.proofs.Parts.{part-length, part-part}
+use Rattle.page.specs.Frame.{pageSize, headerSize}
+use Rattle.page.specs.Entry.{usedLetter}
+use Rattle.page.specs.Key.{keySize, keysInPage, positions, keyPage, keySlot, keyInPage, keyInNoise}
+use Rattle.image.specs.Size.{blockSize}
+use Rattle.image.specs.Look.{blockAt}
+use Rattle.image.specs.Block.{keyInBlock, keysFrom, renewedKey}
+
+-- ---- the key of a position in a key block of the image
+pub key-in-block-at : (img : List ℕ) (b p : ℕ) → keyInPage (part img (b * blockSize + pageSize * keyPage p) pageSize) (keySlot p) ≡ keyInBlock (blockAt img b) p
+unfolding keyInBlock blockAt
+key-in-block-at img b p =
+    ap (λ (page : List ℕ). keyInPage page (keySlot p)) (sym (part-part img (b * blockSize) blockSize (pageSize * keyPage p) pageSize (omega arith)))
+
+-- ---- a key has 16 bytes
+pub key-in-block-length : (block : List ℕ) (p : ℕ) → length block ≡ blockSize → length (keyInBlock block p) ≡ keySize
+unfolding keyInBlock keyInPage
+key-in-block-length block p l =
+    let m : length (part block (pageSize * keyPage p) pageSize) ≡ pageSize = part-length block (pageSize * keyPage p) pageSize (omega arith) in
+    part-length (part block (pageSize * keyPage p) pageSize) (headerSize + keySize * keySlot p) keySize (omega arith)
+
+pub key-in-noise-length : (noise : List ℕ) (p : ℕ) → length noise ≡ keySize * positions → p < positions → length (keyInNoise noise p) ≡ keySize
+unfolding keyInNoise
+key-in-noise-length noise p l h = part-length noise (keySize * p) keySize (omega arith)
+
+pub renewed-length : (old letters noise : List ℕ) (p : ℕ) → length old ≡ blockSize → length noise ≡ keySize * positions → p < positions
+    → length (renewedKey old letters noise p) ≡ keySize
+unfolding renewedKey
+renewed-length old letters noise p l m h = go (eqb (getD letters p 0) usedLetter)
+  where
+    go : (b : Bool) → length (cond b (keyInBlock old p) (keyInNoise noise p)) ≡ keySize
+    go true = key-in-block-length old p l
+    go false = key-in-noise-length noise p m h
+
+-- ---- keys in a row
+pub keys-length : (key : ℕ → List ℕ) (n p : ℕ) → ((j : ℕ) → p ≤ j → j < p + n → length (key j) ≡ keySize) → length (keysFrom key n p) ≡ keySize * n
+unfolding keysFrom
+keys-length key zero p h = refl
+keys-length key (suc n) p h =
+    simp length-append (omega (arith, h p (omega arith) (omega arith), keys-length key n (suc p) (λ j a b. h j (omega arith) (omega arith))))
+
+-- the key at a place of the row
+pub keys-at : (key : ℕ → List ℕ) (n p j : ℕ) → ((j : ℕ) → p ≤ j → j < p + n → length (key j) ≡ keySize) → j < n
+    → part (keysFrom key n p) (keySize * j) keySize ≡ key (p + j)
+unfolding keysFrom part
+keys-at key zero p j h l = absurd (omega arith)
+keys-at key (suc n) p zero h l =
+    take-at (key p) (keysFrom key n (suc p)) keySize (h p (omega arith) (omega arith)) ∙ ap key (omega arith)
+keys-at key (suc n) p (suc j) h l =
+    let e : keySize * suc j ≡ length (key p) + keySize * j = omega (arith, h p (omega arith) (omega arith)) in
+    rw (e, drop-append-add (key p) (keysFrom key n (suc p)) (keySize * j))
+    (keys-at key n (suc p) j (λ i a b. h i (omega arith) (omega arith)) (omega arith) ∙ ap key (omega arith))
+
+-- rows that agree
+pub keys-agree : (key key' : ℕ → List ℕ) (n p : ℕ) → ((j : ℕ) → p ≤ j → j < p + n → key j ≡ key' j) → keysFrom key n p ≡ keysFrom key' n p
+unfolding keysFrom
+keys-agree key key' zero p h = refl
+keys-agree key key' (suc n) p h =
+    rw (h p (omega arith) (omega arith), keys-agree key key' n (suc p) (λ j a b. h j (omega arith) (omega arith)))
+
+-- ---- a row that is written key by key: j keys stand in front
+module _ (key : ℕ → List ℕ) (n p j : ℕ) (dst : List ℕ) where
+  pub keys-next : (zs : List ℕ) → j < n → keySize * n ≤ length dst → zs ≡ key (p + j) → length zs ≡ keySize
+      → take (keySize * j) dst ++ keysFrom key (n - j) (p + j)
+          ≡ take (keySize * (j + 1)) (putMid (keySize * j) ((keySize * j + keySize) - keySize * j) dst zs) ++ keysFrom key (n - (j + 1)) (p + (j + 1))
+  unfolding keysFrom
+  keys-next zs h f e l =
+      let front = take (keySize * j) dst in
+      let rest = drop ((keySize * j + keySize) - keySize * j) (drop (keySize * j) dst) in
+      let i : n - j ≡ suc (n - (j + 1)) = omega arith in
+      let m : suc (p + j) ≡ p + (j + 1) = omega arith in
+      let t : length front ≡ keySize * j = length-take-le (keySize * j) dst (omega arith) in
+      let q : take (keySize * (j + 1)) (front ++ (zs ++ rest)) ≡ front ++ zs =
+          rw (← append-assoc front zs rest) (take-at (front ++ zs) rest (keySize * (j + 1)) (length-append front zs ∙ omega arith)) in
+      rw (q, i, m, e) (sym (append-assoc front (key (p + j)) (keysFrom key (n - (j + 1)) (p + (j + 1)))))
+
+  pub keys-done : n ≤ j → length dst ≡ keySize * j → take (keySize * j) dst ++ keysFrom key (n - j) (p + j) ≡ dst
+  unfolding keysFrom
+  keys-done h l =
+      let i : n - j ≡ 0 = omega arith in
+      rw (i, append-nil, take-all (keySize * j) dst (omega arith))

@@ -1,0 +1,64 @@
+-- `steps::program_commit_page` lends the page of the image to the writer of a commit page.
+use mathlib.Core.Path.{sym}
+use denote.Ref.{now}
+use borrow.Author.Tests.{not-true, not-false}
+use Rattle.image.proofs.Runs.{act-off}
+use Rattle.image.proofs.Pages.{commit-page-length}
+use Rattle.image.proofs.Lent.{lent-program}
+use borrow.Author.Needs.{needs}
+use Rattle.image.proofs.steps.program_commit_page.Statement.{statement}
+use Rattle.image.proofs.steps.program_commit_page.Tie as tie
+
+returns : tie.Need-returns
+returns c = let s = c .before .before .before .before in sym (act-off _ (s .args .p) (now (s .args .image)) (not-true _ (c .if1 .taken)))
+
+mul-start : tie.Need-mul-start
+mul-start c = search needs
+
+add-write-commit-page : tie.Need-add-write-commit-page
+add-write-commit-page c = search needs
+
+sub-write-commit-page : tie.Need-sub-write-commit-page
+sub-write-commit-page c = search needs
+
+part-write-commit-page-start : tie.Need-part-write-commit-page-start
+part-write-commit-page-start c = search needs
+
+part-write-commit-page-end : tie.Need-part-write-commit-page-end
+part-write-commit-page-end c = search needs
+
+reach-of-requires : tie.Need-reach-of-requires
+reach-of-requires c κs = search needs
+
+write-commit-page-requires : tie.Need-write-commit-page-requires
+write-commit-page-requires c κs = search needs
+
+after-step-requires : tie.Need-after-step-requires
+after-step-requires c κs = search needs
+
+same-length : tie.Need-same-length
+same-length c = search needs
+
+returns-2 : tie.Need-returns-2
+returns-2 c =
+    let a = c .before .before .before .before .before .before .before .before .before .before .args in
+    lent-program (now (a .image)) (a .p) (c .after-step .result) (not-false _ (c .before .before .before .before .before .before .if1 .left)) (c .after-step .ensures)
+    (c .before .before .before .before .reach-of .result) (c .before .before .before .before .reach-of .ensures) _ (a .g) _
+    (search needs, commit-page-length (a .epoch) (a .i) (a .covered) (now (a .payload)) (c .before .before .before .before .before .before .before .before .before .before .pre .1))
+    (c .before .before .before .write-commit-page .ensures)
+
+pub program-commit-page-spec : {M : Type 1} → statement M
+program-commit-page-spec =
+    tie.close
+    (tie.spec
+    returns
+    mul-start
+    add-write-commit-page
+    sub-write-commit-page
+    part-write-commit-page-start
+    part-write-commit-page-end
+    reach-of-requires
+    write-commit-page-requires
+    after-step-requires
+    same-length
+    returns-2)

@@ -1,0 +1,60 @@
+// The keys of a key block: read from the image, and renewed for the next copy of the block.
+use page::bytes;
+use page::keys;
+ghost use mathlib.Core.Path.{_≡_};
+ghost use Prim.Native.Nat.{_≤_, _<_, _+_, _*_};
+ghost use lib.ListN.{length};
+ghost use Rattle.page.specs.Frame.{payloadSize};
+ghost use Rattle.page.specs.Key.{keySize, keysInPage, positions};
+ghost use Rattle.image.specs.Size.{blockSize};
+ghost use Rattle.image.specs.Look.{blockAt};
+ghost use Rattle.image.specs.Block.{keyInBlock, keysFrom, renewedKey};
+
+const BLOCK_SIZE: usize = 4096;
+
+const PAGE_SIZE: usize = 256;
+
+const KEY_SIZE: usize = 16;
+
+const KEYS_IN_PAGE: usize = 14;
+
+// The letter of a used position.
+const USED: u8 = b'u';
+
+// The key of position p in the key block at block b.
+pub fn key_in_block(image: &[u8], b: usize, p: usize) -> [u8; 16]
+    requires { ⌜ b * blockSize + blockSize ≤ length (now image) ⌝ }
+    ensures { λ r. ⌜ r ≡ keyInBlock (blockAt (now (image .entry)) b) p ⌝ }
+{
+    let start = b * BLOCK_SIZE + PAGE_SIZE * keys::page_of(p);
+    keys::key_in_page(&image[start..start + PAGE_SIZE], keys::slot_of(p))
+}
+
+// Writes the next key of position p: the old one where the position is used, else that of the noise.
+fn renew_key(dst: &mut [u8], image: &[u8], old: usize, letters: &[u8], noise: &[u8], p: usize)
+    requires { ⌜ (length (now dst) ≡ keySize) × (old * blockSize + blockSize ≤ length (now image)) ⌝ }
+    requires { ⌜ (length (now letters) ≡ positions) × (length (now noise) ≡ keySize * positions) × (p < positions) ⌝ }
+    ensures { λ _. ⌜ now (dst .exit) ≡ renewedKey (blockAt (now (image .entry)) old) (now (letters .entry)) (now (noise .entry)) p ⌝ }
+{
+    if letters[p] == USED {
+        let key = key_in_block(image, old, p);
+        bytes::copy(dst, &key);
+    } else {
+        let at = KEY_SIZE * p;
+        bytes::copy(dst, &noise[at..at + KEY_SIZE]);
+    }
+}
+
+// Writes the next keys of a key page, the positions from first on.
+pub fn renew_keys(dst: &mut [u8], image: &[u8], old: usize, letters: &[u8], noise: &[u8], first: usize)
+    requires { ⌜ (length (now dst) ≡ payloadSize) × (old * blockSize + blockSize ≤ length (now image)) ⌝ }
+    requires { ⌜ (length (now letters) ≡ positions) × (length (now noise) ≡ keySize * positions) × (first + keysInPage ≤ positions) ⌝ }
+    ensures { λ _. ⌜ now (dst .exit) ≡ keysFrom (renewedKey (blockAt (now (image .entry)) old) (now (letters .entry)) (now (noise .entry))) keysInPage first ⌝ }
+{
+    let mut j = 0;
+    while j < KEYS_IN_PAGE {
+        let at = KEY_SIZE * j;
+        renew_key(&mut dst[at..at + KEY_SIZE], image, old, letters, noise, first + j);
+        j += 1;
+    }
+}

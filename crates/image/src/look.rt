@@ -1,0 +1,79 @@
+// What stands on the image: its size, empty pages and blocks, and the form of a page.
+use page::forms;
+ghost use mathlib.Core.Path.{_≡_};
+ghost use Prim.Native.Nat.{_≤_, _+_, _*_};
+ghost use lib.ListN.{length};
+ghost use Rattle.page.specs.Frame.{pageSize};
+ghost use Rattle.image.specs.Size.{blockSize, blocks, sizeRight};
+ghost use Rattle.image.specs.Look.{pageEmpty, blockEmpty, lowestEmpty, emptyBlocks};
+
+const PAGE_SIZE: usize = 256;
+
+const BLOCK_SIZE: usize = 4096;
+
+const FEWEST_BLOCKS: usize = 8;
+
+const MOST_BLOCKS: usize = 256;
+
+// Whether the image is 8 to 256 full blocks.
+pub fn size_right(image: &[u8]) -> bool
+    ensures { λ r. ⌜ r ≡ sizeRight (now (image .entry)) ⌝ }
+{
+    let n = image.len() / BLOCK_SIZE;
+    if image.len() % BLOCK_SIZE != 0 {
+        return false;
+    }
+    if n < FEWEST_BLOCKS {
+        return false;
+    }
+    n <= MOST_BLOCKS
+}
+
+// Whether page g is empty.
+pub fn page_empty(image: &[u8], g: usize) -> bool
+    requires { ⌜ g * pageSize + pageSize ≤ length (now image) ⌝ }
+    ensures { λ r. ⌜ r ≡ pageEmpty (now (image .entry)) g ⌝ }
+{
+    let start = g * PAGE_SIZE;
+    forms::is_empty(&image[start..start + PAGE_SIZE])
+}
+
+// Whether block b is empty.
+pub fn block_empty(image: &[u8], b: usize) -> bool
+    requires { ⌜ b * blockSize + blockSize ≤ length (now image) ⌝ }
+    ensures { λ r. ⌜ r ≡ blockEmpty (now (image .entry)) b ⌝ }
+{
+    let start = b * BLOCK_SIZE;
+    forms::is_empty(&image[start..start + BLOCK_SIZE])
+}
+
+// The lowest empty block, or the number of blocks where there is none.
+pub fn lowest_empty(image: &[u8]) -> usize
+    ensures { λ r. ⌜ (r ≡ lowestEmpty (now (image .entry))) × (r ≤ blocks (now (image .entry))) ⌝ }
+{
+    let n = image.len() / BLOCK_SIZE;
+    let mut b = 0;
+    while b < n {
+        if block_empty(image, b) {
+            return b;
+        }
+        b += 1;
+    }
+    b
+}
+
+// How many blocks are empty.
+pub fn empty_blocks(image: &[u8]) -> usize
+    ensures { λ r. ⌜ (r ≡ emptyBlocks (now (image .entry))) × (r ≤ blocks (now (image .entry))) ⌝ }
+{
+    let n = image.len() / BLOCK_SIZE;
+    let mut b = 0;
+    let mut count = 0;
+    while b < n {
+        if block_empty(image, b) {
+            count += 1;
+        }
+        b += 1;
+    }
+    count
+}

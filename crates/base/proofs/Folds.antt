@@ -1,8 +1,9 @@
 -- Laws of folds and lists over numbers in a row: the steps of a loop, and what holds of the whole.
 use Prim.Native.Nat.{ℕ, zero, suc, _+_, _-_, _<_, _≤_}
 use native.Mathlib.Omega.{arith}
+use native.Mathlib.Nat.{add-zero, zero-add}
 use native.Mathlib.Numerals.{add-one}
-use mathlib.Core.Path.{_≡_, refl, sym, ap, _∙_}
+use mathlib.Core.Path.{_≡_, refl, sym, ap, subst, _∙_}
 use mathlib.Core.List.{List, [], _∷_}
 use lib.ListN.{length, getD}
 use Rattle.base.specs.Fold.{foldFrom, listFrom}
@@ -57,3 +58,24 @@ unfolding foldFrom
 fold-keeps P f zero i s h p = p
 fold-keeps P f (suc n) i s h p =
     fold-keeps P f n (suc i) (f i s) (λ j t a b. h j t (omega arith) (omega arith)) (h i s (omega arith) (omega arith) p)
+
+-- a fact of the numbers passed and of the state, that each step hands on, holds at the end
+pub fold-passes : {S : Type 0} (P : ℕ → S → Type 0) (f : ℕ → S → S) (n i : ℕ) (s : S)
+    → ((j : ℕ) (t : S) → i ≤ j → j < i + n → P j t → P (suc j) (f j t)) → P i s → P (i + n) (foldFrom f n i s)
+unfolding foldFrom
+fold-passes P f zero i s h p = rw add-zero p
+fold-passes P f (suc n) i s h p =
+    let k : i + suc n ≡ suc i + n = omega arith in
+    rw k (fold-passes P f n (suc i) (f i s) (λ j t a b. h j t (omega arith) (omega arith)) (h i s (omega arith) (omega arith) p))
+
+-- the same where the numbers start at 0
+pub fold-up : {S : Type 0} (P : ℕ → S → Type 0) (f : ℕ → S → S) (n : ℕ) (s : S)
+    → ((j : ℕ) (t : S) → j < n → P j t → P (suc j) (f j t)) → P 0 s → P n (foldFrom f n 0 s)
+fold-up P f n s h p =
+    subst (λ (m : ℕ). P m (foldFrom f n 0 s)) (zero-add n) (fold-passes P f n 0 s (λ j t a b. h j t (omega arith)) p)
+
+-- the last step
+pub fold-last : {S : Type 0} (f : ℕ → S → S) (n i : ℕ) (s : S) → foldFrom f (suc n) i s ≡ f (i + n) (foldFrom f n i s)
+unfolding foldFrom
+fold-last f zero i s = rw add-zero
+fold-last f (suc n) i s = let k : i + suc n ≡ suc i + n = omega arith in rw k (fold-last f n (suc i) (f i s))

@@ -5,13 +5,18 @@ use native.Mathlib.Nat.{zero-add}
 use mathlib.Core.List.{List, [], _∷_}
 use lib.ListN.{length}
 use lib.Dec.{leb}
-use borrow.Author.Tests.{le-leb}
+use borrow.Author.Tests.{leb-true, le-leb}
 use native.Mathlib.Numerals.{add-one}
 use native.Mathlib.Decide.{decLt}
 use mathlib.Core.Path.{_≡_, refl, sym, ap, subst, _∙_}
 use mathlib.Core.Bool.{Bool, true, false, cond, _&&_, _||_}
 use Rattle.base.proofs.Choice.{and-true, and-intro, or-left, true-false}
 use Rattle.base.specs.Search.{firstFrom, countFrom, allFrom, anyFrom, whichFrom, highestFrom}
+
+-- what holds of each number below n, and of n, holds of each below n + 1
+pub below-suc : (P : ℕ → Type 0) (n : ℕ) → ((i : ℕ) → i < n → P i) → P n → (i : ℕ) → i < suc n → P i
+below-suc P n f p i h =
+    elim (decLt i n) [ yes k ↦ f i k | no k ↦ let q : i ≡ n = omega arith in rw q p ]
 
 -- ---- a loop's steps, as the code has them: i goes up to n
 module _ (p : ℕ → Bool) (n i : ℕ) (h : i < n) where
@@ -126,6 +131,17 @@ first-all p zero i h = omega arith
 first-all p (suc n) i h =
     rw (h i (omega arith) (omega arith)) (first-all p n (suc i) (λ j a b. h j (omega arith) (omega arith)) ∙ omega arith)
 
+-- where one is counted the search ends before the end
+pub count-first : (p : ℕ → Bool) (n i : ℕ) → 1 ≤ countFrom p n i → firstFrom p n i < i + n
+unfolding countFrom firstFrom
+count-first p zero i h = absurd (omega arith)
+count-first p (suc n) i h = go (p i) h (count-first p n (suc i))
+  where
+    go : (b : Bool) → 1 ≤ cond b 1 0 + countFrom p n (suc i) → (1 ≤ countFrom p n (suc i) → firstFrom p n (suc i) < suc i + n)
+        → cond b i (firstFrom p n (suc i)) < i + suc n
+    go true h r = omega arith
+    go false h r = let f = r (omega arith) in omega arith
+
 -- ---- a test of any
 module _ (p : ℕ → Bool) (n i : ℕ) (h : i < n) where
   pub any-here : p i ≡ true → anyFrom p (n - i) i ≡ true
@@ -172,6 +188,13 @@ any-fails p n i j e h k = go (p j) refl
     go true q = absurd (true-false (any-intro p n i j h k q) e)
     go false q = refl
 
+-- none pass
+pub any-all-fail : (p : ℕ → Bool) (n i : ℕ) → ((j : ℕ) → i ≤ j → j < i + n → p j ≡ false) → anyFrom p n i ≡ false
+unfolding anyFrom
+any-all-fail p zero i h = refl
+any-all-fail p (suc n) i h =
+    rw (h i (omega arith) (omega arith)) (any-all-fail p n (suc i) (λ j a b. h j (omega arith) (omega arith)))
+
 pub any-agree : (p q : ℕ → Bool) (n i : ℕ) → ((j : ℕ) → i ≤ j → j < i + n → p j ≡ q j) → anyFrom p n i ≡ anyFrom q n i
 unfolding anyFrom
 any-agree p q zero i h = refl
@@ -195,6 +218,48 @@ count-any p (suc n) i = go (p i) (count-any p n (suc i))
         → leb 1 (cond b 1 0 + countFrom p n (suc i)) ≡ (b || anyFrom p n (suc i))
     go true r = le-leb 1 (1 + countFrom p n (suc i)) (omega arith)
     go false r = rw zero-add r
+
+-- ---- a count of at most one is that all who pass are the same
+pub count-some : (p : ℕ → Bool) (n i j : ℕ) → i ≤ j → j < i + n → p j ≡ true → 1 ≤ countFrom p n i
+count-some p n i j h k e = leb-true _ _ (count-any p n i ∙ any-intro p n i j h k e)
+
+pub count-zero : (p : ℕ → Bool) (n i : ℕ) → ((j : ℕ) → i ≤ j → j < i + n → p j ≡ false) → countFrom p n i ≡ 0
+unfolding countFrom
+count-zero p zero i h = refl
+count-zero p (suc n) i h =
+    rw (h i (omega arith) (omega arith), count-zero p n (suc i) (λ j a b. h j (omega arith) (omega arith)))
+
+count-two : (p : ℕ → Bool) (n i j k : ℕ) → i ≤ j → j < k → k < i + n → p j ≡ true → p k ≡ true → 2 ≤ countFrom p n i
+unfolding countFrom
+count-two p zero i j k a b c e f = absurd (omega arith)
+count-two p (suc n) i j k a b c e f =
+    elim (decLt i j) [
+      | yes l ↦ omega (arith, count-two p n (suc i) j k l b (omega arith) e f)
+      | no l ↦ let q : p i ≡ true = let r : i ≡ j = omega arith in rw r e in rw q (omega (arith, count-some p n (suc i) k (omega arith) (omega arith) f))
+    ]
+
+pub count-unique : (p : ℕ → Bool) (n i j k : ℕ) → countFrom p n i ≤ 1 → i ≤ j → j < i + n → i ≤ k → k < i + n → p j ≡ true → p k ≡ true → j ≡ k
+count-unique p n i j k h a b c d e f =
+    elim (decLt j k) [
+      | yes l ↦ absurd (omega (arith, count-two p n i j k a l d e f))
+      | no l ↦ elim (decLt k j) [ yes m ↦ absurd (omega (arith, count-two p n i k j c m b f e)) | no m ↦ omega arith ]
+    ]
+
+pub unique-count : (p : ℕ → Bool) (n i : ℕ) → ((j k : ℕ) → i ≤ j → j < i + n → i ≤ k → k < i + n → p j ≡ true → p k ≡ true → j ≡ k) → countFrom p n i ≤ 1
+unfolding countFrom
+unique-count p zero i h = omega arith
+unique-count p (suc n) i h = go (p i) refl (unique-count p n (suc i) (λ j k a b c d e f. h j k (omega arith) (omega arith) (omega arith) (omega arith) e f))
+  where
+    apart : p i ≡ true → (j : ℕ) → suc i ≤ j → j < suc i + n → p j ≡ false
+    apart e j a b = test (p j) refl
+      where
+        test : (t : Bool) → p j ≡ t → t ≡ false
+        test true f = absurd (omega (arith, h i j (omega arith) (omega arith) (omega arith) (omega arith) e f))
+        test false f = refl
+
+    go : (t : Bool) → p i ≡ t → countFrom p n (suc i) ≤ 1 → cond t 1 0 + countFrom p n (suc i) ≤ 1
+    go true e r = omega (arith, count-zero p n (suc i) (apart e))
+    go false e r = omega arith
 
 -- ---- the list of those that pass
 module _ (p : ℕ → Bool) (n i : ℕ) (h : i < n) where

@@ -1,0 +1,264 @@
+-- The key position and the page that a write takes: the lowest f; the lowest empty page of a data block with only empty pages after it, else the first page of the lowest empty block if two are empty.
+use Prim.Native.Nat.{ℕ, zero, suc, _+_, _-_, _*_, _/_, _%_, _<_, _≤_}
+use native.Mathlib.Omega.{arith}
+use native.Mathlib.Decide.{decLt}
+use mathlib.Core.Path.{_≡_, refl, sym, ap, subst, _∙_}
+use mathlib.Core.Logic.{_⊎_, inl, inr, ⊎-elim}
+use mathlib.Core.Bool.{Bool, true, false, cond, _&&_}
+use mathlib.Core.List.{List, [], _∷_}
+use lib.Dec.{eqb, leb, ltb}
+use lib.ListN.{length, getD, take, drop}
+use borrow.Author.Tests.{ltb-true, ltb-false, lt-ltb, le-ltb, leb-true, leb-false, le-leb, lt-leb, eqb-true, eqb-false, eq-eqb, ne-eqb}
+use Rattle.base.specs.Part.{part}
+use Rattle.base.specs.Each.{allAre}
+use Rattle.base.specs.Search.{firstFrom, countFrom, allFrom}
+use Rattle.base.proofs.Choice.{and-true, and-intro, true-false}
+use Rattle.base.proofs.Parts.{part-part}
+use Rattle.base.proofs.Searches.{first-bounds, first-holds, first-least, first-all, all-holds, all-intro, count-first}
+use Rattle.page.specs.Frame.{pageSize, erased}
+use Rattle.page.specs.Form.{isEmpty}
+use Rattle.page.specs.Key.{positions}
+use Rattle.page.specs.Entry.{freeLetter}
+use Rattle.image.specs.Size.{blockSize, pagesInBlock, blocks, pages}
+use Rattle.image.specs.Look.{pageAt, blockAt, pageEmpty, blockEmpty, lowestEmpty, emptyBlocks}
+use Rattle.store.specs.Kind.{pageIn, kindOf, isData}
+use Rattle.store.specs.Find.{found, lowestFree, isOpen, freshPage, orElse, newPage, isFound, foundAt}
+use Rattle.store.specs.declared.Numbers.{Numbers}
+use Rattle.store.specs.declared.Kind.the-variants.{Other}
+use Rattle.store.specs.declared.Found.{Found}
+use Rattle.store.specs.declared.Found.the-variants.{At, Nothing}
+use Rattle.store.proofs.BlockKinds.{kind-unbegun, data-is-other}
+
+-- ---- the lowest number that a test holds of
+pub record Lowest (p : ℕ → Bool) (n b : ℕ) : Type 0 where
+  pub below : b < n
+  pub holds : p b ≡ true
+  pub none-below : (a : ℕ) → a < b → p a ≡ false
+
+by-test : (t : Bool) (i b : ℕ) → cond t (At i) Nothing ≡ At b → (t ≡ true) × (i ≡ b)
+by-test true i b e = (refl, cc)
+by-test false i b e = absurd (let z : _≡_ {A = ℕ} 0 1 = cc in omega arith)
+
+not-by-test : (t : Bool) (i : ℕ) → cond t (At i) Nothing ≡ Nothing → t ≡ false
+not-by-test true i e = absurd (let z : _≡_ {A = ℕ} 0 1 = cc in omega arith)
+not-by-test false i e = refl
+
+module _ (p : ℕ → Bool) (n : ℕ) where
+  pub found-at : (b : ℕ) → found n (firstFrom p n 0) ≡ At b → Lowest p n b
+  found-at b e =
+      let i = firstFrom p n 0 in
+      let t = by-test (ltb i n) i b e in
+      let l : i < n = ltb-true i n (t .0) in
+      subst (Lowest p n) (t .1)
+      (record {
+        below = l;
+        holds = first-holds p n 0 (omega arith);
+        none-below = λ a h. first-least p n 0 a (omega arith) h;
+      })
+
+  pub at-found : (b : ℕ) → Lowest p n b → found n (firstFrom p n 0) ≡ At b
+  at-found b l =
+      let e : firstFrom p n 0 ≡ b = elim (decLt (firstFrom p n 0) b) [
+        | yes h ↦ absurd (true-false (first-holds p n 0 (omega (arith, l .below))) (l .none-below (firstFrom p n 0) h))
+        | no h ↦ elim (decLt b (firstFrom p n 0)) [
+          | yes k ↦ absurd (true-false (l .holds) (first-least p n 0 b (omega arith) k))
+          | no k ↦ omega arith
+        ]
+      ] in
+      rw (e, lt-ltb b n (l .below))
+
+  pub found-nothing : found n (firstFrom p n 0) ≡ Nothing → (a : ℕ) → a < n → p a ≡ false
+  found-nothing e a h =
+      first-least p n 0 a (omega arith) (omega (arith, ltb-false (firstFrom p n 0) n (not-by-test (ltb (firstFrom p n 0) n) (firstFrom p n 0) e)))
+
+  pub nothing-found : ((a : ℕ) → a < n → p a ≡ false) → found n (firstFrom p n 0) ≡ Nothing
+  nothing-found f =
+      rw (le-ltb (firstFrom p n 0) n (omega (arith, first-all p n 0 (λ a h k. f a (omega arith)))))
+
+-- ---- the lowest f
+module _ (letters : List ℕ) where
+  pub lowest-free : (p : ℕ) → lowestFree letters ≡ At p
+      → (p < positions) × (getD letters p 0 ≡ freeLetter) × ((q : ℕ) → q < p → getD letters q 0 ≡ freeLetter → ⊥)
+  unfolding lowestFree
+  lowest-free p e =
+      let l = found-at (λ q. eqb (getD letters q 0) freeLetter) positions p e in
+      (l .below, eqb-true _ _ (l .holds), λ q h. eqb-false _ _ (l .none-below q h))
+
+  pub free-lowest : (p : ℕ) → p < positions → getD letters p 0 ≡ freeLetter → ((q : ℕ) → q < p → getD letters q 0 ≡ freeLetter → ⊥) → lowestFree letters ≡ At p
+  unfolding lowestFree
+  free-lowest p h e f =
+      at-found (λ q. eqb (getD letters q 0) freeLetter) positions p
+      (record { below = h; holds = eq-eqb _ _ e; none-below = λ q k. ne-eqb _ _ (f q k) })
+
+  pub none-free : lowestFree letters ≡ Nothing → (p : ℕ) → p < positions → getD letters p 0 ≡ freeLetter → ⊥
+  unfolding lowestFree
+  none-free e p h = eqb-false _ _ (found-nothing (λ q. eqb (getD letters q 0) freeLetter) positions e p h)
+
+  pub free-none : ((p : ℕ) → p < positions → getD letters p 0 ≡ freeLetter → ⊥) → lowestFree letters ≡ Nothing
+  unfolding lowestFree
+  free-none f = nothing-found (λ q. eqb (getD letters q 0) freeLetter) positions (λ p h. ne-eqb _ _ (f p h))
+
+-- ---- open pages
+-- page g is empty, and so is each after it in its block
+abbrev pub EmptyFrom : List ℕ → ℕ → Type 0
+EmptyFrom img g = (h : ℕ) → g ≤ h → h / pagesInBlock ≡ g / pagesInBlock → pageEmpty img h ≡ true
+
+module _ (img : List ℕ) (r : Numbers) (g : ℕ) where
+  pub open-page : isOpen img r g ≡ true → (isData img r (g / pagesInBlock) ≡ true) × EmptyFrom img g
+  unfolding isOpen
+  open-page e =
+      let a = and-true (isData img r (g / pagesInBlock)) _ e in
+      (a .0, λ h k q. all-holds (pageEmpty img) (pagesInBlock - g % pagesInBlock) g h (a .1) k (omega arith))
+
+  pub page-open : isData img r (g / pagesInBlock) ≡ true → EmptyFrom img g → isOpen img r g ≡ true
+  unfolding isOpen
+  page-open d f =
+      and-intro (isData img r (g / pagesInBlock)) _ d (all-intro (pageEmpty img) (pagesInBlock - g % pagesInBlock) g (λ h k l. f h k (omega arith)))
+
+-- ---- the pages of an empty block are empty
+allAre-take : (v n : ℕ) (xs : List ℕ) → allAre v xs ≡ true → allAre v (take n xs) ≡ true
+unfolding allAre
+allAre-take v zero xs e = refl
+allAre-take v (suc n) [] e = refl
+allAre-take v (suc n) (x ∷ xs) e =
+    let a = and-true (eqb x v) (allAre v xs) e in
+    and-intro (eqb x v) (allAre v (take n xs)) (a .0) (allAre-take v n xs (a .1))
+
+allAre-drop : (v n : ℕ) (xs : List ℕ) → allAre v xs ≡ true → allAre v (drop n xs) ≡ true
+unfolding allAre
+allAre-drop v zero xs e = e
+allAre-drop v (suc n) [] e = refl
+allAre-drop v (suc n) (x ∷ xs) e = allAre-drop v n xs (and-true (eqb x v) (allAre v xs) e .1)
+
+allAre-part : (v : ℕ) (xs : List ℕ) (a n : ℕ) → allAre v xs ≡ true → allAre v (part xs a n) ≡ true
+unfolding part
+allAre-part v xs a n e = allAre-take v n (drop a xs) (allAre-drop v a xs e)
+
+empty-block-page : (img : List ℕ) (g : ℕ) → blockEmpty img (g / pagesInBlock) ≡ true → pageEmpty img g ≡ true
+unfolding blockEmpty blockAt pageEmpty pageAt isEmpty
+empty-block-page img g e =
+    let q : g * pageSize ≡ g / pagesInBlock * blockSize + g % pagesInBlock * pageSize = omega arith in
+    rw (q, ← part-part img (g / pagesInBlock * blockSize) blockSize (g % pagesInBlock * pageSize) pageSize (omega arith))
+    (allAre-part erased (part img (g / pagesInBlock * blockSize) blockSize) (g % pagesInBlock * pageSize) pageSize e)
+
+-- ---- the lowest empty block
+module _ (img : List ℕ) where
+  lowest-inside : 1 ≤ emptyBlocks img → lowestEmpty img < blocks img
+  unfolding lowestEmpty emptyBlocks
+  lowest-inside h = omega (arith, count-first (blockEmpty img) (blocks img) 0 h)
+
+  lowest-empty : lowestEmpty img < blocks img → blockEmpty img (lowestEmpty img) ≡ true
+  unfolding lowestEmpty
+  lowest-empty h = first-holds (blockEmpty img) (blocks img) 0 (omega arith)
+
+  lowest-least : (b : ℕ) → b < lowestEmpty img → blockEmpty img b ≡ false
+  unfolding lowestEmpty
+  lowest-least b h = first-least (blockEmpty img) (blocks img) 0 b (omega arith) h
+
+  -- the first page of the lowest empty block if two are empty
+  pub fresh-page : (g : ℕ) → freshPage img ≡ At g → (2 ≤ emptyBlocks img) × (g ≡ lowestEmpty img * pagesInBlock)
+  unfolding freshPage
+  fresh-page g e =
+      let t = by-test (leb 2 (emptyBlocks img)) (lowestEmpty img * pagesInBlock) g e in
+      (leb-true _ _ (t .0), sym (t .1))
+
+  pub no-fresh-page : freshPage img ≡ Nothing → emptyBlocks img ≤ 1
+  unfolding freshPage
+  no-fresh-page e =
+      omega (arith, leb-false 2 (emptyBlocks img) (not-by-test (leb 2 (emptyBlocks img)) (lowestEmpty img * pagesInBlock) e))
+
+-- ---- the page that a write takes
+-- the lowest open page
+pub record OpenPage (img : List ℕ) (r : Numbers) (g : ℕ) : Type 0 where
+  pub inside : g < pages img
+  pub data-block : isData img r (g / pagesInBlock) ≡ true
+  pub empty : EmptyFrom img g
+  pub lowest : (h : ℕ) → h < g → isOpen img r h ≡ false
+
+-- no page is open, two blocks are empty: the first page of the lowest of them
+pub record FreshPage (img : List ℕ) (r : Numbers) (g : ℕ) : Type 0 where
+  pub none-open : (h : ℕ) → h < pages img → isOpen img r h ≡ false
+  pub two-empty : 2 ≤ emptyBlocks img
+  pub first : g ≡ lowestEmpty img * pagesInBlock
+  pub inside : lowestEmpty img < blocks img
+  pub block-empty : blockEmpty img (lowestEmpty img) ≡ true
+  pub lowest : (b : ℕ) → b < lowestEmpty img → blockEmpty img b ≡ false
+
+module _ (img : List ℕ) (r : Numbers) where
+  abbrev firstOpen : Found
+  firstOpen = found (pages img) (firstFrom (isOpen img r) (pages img) 0)
+
+  as-open : (g : ℕ) → firstOpen ≡ At g → OpenPage img r g
+  as-open g e =
+      let l = found-at (isOpen img r) (pages img) g e in
+      let o = open-page img r g (l .holds) in
+      record { inside = l .below; data-block = o .0; empty = o .1; lowest = l .none-below }
+
+  as-fresh : (g : ℕ) → firstOpen ≡ Nothing → freshPage img ≡ At g → FreshPage img r g
+  as-fresh g n e =
+      let f = fresh-page img g e in
+      let i = lowest-inside img (omega arith) in
+      record {
+        none-open = found-nothing (isOpen img r) (pages img) n;
+        two-empty = f .0;
+        first = f .1;
+        inside = i;
+        block-empty = lowest-empty img i;
+        lowest = lowest-least img;
+      }
+
+  pub new-page : (g : ℕ) → newPage img r ≡ At g → OpenPage img r g ⊎ FreshPage img r g
+  unfolding newPage
+  new-page g = go firstOpen refl
+    where
+      go : (x : Found) → firstOpen ≡ x → orElse x (freshPage img) ≡ At g → OpenPage img r g ⊎ FreshPage img r g
+      go (At h) e q = inl (as-open g (e ∙ q))
+      go Nothing e q = inr (as-fresh g e q)
+
+  pub no-new-page : newPage img r ≡ Nothing → ((h : ℕ) → h < pages img → isOpen img r h ≡ false) × (emptyBlocks img ≤ 1)
+  unfolding newPage
+  no-new-page = go firstOpen refl
+    where
+      go : (x : Found) → firstOpen ≡ x → orElse x (freshPage img) ≡ Nothing → ((h : ℕ) → h < pages img → isOpen img r h ≡ false) × (emptyBlocks img ≤ 1)
+      go (At h) e q = absurd (let z : _≡_ {A = ℕ} 0 1 = cc in omega arith)
+      go Nothing e q = (found-nothing (isOpen img r) (pages img) e, no-fresh-page img q)
+
+  -- the same the other way round
+  pub open-is-new : (g : ℕ) → OpenPage img r g → newPage img r ≡ At g
+  unfolding newPage
+  open-is-new g o =
+      let e : firstOpen ≡ At g = at-found (isOpen img r) (pages img) g (record { below = o .inside; holds = page-open img r g (o .data-block) (o .empty); none-below = o .lowest }) in
+      rw e
+
+  pub fresh-is-new : ((h : ℕ) → h < pages img → isOpen img r h ≡ false) → 2 ≤ emptyBlocks img → newPage img r ≡ At (lowestEmpty img * pagesInBlock)
+  unfolding newPage freshPage
+  fresh-is-new f h = let e : firstOpen ≡ Nothing = nothing-found (isOpen img r) (pages img) f in rw (e, le-leb 2 (emptyBlocks img) h)
+
+  pub none-is-new : ((h : ℕ) → h < pages img → isOpen img r h ≡ false) → emptyBlocks img ≤ 1 → newPage img r ≡ Nothing
+  unfolding newPage freshPage
+  none-is-new f h = let e : firstOpen ≡ Nothing = nothing-found (isOpen img r) (pages img) f in rw (e, lt-leb 2 (emptyBlocks img) (omega arith))
+
+-- the page stands in the image, is empty, and so is each page after it in its block
+pub write-page-is-empty : (img : List ℕ) (r : Numbers) (g : ℕ) → newPage img r ≡ At g → (g < pages img) × (pageEmpty img g ≡ true) × EmptyFrom img g
+write-page-is-empty img r g e = go (new-page img r g e)
+  where
+    go : OpenPage img r g ⊎ FreshPage img r g → (g < pages img) × (pageEmpty img g ≡ true) × EmptyFrom img g
+    go (inl o) = (o .inside, o .empty g (omega arith) refl, o .empty)
+    go (inr f) =
+        let empty : EmptyFrom img g = λ h k q. let b : h / pagesInBlock ≡ lowestEmpty img = omega (arith, f .first) in empty-block-page img h (rw b (f .block-empty)) in
+        (omega (arith, f .first, f .inside), empty g (omega arith) refl, empty)
+
+-- it stands in no whole key or commit block
+pub write-page-is-apart : (img : List ℕ) (r : Numbers) (g : ℕ) → newPage img r ≡ At g → kindOf img (g / pagesInBlock) ≡ Other
+write-page-is-apart img r g e = go (new-page img r g e)
+  where
+    go : OpenPage img r g ⊎ FreshPage img r g → kindOf img (g / pagesInBlock) ≡ Other
+    go (inl o) = data-is-other img r (g / pagesInBlock) (o .data-block)
+    go (inr f) =
+        let q : pageIn (g / pagesInBlock) 0 ≡ g = omega (arith, f .first) in
+        kind-unbegun img (g / pagesInBlock) (rw q (write-page-is-empty img r g e .1))
+
+-- a search that found something found it at its place
+pub found-is : (x : Found) → isFound x ≡ true → x ≡ At (foundAt x)
+found-is (At i) e = refl
+found-is Nothing e = absurd (true-false e refl)

@@ -18,7 +18,7 @@ use Rattle.base.proofs.Searches.{all-holds, all-intro, all-agree, any-agree, an
 use Rattle.base.proofs.Eachs.{same-true}
 use Rattle.page.specs.Frame.{pageSize, headerSize, closingAt, closingSize, closing, erased, colonSpace}
 use Rattle.page.specs.Column.{numberIn}
-use Rattle.page.specs.Header.{nodeLetter, cutOffLetter, keysLetter, commitLetter, lastNumber, lastKeyBlock, lastKeyPage, keysFrame, commitFrame, inRange, andThen, headerOf}
+use Rattle.page.specs.Header.{nodeLetter, cutOffLetter, keysLetter, commitLetter, lastNumber, lastPosition, lastKeyBlock, lastKeyPage, lastPart, within, inPlan, nodeRanges, cutOffRanges, keysRanges, commitRanges, keysFrame, commitFrame, inRange, andThen, headerOf}
 use Rattle.page.specs.Form.{isEmpty, closed, formBy, formOf}
 use Rattle.page.specs.Entry.{parts, validPayload}
 use Rattle.page.specs.Page.{payloadOf}
@@ -80,6 +80,32 @@ whole-in-range img g f e = form-in-range img g f (ap headerIn e)
 
 pub torn-in-range : (img : List ℕ) (g : ℕ) (f : Frame) → formAt img g ≡ Torn f → inRange f ≡ true
 torn-in-range img g f e = form-in-range img g f (ap headerIn e)
+
+-- the sequence or epoch of any kind is 1 to 99,999,999
+of-four : (a b c d : Bool) → a && b && c && d ≡ true → a ≡ true
+of-four true b c d e = refl
+of-four false b c d e = e
+
+of-five : (a b c d f : Bool) → a && b && c && d && f ≡ true → a ≡ true
+of-five true b c d f e = refl
+of-five false b c d f e = e
+
+pub number-range : (f : Frame) → inRange f ≡ true → (1 ≤ f .number) × (f .number ≤ lastNumber)
+unfolding inRange
+number-range f = go (eqb (f .kind) nodeLetter) (eqb (f .kind) cutOffLetter) (eqb (f .kind) keysLetter) (eqb (f .kind) commitLetter)
+  where
+    from-test : within 1 lastNumber (f .number) ≡ true → (1 ≤ f .number) × (f .number ≤ lastNumber)
+    from-test e = let a = and-true (leb 1 (f .number)) (leb (f .number) lastNumber) e in (leb-true _ _ (a .0), leb-true _ _ (a .1))
+
+    go : (n d k c : Bool) → cond n (nodeRanges f) (cond d (cutOffRanges f) (cond k (keysRanges f) (cond c (commitRanges f) false))) ≡ true
+        → (1 ≤ f .number) × (f .number ≤ lastNumber)
+    go true d k c e = from-test (of-four (within 1 lastNumber (f .number)) (inPlan f) (leb (f .key) lastPosition) (eqb (f .second) 0) e)
+    go false true k c e = from-test (of-four (within 1 lastNumber (f .number)) (inPlan f) (eqb (f .key) 0) (eqb (f .second) 0) e)
+    go false false true c e =
+        from-test (of-five (within 1 lastNumber (f .number)) (leb (f .unit) lastKeyBlock) (leb (f .part) lastKeyPage) (eqb (f .key) 0) (eqb (f .second) 0) e)
+    go false false false true e =
+        from-test (of-five (within 1 lastNumber (f .number)) (eqb (f .unit) 0) (leb (f .part) lastPart) (eqb (f .key) 0) (leb (f .second) lastNumber) e)
+    go false false false false e = absurd (true-false e refl)
 
 -- and a whole page stands in the image
 form-closed : (h : Header) (page : List ℕ) (f : Frame) → formBy h page ≡ Whole f → closed page ≡ true

@@ -173,12 +173,12 @@ keys-epoch q (Commit e s) h = absurd (omega arith)
 keys-epoch q Other h = absurd (omega arith)
 
 -- what holds of 0 and of the epoch of each such kind
-of-commit-epoch : (P : ℕ → Type 0) (k : Kind) → P 0 → ((e s : ℕ) → k ≡ Commit e s → P e) → P (commitEpoch k)
+pub of-commit-epoch : (P : ℕ → Type 0) (k : Kind) → P 0 → ((e s : ℕ) → k ≡ Commit e s → P e) → P (commitEpoch k)
 of-commit-epoch P (Keys q e) z f = z
 of-commit-epoch P (Commit e s) z f = f e s refl
 of-commit-epoch P Other z f = z
 
-of-keys-epoch : (P : ℕ → Type 0) (q : ℕ) (k : Kind) → P 0 → ((e : ℕ) → k ≡ Keys q e → P e) → P (keysEpoch q k)
+pub of-keys-epoch : (P : ℕ → Type 0) (q : ℕ) (k : Kind) → P 0 → ((e : ℕ) → k ≡ Keys q e → P e) → P (keysEpoch q k)
 of-keys-epoch P q (Keys r e) z f = go (eqb r q) refl
   where
     go : (t : Bool) → eqb r q ≡ t → P (cond t e 0)

@@ -16,7 +16,7 @@ use Rattle.base.proofs.Choice.{and-true, cond-ap, cond-same, true-false}
 use Rattle.base.proofs.Searches.{below-suc, all-agree}
 use Rattle.base.proofs.Folds.{fold-agree, fold-up, length-listFrom, listFrom-at, listFrom-agree}
 use Rattle.page.specs.Plan.{filePlan, places, placeOf}
-use Rattle.page.specs.Header.{nodeLetter, cutOffLetter}
+use Rattle.page.specs.Header.{nodeLetter, cutOffLetter, lastNumber}
 use Rattle.page.specs.Entry.{none}
 use Rattle.page.specs.declared.Frame.{Frame}
 use Rattle.page.specs.declared.Form.{Form}
@@ -70,11 +70,15 @@ entry-sequence (At page key) = refl
 entry-sequence NoEntry = refl
 entry-sequence Misspelt = refl
 
-gives-sequence : (x g : ℕ) (f : Frame) → gives x g f .sequence ≡ f .number
-gives-sequence x g f = cond-ap (λ (d : Decision). d .sequence) (sets x f) (setBy g f) (cutBy f) ∙ cond-same (sets x f) (f .number)
-
 abbrev sequenceOf : Decision → ℕ
 sequenceOf d = d .sequence
+
+-- the sequence of a decision is its event's
+pub event-sequence : (img : List ℕ) (s x n : ℕ) (d : Decision) (e : ByEvent img s x n d) → d .sequence ≡ e .header .number
+event-sequence img s x n d e =
+    ap sequenceOf (e .given)
+    ∙ cond-ap sequenceOf (sets x (e .header)) (setBy (e .page) (e .header)) (cutBy (e .header))
+    ∙ cond-same (sets x (e .header)) (e .header .number)
 
 module _ (img : List ℕ) (s x : ℕ) (entry : Entry) where
   -- page n is no event, or one of a lower sequence: the decision stays
@@ -88,7 +92,7 @@ module _ (img : List ℕ) (s x : ℕ) (entry : Entry) where
         given = e .given;
       })
   stays n d (inr e) low =
-      let z : d .sequence ≡ e .header .number = ap sequenceOf (e .given) ∙ gives-sequence x (e .page) (e .header) in
+      let z : d .sequence ≡ e .header .number = event-sequence img s x n d e in
       inr
       (record {
         page = e .page;
@@ -110,7 +114,7 @@ module _ (img : List ℕ) (s x : ℕ) (entry : Entry) where
     below-number : (e : Decided img s x entry n d) (g : ℕ) (f' : Frame) → g < n → Event img s x g f' → f' .number ≤ f .number
     below-number (inl e) g f' h w = absurd (e .none-above g f' h w)
     below-number (inr e) g f' h w =
-        let z : d .sequence ≡ e .header .number = ap sequenceOf (e .given) ∙ gives-sequence x (e .page) (e .header) in
+        let z : d .sequence ≡ e .header .number = event-sequence img s x n d e in
         omega (arith, e .highest g f' h w)
 
     taken : Decided img s x entry n d → Decided img s x entry (suc n) (gives x n f)
@@ -172,11 +176,8 @@ cut-is-no-set x f e =
     let k : f .kind ≡ cutOffLetter = eqb-true _ _ (and-true (eqb (f .kind) cutOffLetter) _ e .0) in
     rw k
 
--- the deciding event's sequence, and what N and D give
+-- what N and D give
 module _ (img : List ℕ) (s x n : ℕ) (d : Decision) (e : ByEvent img s x n d) where
-  pub event-sequence : d .sequence ≡ e .header .number
-  event-sequence = ap sequenceOf (e .given) ∙ gives-sequence x (e .page) (e .header)
-
   pub set-gives : sets x (e .header) ≡ true → (d .page ≡ e .page) × (d .key ≡ e .header .key)
   set-gives t =
       let q : d ≡ setBy (e .page) (e .header) = e .given ∙ rw t in

@@ -14,7 +14,7 @@ use Rattle.base.specs.Each.{allAre}
 use Rattle.base.specs.Search.{firstFrom, countFrom, allFrom}
 use Rattle.base.proofs.Choice.{and-true, and-intro, true-false}
 use Rattle.base.proofs.Parts.{part-part}
-use Rattle.base.proofs.Searches.{first-bounds, first-holds, first-least, first-all, all-holds, all-intro, count-first}
+use Rattle.base.proofs.Searches.{first-agree, count-agree, first-bounds, first-holds, first-least, first-all, all-holds, all-intro, count-first}
 use Rattle.page.specs.Frame.{pageSize, erased}
 use Rattle.page.specs.Form.{isEmpty}
 use Rattle.page.specs.Key.{positions}
@@ -257,6 +257,18 @@ write-page-is-apart img r g e = go (new-page img r g e)
     go (inr f) =
         let q : pageIn (g / pagesInBlock) 0 ≡ g = omega (arith, f .first) in
         kind-unbegun img (g / pagesInBlock) (rw q (write-page-is-empty img r g e .1))
+
+-- the search goes by the open pages and the empty blocks
+pub new-page-agree : (img img' : List ℕ) (r : Numbers) → length img ≡ length img' → ((g : ℕ) → g < pages img → isOpen img r g ≡ isOpen img' r g)
+    → ((b : ℕ) → b < blocks img → blockEmpty img b ≡ blockEmpty img' b) → newPage img r ≡ newPage img' r
+unfolding newPage freshPage lowestEmpty emptyBlocks
+new-page-agree img img' r n opens empties =
+    rw (
+      ← n,
+      first-agree (isOpen img r) (isOpen img' r) (pages img) 0 (λ g h k. opens g (omega arith)),
+      first-agree (blockEmpty img) (blockEmpty img') (blocks img) 0 (λ b h k. empties b (omega arith)),
+      count-agree (blockEmpty img) (blockEmpty img') (blocks img) 0 (λ b h k. empties b (omega arith)),
+    )
 
 -- a search that found something found it at its place
 pub found-is : (x : Found) → isFound x ≡ true → x ≡ At (foundAt x)

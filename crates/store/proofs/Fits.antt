@@ -10,7 +10,7 @@ use lib.ListN.{length, getD}
 use borrow.Author.Tests.{ltb-true, ltb-false, lt-ltb, le-ltb, leb-true, leb-false, le-leb, lt-leb, eqb-true, eqb-false, eq-eqb, ne-eqb}
 use Rattle.base.specs.Search.{allFrom, countFrom, anyFrom}
 use Rattle.base.proofs.Choice.{cond-same, and-true, and-intro, true-false}
-use Rattle.base.proofs.Searches.{all-holds, all-intro, any-holds, any-intro, any-all-fail, count-any, count-some, count-unique, unique-count}
+use Rattle.base.proofs.Searches.{all-agree, all-holds, all-intro, any-holds, any-intro, any-all-fail, count-any, count-some, count-unique, unique-count}
 use Rattle.page.specs.Plan.{filePlan, places, placeOf}
 use Rattle.page.specs.Header.{nodeLetter, lastNumber, lastPosition, within, inPlan, nodeRanges, inRange}
 use Rattle.page.specs.Key.{positions}
@@ -119,6 +119,18 @@ module _ (map : List ℕ) (p : ℕ) where
   once-named f =
       unique-count (λ x. eqb (keyOf map x) p) places 0 (λ x y a b c d e g. f x y (omega arith) (omega arith) (eqb-true _ _ e) (eqb-true _ _ g))
 
+-- no key is named twice
+pub keys-apart : (map : List ℕ) → keysApart map ≡ true → (x y : ℕ) → x < places → y < places → keyOf map x ≡ keyOf map y → keyOf map x < positions → x ≡ y
+unfolding keysApart
+keys-apart map t x y h k e l =
+    let once = all-holds (λ p. leb (namedTimes map p) 1) positions 0 (keyOf map x) t (omega arith) (omega arith) in
+    named-once map (keyOf map x) (leb-true _ _ once) x y h k refl (sym e)
+
+pub apart-keys : (map : List ℕ) → ((x y : ℕ) → x < places → y < places → keyOf map x ≡ keyOf map y → keyOf map x < positions → x ≡ y) → keysApart map ≡ true
+unfolding keysApart
+apart-keys map f =
+    all-intro (λ p. leb (namedTimes map p) 1) positions 0 (λ p h k. le-leb _ _ (once-named map p (λ x y a b e g. f x y a b (e ∙ sym g) (omega arith))))
+
 -- a letter is f, u or d
 pub letter-is : (l : ℕ) → isLetter l ≡ true → (l ≡ freeLetter) ⊎ (l ≡ usedLetter) ⊎ (l ≡ deletedLetter)
 letter-is l e = go (eqb l freeLetter) refl (eqb l usedLetter) refl e
@@ -182,7 +194,7 @@ module _ (map letters : List ℕ) (p : ℕ) (fit : letterFits map letters p ≡ 
   used-named = beq-is (eqb (getD letters p 0) usedLetter) (leb 1 (namedTimes map p)) (tests .1)
 
 pub fits-is : (img : List ℕ) (r : Record) → fits img r ≡ true → Fit img r
-unfolding fits blocksFit keysApart lettersFit
+unfolding fits blocksFit lettersFit
 fits-is img r e =
     let n = r .numbers in
     let l = and-true (numbersFit n && blocksFit img n && allFrom (placeFits img (r .map)) places 0 && keysApart (r .map)) (lettersFit (r .map) (r .letters)) e in
@@ -200,14 +212,14 @@ fits-is img r e =
       keys1 = keys-epoch 1 (kindOf img (n .keys1)) (ltb-true _ _ (q .1));
       commit = commit-epoch (kindOf img (n .commit)) (ltb-true _ _ (c .1));
       place = λ x h. place-fits img (r .map) x (all-holds (placeFits img (r .map)) places 0 x (p .1) (omega arith) (omega arith));
-      apart = λ x y h i e j. named-once (r .map) (keyOf (r .map) x) (leb-true _ _ (all-holds (λ p. leb (namedTimes (r .map) p) 1) positions 0 (keyOf (r .map) x) (k .1) (omega arith) (omega arith))) x y h i refl (sym e);
+      apart = keys-apart (r .map) (k .1);
       letter = λ p h. letter-is (getD (r .letters) p 0) (tests (r .map) (r .letters) p (letter p h) .0);
       used = λ p h u. named-by (r .map) p (sym (used-named (r .map) (r .letters) p (letter p h)) ∙ eq-eqb _ _ u);
       named = λ p x h i j. eqb-true _ _ (used-named (r .map) (r .letters) p (letter p h) ∙ by-name (r .map) p x i j);
     }
 
 pub fit-fits : (img : List ℕ) (r : Record) → Fit img r → fits img r ≡ true
-unfolding fits blocksFit keysApart lettersFit
+unfolding fits blocksFit lettersFit
 fit-fits img r f =
     let n = r .numbers in
     let k0 : ltb 0 (keysEpoch 0 (kindOf img (n .keys0))) ≡ true = rw (f .keys0 .1) (lt-ltb 0 _ (keys-range img (n .keys0) 0 (f .keys0 .0) (f .keys0 .1) .1)) in
@@ -220,13 +232,26 @@ fit-fits img r f =
     (and-intro _ _ (is-within 1 (lastNumber + 1) (n .sequence) (f .sequence)) (is-within 1 (lastNumber + 1) (n .epoch) (f .epoch)))
     (and-intro _ _ (and-intro _ _ k0 k1) c))
     (all-intro (placeFits img (r .map)) places 0 (λ x h k. ⊎-elim (vacant-fits img (r .map) x) (named-fits img (r .map) x) (f .place x (omega arith)))))
-    (all-intro (λ p. leb (namedTimes (r .map) p) 1) positions 0 (λ p h k. le-leb _ _ (once-named (r .map) p (λ x y a b e g. f .apart x y a b (e ∙ sym g) (omega arith))))))
+    (apart-keys (r .map) (f .apart)))
     (all-intro (letterFits (r .map) (r .letters)) positions 0
     (λ p h k.
     and-intro _ _ (is-letter (getD (r .letters) p 0) (f .letter p (omega arith)))
     (is-beq _ _
     (λ u. let a = f .used p (omega arith) (eqb-true _ _ u) in by-name (r .map) p (a .0) (a .1) (a .2))
     (λ t. let a = named-by (r .map) p t in eq-eqb _ _ (f .named p (a .0) (omega arith) (a .1) (a .2))))))
+
+-- the fit goes by the kinds of the three blocks and the forms of the pages that the map names
+pub fits-agree : (img img' : List ℕ) (r : Record) → kindOf img (r .numbers .keys0) ≡ kindOf img' (r .numbers .keys0)
+    → kindOf img (r .numbers .keys1) ≡ kindOf img' (r .numbers .keys1) → kindOf img (r .numbers .commit) ≡ kindOf img' (r .numbers .commit)
+    → ((x : ℕ) → x < places → formAt img (pageOf (r .map) x) ≡ formAt img' (pageOf (r .map) x)) → fits img r ≡ fits img' r
+unfolding fits blocksFit placeFits
+fits-agree img img' r k0 k1 c forms =
+    rw (
+      k0,
+      k1,
+      c,
+      all-agree (placeFits img (r .map)) (placeFits img' (r .map)) places 0 (λ x h k. rw (forms x (omega arith))),
+    )
 
 -- ---- what a right size gives: full blocks, and pages that a map can name
 size-parts : (img : List ℕ) → sizeRight img ≡ true → (length img % blockSize ≡ 0) × (pages img ≤ lastPage + 1)

@@ -1,0 +1,16 @@
+//! What the tests and benchmarks of the proved libraries share.
+//!
+//! - [`ffi`]: the functions of the static libraries, as safe Rust functions.
+//! - [`model`]: second implementations, written from the public documents alone.
+//! - [`rng`]: a generator of test inputs that gives the same ones in every run.
+//! - [`guarded`]: buffers that show a write outside the part that was lent.
+//! - [`hex`]: bytes to and from hexadecimal text.
+//! - [`shared_library`] and [`timing`]: libraries to compare speed with, and the clock.
+
+pub mod ffi;
+pub mod guarded;
+pub mod hex;
+pub mod model;
+pub mod rng;
+pub mod shared_library;
+pub mod timing;

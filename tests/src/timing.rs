@@ -1,0 +1,69 @@
+//! Times of several ways to do the same work, as ratios within one run.
+//!
+//! In each round every way has its turn, so that whatever else the machine does falls on all of
+//! them alike. A ratio is taken within the round, and the median over the rounds counts.
+
+use std::time::{Duration, Instant};
+
+/// One way to do the work: a call does it once.
+pub type Work<'a> = Box<dyn FnMut() + 'a>;
+
+/// The time of each way in each round.
+pub struct Times(Vec<Vec<Duration>>);
+
+/// Times the ways over `rounds` rounds.
+///
+/// In a turn the work is done twice and the second time counts: code and tables are then in the
+/// cache again. Each round begins with another way.
+pub fn run(mut ways: Vec<Work>, rounds: usize) -> Times {
+    let mut times = vec![Vec::with_capacity(rounds); ways.len()];
+    for round in 0..rounds {
+        for turn in 0..ways.len() {
+            let at = (round + turn) % ways.len();
+            ways[at]();
+            let start = Instant::now();
+            ways[at]();
+            times[at].push(start.elapsed());
+        }
+    }
+    Times(times)
+}
+
+impl Times {
+    /// The time of way `a` over that of way `b`.
+    pub fn ratio(&self, a: usize, b: usize) -> f64 {
+        let ratios = self.0[a].iter().zip(&self.0[b]);
+        median(ratios.map(|(a, b)| a.as_secs_f64() / b.as_secs_f64()).collect())
+    }
+}
+
+/// The median of a list that is not empty.
+fn median(mut numbers: Vec<f64>) -> f64 {
+    numbers.sort_by(f64::total_cmp);
+    numbers[numbers.len() / 2]
+}
+
+#[cfg(test)]
+mod tests {
+    use super::{run, Times, Work};
+    use std::cell::Cell;
+    use std::time::Duration;
+
+    #[test]
+    fn a_ratio_is_the_median_over_the_rounds() {
+        let times = |rounds: [u64; 3]| rounds.map(Duration::from_millis).to_vec();
+        let times = Times(vec![times([10, 90, 30]), times([40, 60, 60])]);
+        assert_eq!(times.ratio(0, 1), 0.5);
+        assert_eq!(times.ratio(1, 0), 2.0);
+        assert_eq!(times.ratio(1, 1), 1.0);
+    }
+
+    #[test]
+    fn every_way_has_a_time_in_each_round() {
+        let calls = Cell::new(0);
+        let way = || -> Work { Box::new(|| calls.set(calls.get() + 1)) };
+        let times = run(vec![way(), way()], 5);
+        assert_eq!(calls.get(), 2 * 2 * 5);
+        assert!(times.0.iter().all(|rounds| rounds.len() == 5));
+    }
+}

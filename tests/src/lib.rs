@@ -2,6 +2,7 @@
 //!
 //! - [`ffi`]: the functions of the static libraries, as safe Rust functions.
 //! - [`model`]: second implementations, written from the public documents alone.
+//! - [`random_lists`]: lists of calls of the store.
 //! - [`rng`]: a generator of test inputs that gives the same ones in every run.
 //! - [`guarded`]: buffers that show a write outside the part that was lent.
 //! - [`hex`]: bytes to and from hexadecimal text.
@@ -11,6 +12,7 @@ pub mod ffi;
 pub mod guarded;
 pub mod hex;
 pub mod model;
+pub mod random_lists;
 pub mod rng;
 pub mod shared_library;
 pub mod timing;

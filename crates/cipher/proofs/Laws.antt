@@ -1,6 +1,6 @@
 -- What the layers above may use of the cipher: lengths, the key stream by position, its sum twice, a part from the front,
 -- and that bytes stay bytes.
-use mathlib.Core.Path.{_≡_, refl, ap, ap₂, sym, subst, _∙_}
+use mathlib.Core.Path.{_≡_, ap, sym, _∙_}
 use mathlib.Core.Bool.{Bool, true, false, cond}
 use mathlib.Core.List.{List, [], _∷_, _++_, map}
 use Prim.Native.Nat.{ℕ, zero, suc, _+_, _-_, _*_, _/_, _%_, _≤_, _<_, min}
@@ -12,7 +12,7 @@ use lib.ListN.{length, getD, take, length-take, List·getD-append}
 use lib.Seq.{getD-append-add, getD-take, ext-getD}
 use Rattle.base.specs.Each.{Bytes}
 use Rattle.base.proofs.Eachs.{each-append, each-at}
-use Rattle.cipher.specs.Field.{_⊕_, xtime, inverse}
+use Rattle.cipher.specs.Field.{_⊕_, inverse}
 use Rattle.cipher.specs.SBox.{bit, affineBit, affine, sBox}
 use Rattle.cipher.specs.Words.{four, word, xorBytes}
 use Rattle.cipher.specs.Cipher.{subBytes, shiftedColumn, shiftRows, roundKey, addRoundKey, rounds, cipher}
@@ -176,7 +176,7 @@ bytes-counter-mode w s p q = bytes-xor s (keyStream w (blocks (length s))) q (by
 power-byte : (n : ℕ) → power n < 256
 unfolding power
 power-byte zero = omega arith
-power-byte (suc n) = let h : power n < 256 = power-byte n in xor-lt 8 (power n * 2 % 256) (power n / 128 * 0x1b) (omega arith) (omega arith)
+power-byte (suc n) = let h : power n < 256 = power-byte n in xor-lt 8 (power n / 128 * 0x1b) (power n * 2 % 256) (omega arith) (omega arith)
 
 bytes-temp : (w : List ℕ) (i : ℕ) → Bytes w → Bytes (temp w i)
 unfolding temp

@@ -6,3 +6,4 @@ pub mod RoundLaws
 pub mod Schedule
 pub mod KeyStream
 pub mod Laws
+pub mod Examples

@@ -4,11 +4,11 @@ use mathlib.Core.List.{List}
 use Prim.Native.Nat.{ℕ, _+_, _<_}
 use native.Mathlib.Numerals.{add-one}
 use lib.ListN.{getD}
-use Rattle.cipher.specs.Field.{_⊕_, _•_}
+use Rattle.cipher.specs.Field.{_⊕_}
 use Rattle.cipher.specs.SBox.{sBox}
 use Rattle.cipher.specs.Words.{four, littleEndian, xorBytes}
 use Rattle.cipher.specs.Table.{sBoxTable, roundTable}
-use Rattle.cipher.specs.Cipher.{subBytes, shiftRows, mixedColumn, mixColumns, addRoundKey, rounds}
+use Rattle.cipher.specs.Cipher.{subBytes, shiftRows, mixBytes, mixColumns, addRoundKey, rounds}
 use Rattle.cipher.proofs.TableRules.{s-box-rule, tableColumn, round-table-rule}
 use Rattle.cipher.proofs.WordLaws.{word-xor}
 
@@ -32,8 +32,8 @@ rotated3 l = four (getD l 1 0) (getD l 2 0) (getD l 3 0) (getD l 0 0)
 -- the entries of four bytes, rotated into their rows and added, are what MixColumns makes of the column
 pub mixed : {a b c d : ℕ} (t0 t1 t2 t3 : ℕ)
     → littleEndian t0 ≡ tableColumn a → littleEndian t1 ≡ rotated1 (tableColumn b) → littleEndian t2 ≡ rotated2 (tableColumn c) → littleEndian t3 ≡ rotated3 (tableColumn d)
-    → littleEndian (t0 ⊕ t1 ⊕ t2 ⊕ t3) ≡ mixedColumn a b c d
-unfolding mixedColumn
+    → littleEndian (t0 ⊕ t1 ⊕ t2 ⊕ t3) ≡ mixBytes a b c d
+unfolding mixBytes
 mixed t0 t1 t2 t3 e0 e1 e2 e3 =
     word-xor (t0 ⊕ t1 ⊕ t2) t3
     ∙ ap₂ xorBytes (word-xor (t0 ⊕ t1) t2 ∙ ap₂ xorBytes (word-xor t0 t1 ∙ ap₂ xorBytes e0 e1) e2) e3

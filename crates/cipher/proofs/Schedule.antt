@@ -1,7 +1,7 @@
 -- Laws of the key schedule: its length, and a round key more, four words at a time.
 use mathlib.Core.Path.{_≡_, refl, ap, ap₂, _∙_, sym}
 use mathlib.Core.List.{List, _++_, append-assoc}
-use Prim.Native.Nat.{ℕ, zero, suc, _+_, _≤_, _<_, _-_, _*_, _/_, _%_}
+use Prim.Native.Nat.{ℕ, zero, suc, _+_, _≤_, _-_, _*_, _/_, _%_}
 use native.Mathlib.Omega.{arith}
 use native.Mathlib.Numerals.{add-one}
 use borrow.Author.Tests.{eq-eqb, ne-eqb}
@@ -30,7 +30,7 @@ schedule-more : (n : ℕ) (key : List ℕ) → schedule (n + 1) key ≡ schedule
 unfolding schedule
 schedule-more n key =
     let e : n + 4 - 4 ≡ n = omega arith in
-    rw add-one (ap (λ (m : ℕ). schedule n key ++ xorBytes (word (schedule n key) m) (temp (schedule n key) (n + 4))) e)
+    rw (add-one n) (ap (λ (m : ℕ). schedule n key ++ xorBytes (word (schedule n key) m) (temp (schedule n key) (n + 4))) e)
 
 -- the first word of a round key, and the others
 temp-first : (w : List ℕ) (m : ℕ) → temp w (4 * m + 4) ≡ xorBytes (subWord (rotWord (word w (4 * m + 3)))) (four (power m) 0 0 0)

@@ -1,34 +1,41 @@
 -- The rules of the tables: each is one test, computed over all 256 entries, and lifted to every entry by `table-rule`.
 use mathlib.Core.Path.{_≡_, refl, _∙_, ap}
-use mathlib.Core.Bool.{Bool, true, false}
+use mathlib.Core.Bool.{Bool, true, false, _&&_}
 use mathlib.Core.List.{List}
 use Prim.Native.Nat.{ℕ, _<_, min}
-use lib.Dec.{T, eqb, eqb→eq}
+use borrow.Author.Tests.{eqb-true}
+use lib.Dec.{T, eqb}
 use lib.ListN.{getD}
 use Rattle.base.specs.Each.{same}
+use Rattle.base.proofs.Choice.{and-true}
 use Rattle.base.proofs.Eachs.{table-rule, same-true}
 use Rattle.cipher.specs.Field.{_•_, inverse}
-use Rattle.cipher.specs.SBox.{sBox}
+use Rattle.cipher.specs.SBox.{affine, sBox}
 use Rattle.cipher.specs.Words.{four, littleEndian}
 use Rattle.cipher.specs.Table.{sBoxTable, roundTable}
 
--- ---- the S-box is the inverse in the field, then the affine map
+is-true : (b : Bool) → T b → b ≡ true
+is-true true t = refl
+is-true false t = absurd t
+
+-- ---- the S-box is the inverse in the field, then the affine map; and the inverse is one
 sBoxTest : ℕ → ℕ → Bool
-unfolding sBox
-sBoxTest k x = eqb x (sBox k)
+unfolding _•_ inverse affine
+sBoxTest k x = let i = inverse k in eqb x (affine i) && eqb (k • i) (min k 1)
 
-pub s-box-rule : (k : ℕ) → k < 256 → getD sBoxTable k 0 ≡ sBox k
-unfolding sBoxTable sBoxTest
-s-box-rule k h = eqb→eq (getD sBoxTable k 0) (sBox k) (table-rule sBoxTest sBoxTable tt k h)
+module _ (k : ℕ) (h : k < 256) where
+  tested : (getD sBoxTable k 0 ≡ sBox k) × (k • inverse k ≡ min k 1)
+  unfolding sBoxTable sBoxTest sBox
+  tested =
+      let t = and-true (eqb (getD sBoxTable k 0) (affine (inverse k))) (eqb (k • inverse k) (min k 1)) (is-true _ (table-rule sBoxTest sBoxTable tt k h)) in
+      (eqb-true (getD sBoxTable k 0) (affine (inverse k)) (t .0), eqb-true (k • inverse k) (min k 1) (t .1))
 
--- ---- the inverse is one: its product with k is 1, and 0 where k is 0
-inverseTest : ℕ → ℕ → Bool
-unfolding _•_ inverse
-inverseTest k x = eqb (k • inverse k) (min k 1)
+  pub s-box-rule : getD sBoxTable k 0 ≡ sBox k
+  s-box-rule = tested .0
 
-pub inverse-rule : (k : ℕ) → k < 256 → k • inverse k ≡ min k 1
-unfolding sBoxTable inverseTest
-inverse-rule k h = eqb→eq (k • inverse k) (min k 1) (table-rule inverseTest sBoxTable tt k h)
+  -- the product of a byte with its inverse is 1, and 0 for the byte 0
+  pub inverse-rule : k • inverse k ≡ min k 1
+  inverse-rule = tested .1
 
 -- ---- the round table is the column {02} s, s, s, {03} s of the S-box byte s
 abbrev pub tableColumn : ℕ → List ℕ
@@ -37,10 +44,6 @@ tableColumn s = four (2 • s) s s (3 • s)
 roundTest : ℕ → ℕ → Bool
 unfolding _•_ same sBoxTable
 roundTest k x = same (littleEndian x) (tableColumn (getD sBoxTable k 0))
-
-is-true : (b : Bool) → T b → b ≡ true
-is-true true t = refl
-is-true false t = absurd t
 
 pub round-table-rule : (k : ℕ) → k < 256 → littleEndian (getD roundTable k 0) ≡ tableColumn (sBox k)
 unfolding roundTable roundTest

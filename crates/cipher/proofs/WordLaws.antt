@@ -8,7 +8,7 @@ use lib.Bits.{xor-shr, xor-mod}
 use lib.ListN.{length, getD, drop, drop-of-length-le, List·getD-append}
 use lib.Seq.{drop-cons, getD-append-add}
 use Rattle.cipher.specs.Field.{_⊕_}
-use Rattle.cipher.specs.Words.{four, word, xorBytes, littleEndian}
+use Rattle.cipher.specs.Words.{four, word, xorBytes, byte0, byte1, byte2, byte3, littleEndian}
 
 pub four-eq : {a b c d a' b' c' d' : ℕ} → a ≡ a' → b ≡ b' → c ≡ c' → d ≡ d' → four a b c d ≡ four a' b' c' d'
 four-eq p q r s = λ i. four (p i) (q i) (r i) (s i)
@@ -22,49 +22,49 @@ word-xor x y = four-eq (xor-mod x y 8) (xor-at 8 x y) (xor-at 16 x y) (xor-at 24
 
 -- ---- a number of four bytes
 abbrev number : ℕ → ℕ → ℕ → ℕ → ℕ
-number a b c d = a + b * 256 + c * 65536 + d * 16777216
+number a b c d = a + b * 0x100 + c * 0x10000 + d * 0x1000000
 
 module _ {a b c d : ℕ} (ha : a < 256) (hb : b < 256) (hc : c < 256) (hd : d < 256) where
   pub number-bytes : littleEndian (number a b c d) ≡ four a b c d
   number-bytes = four-eq (omega arith) (omega arith) (omega arith) (omega arith)
 
-  number-8 : (x : ℕ) → x ≡ number a b c d → x % 16777216 * 256 + x / 16777216 ≡ number d a b c
+  number-8 : (x : ℕ) → x ≡ number a b c d → x % 0x1000000 * 0x100 + x / 0x1000000 ≡ number d a b c
   number-8 x e = omega arith
 
-  number-16 : (x : ℕ) → x ≡ number a b c d → x % 65536 * 65536 + x / 65536 ≡ number c d a b
+  number-16 : (x : ℕ) → x ≡ number a b c d → x % 0x10000 * 0x10000 + x / 0x10000 ≡ number c d a b
   number-16 x e = omega arith
 
-  number-24 : (x : ℕ) → x ≡ number a b c d → x % 256 * 16777216 + x / 256 ≡ number b c d a
+  number-24 : (x : ℕ) → x ≡ number a b c d → x % 0x100 * 0x1000000 + x / 0x100 ≡ number b c d a
   number-24 x e = omega arith
 
 -- ---- rotations
 module _ (x : ℕ) (h : x < 2 ^ 32) where
-  nested : x ≡ number (x % 256) (x / 256 % 256) (x / 256 / 256 % 256) (x / 256 / 256 / 256 % 256)
+  nested : x ≡ number (x % 0x100) (x / 0x100 % 0x100) (x / 0x100 / 0x100 % 0x100) (x / 0x100 / 0x100 / 0x100 % 0x100)
   nested = omega arith
 
-  by-bytes : x ≡ number (x % 256) (x / 256 % 256) (x / 65536 % 256) (x / 16777216 % 256)
-  by-bytes = rw (div-div-eq-div-mul x 256 256, div-div-eq-div-mul x 65536 256) at nested
+  by-bytes : x ≡ number (byte0 x) (byte1 x) (byte2 x) (byte3 x)
+  by-bytes = rw (div-div-eq-div-mul x 0x100 0x100, div-div-eq-div-mul x 0x10000 0x100) at nested
 
-  b0 : x % 256 < 256
-  b0 = omega arith
+  low0 : byte0 x < 256
+  low0 = omega arith
 
-  b1 : x / 256 % 256 < 256
-  b1 = omega arith
+  low1 : byte1 x < 256
+  low1 = omega arith
 
-  b2 : x / 65536 % 256 < 256
-  b2 = omega arith
+  low2 : byte2 x < 256
+  low2 = omega arith
 
-  b3 : x / 16777216 % 256 < 256
-  b3 = omega arith
+  low3 : byte3 x < 256
+  low3 = omega arith
 
-  pub rotated-8 : littleEndian (x % 16777216 * 256 + x / 16777216) ≡ four (x / 16777216 % 256) (x % 256) (x / 256 % 256) (x / 65536 % 256)
-  rotated-8 = ap littleEndian (number-8 b0 b1 b2 b3 x by-bytes) ∙ number-bytes b3 b0 b1 b2
+  pub rotated-8 : littleEndian (x % 0x1000000 * 0x100 + x / 0x1000000) ≡ four (byte3 x) (byte0 x) (byte1 x) (byte2 x)
+  rotated-8 = ap littleEndian (number-8 low0 low1 low2 low3 x by-bytes) ∙ number-bytes low3 low0 low1 low2
 
-  pub rotated-16 : littleEndian (x % 65536 * 65536 + x / 65536) ≡ four (x / 65536 % 256) (x / 16777216 % 256) (x % 256) (x / 256 % 256)
-  rotated-16 = ap littleEndian (number-16 b0 b1 b2 b3 x by-bytes) ∙ number-bytes b2 b3 b0 b1
+  pub rotated-16 : littleEndian (x % 0x10000 * 0x10000 + x / 0x10000) ≡ four (byte2 x) (byte3 x) (byte0 x) (byte1 x)
+  rotated-16 = ap littleEndian (number-16 low0 low1 low2 low3 x by-bytes) ∙ number-bytes low2 low3 low0 low1
 
-  pub rotated-24 : littleEndian (x % 256 * 16777216 + x / 256) ≡ four (x / 256 % 256) (x / 65536 % 256) (x / 16777216 % 256) (x % 256)
-  rotated-24 = ap littleEndian (number-24 b0 b1 b2 b3 x by-bytes) ∙ number-bytes b1 b2 b3 b0
+  pub rotated-24 : littleEndian (x % 0x100 * 0x1000000 + x / 0x100) ≡ four (byte1 x) (byte2 x) (byte3 x) (byte0 x)
+  rotated-24 = ap littleEndian (number-24 low0 low1 low2 low3 x by-bytes) ∙ number-bytes low1 low2 low3 low0
 
 -- ---- words that are joined
 pub words-eq : {a b c d a' b' c' d' : List ℕ} → a ≡ a' → b ≡ b' → c ≡ c' → d ≡ d' → a ++ b ++ c ++ d ≡ a' ++ b' ++ c' ++ d'

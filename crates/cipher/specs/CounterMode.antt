@@ -4,7 +4,7 @@
 --   streamByte w i    byte i of the key stream
 --   counterMode w s   s enciphered, or deciphered: the same
 use mathlib.Core.List.{List, [], _++_}
-use Prim.Native.Nat.{ℕ, zero, suc, _+_, _/_, _%_}
+use Prim.Native.Nat.{ℕ, zero, suc, _+_, _-_, _/_, _%_}
 use lib.ListN.{length, getD}
 use Rattle.cipher.specs.Words.{xorBytes, bigEndian}
 use Rattle.cipher.specs.Cipher.{cipher}
@@ -13,11 +13,11 @@ use Rattle.cipher.specs.Cipher.{cipher}
 abbrev pub blockLength : ℕ
 blockLength = 16
 
--- 16 bytes, the highest first
+-- a counter as a block, its highest byte first
 abbrev pub counterBlock : ℕ → List ℕ
 counterBlock n = bigEndian blockLength n
 
--- the encipherments of the counters below n
+-- the output blocks of the counters below n, one after the other
 unfoldable pub keyStream : List ℕ → ℕ → List ℕ
 keyStream w zero = []
 keyStream w (suc n) = keyStream w n ++ cipher w (counterBlock n)
@@ -28,8 +28,8 @@ streamByte w i = getD (cipher w (counterBlock (i / blockLength))) (i % blockLeng
 
 -- the blocks that n bytes take up, the last perhaps in part
 abbrev pub blocks : ℕ → ℕ
-blocks n = (n + 15) / blockLength
+blocks n = (n + (blockLength - 1)) / blockLength
 
--- each block plus its output block; of the last output block as many bytes as the data has there
+-- each block of s plus its output block; of the last output block as many bytes as s has left
 unfoldable pub counterMode : List ℕ → List ℕ → List ℕ
 counterMode w s = xorBytes s (keyStream w (blocks (length s)))

@@ -12,11 +12,11 @@ infixl 70 _•_
 abbrev pub _⊕_ : ℕ → ℕ → ℕ
 a ⊕ b = bitXor a b
 
--- 4.2.1: each bit goes up by one place; for a bit 7, which falls out, {1b} is added
+-- 4.2.1: the bits of b, each moved up by one place, and {1b} added where bit 7 falls out
 abbrev pub xtime : ℕ → ℕ
-xtime b = (b * 2 % 256) ⊕ (b / 128 * 0x1b)
+xtime b = (b / 128 * 0x1b) ⊕ (b * 2 % 256)
 
--- the product of b with the n low bits of a: b, x b, x² b, .. are added where a has a bit
+-- 4.2.1: the product of b with the n low bits of a: the sum of those of b, x b, x² b, .. at which a has a bit
 unfoldable pub productBits : ℕ → ℕ → ℕ → ℕ
 productBits zero a b = 0
 productBits (suc n) a b = (a % 2 * b) ⊕ productBits n (a / 2) (xtime b)
@@ -26,7 +26,8 @@ unfoldable pub _•_ : ℕ → ℕ → ℕ
 unfolding productBits
 a • b = productBits 8 a b
 
--- 4.2: the inverse, as the power 254 = 2 + 4 + 8 + 16 + 32 + 64 + 128. That it is one is `inverse-rule` of proofs/TableRules.antt
+-- 4.2: the inverse: b to the power 254 = 2 + 4 + 8 + 16 + 32 + 64 + 128. Its product with b is 1: `inverse-rule` of
+-- proofs/TableRules.antt
 unfoldable pub inverse : ℕ → ℕ
 unfolding _•_
 inverse b =

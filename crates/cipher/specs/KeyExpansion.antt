@@ -12,19 +12,20 @@ use Rattle.cipher.specs.SBox.{sBox}
 use Rattle.cipher.specs.Words.{four, word, xorBytes}
 use Rattle.cipher.specs.Cipher.{Nb, Nk, Nr}
 
--- a0, a1, a2, a3 becomes a1, a2, a3, a0
+-- RotWord: a0, a1, a2, a3 becomes a1, a2, a3, a0
 abbrev pub rotWord : List ℕ → List ℕ
 rotWord a = four (getD a 1 0) (getD a 2 0) (getD a 3 0) (getD a 0 0)
 
+-- SubWord: the S-box on each byte
 abbrev pub subWord : List ℕ → List ℕ
 subWord a = map sBox a
 
--- x to the power n
+-- x to the power n, in the field
 unfoldable pub power : ℕ → ℕ
 power zero = 1
 power (suc n) = xtime (power n)
 
--- the round constants, i from 1: x to the power i - 1, and three zeros
+-- Rcon[i], i from 1: x to the power i - 1, and three zeros
 abbrev pub rcon : ℕ → List ℕ
 rcon i = four (power (i - 1)) 0 0 0
 
@@ -35,7 +36,7 @@ temp w i =
     (xorBytes (subWord (rotWord (word w (i - 1)))) (rcon (i / Nk)))
     (word w (i - 1))
 
--- figure 11: the key and n words more, the last of which is w[i] with i = n + Nk - 1
+-- figure 11: the Nk words of the key, and n words more. The next one is w[i] for i = n + Nk
 unfoldable pub schedule : ℕ → List ℕ → List ℕ
 schedule zero key = key
 schedule (suc n) key =
@@ -43,7 +44,7 @@ schedule (suc n) key =
     let i = n + Nk in
     w ++ xorBytes (word w (i - Nk)) (temp w i)
 
--- as many words as make Nb for each round and Nb before the first
+-- figure 11: Nb (Nr + 1) words in all
 unfoldable pub keyExpansion : List ℕ → List ℕ
 keyExpansion key = schedule (Nb * (Nr + 1) - Nk) key
 

@@ -5,14 +5,16 @@
 use Prim.Native.Nat.{ℕ, _+_, _*_, _/_, _%_, _^_}
 use Rattle.cipher.specs.Field.{_⊕_, inverse}
 
+-- 3.2: bit i, where bit 0 is the lowest
 abbrev pub bit : ℕ → ℕ → ℕ
 bit b i = b / 2 ^ i % 2
 
--- (5.1): bit i of the affine map of b, where {63} is the byte c
+-- 5.1.1, (5.1): bit i of the affine map of b; the byte c is {63}
 unfoldable pub affineBit : ℕ → ℕ → ℕ
 affineBit b i =
     bit b i ⊕ bit b ((i + 4) % 8) ⊕ bit b ((i + 5) % 8) ⊕ bit b ((i + 6) % 8) ⊕ bit b ((i + 7) % 8) ⊕ bit 0x63 i
 
+-- 5.1.1, (5.1): all eight bits
 unfoldable pub affine : ℕ → ℕ
 unfolding affineBit
 affine b =

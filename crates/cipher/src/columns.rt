@@ -4,6 +4,9 @@ ghost use Rattle.cipher.specs.Words.{xorBytes};
 ghost use Rattle.cipher.specs.State.{state};
 use crate::words::from_le_bytes;
 
+// The bytes of a block.
+pub(crate) const BLOCK: usize = 16;
+
 pub(crate) struct Columns {
     pub(crate) c0: u32,
     pub(crate) c1: u32,
@@ -28,22 +31,22 @@ pub(crate) fn to_block(s: Columns) -> [u8; 16]
     ensures { λ r. ⌜ r ≡ state s ⌝ }
 {
     [
-        (s.c0 % 256) as u8,
-        (s.c0 / 256 % 256) as u8,
-        (s.c0 / 65536 % 256) as u8,
-        (s.c0 / 16777216 % 256) as u8,
-        (s.c1 % 256) as u8,
-        (s.c1 / 256 % 256) as u8,
-        (s.c1 / 65536 % 256) as u8,
-        (s.c1 / 16777216 % 256) as u8,
-        (s.c2 % 256) as u8,
-        (s.c2 / 256 % 256) as u8,
-        (s.c2 / 65536 % 256) as u8,
-        (s.c2 / 16777216 % 256) as u8,
-        (s.c3 % 256) as u8,
-        (s.c3 / 256 % 256) as u8,
-        (s.c3 / 65536 % 256) as u8,
-        (s.c3 / 16777216 % 256) as u8,
+        (s.c0 % 0x100) as u8,
+        (s.c0 / 0x100 % 0x100) as u8,
+        (s.c0 / 0x10000 % 0x100) as u8,
+        (s.c0 / 0x1000000 % 0x100) as u8,
+        (s.c1 % 0x100) as u8,
+        (s.c1 / 0x100 % 0x100) as u8,
+        (s.c1 / 0x10000 % 0x100) as u8,
+        (s.c1 / 0x1000000 % 0x100) as u8,
+        (s.c2 % 0x100) as u8,
+        (s.c2 / 0x100 % 0x100) as u8,
+        (s.c2 / 0x10000 % 0x100) as u8,
+        (s.c2 / 0x1000000 % 0x100) as u8,
+        (s.c3 % 0x100) as u8,
+        (s.c3 / 0x100 % 0x100) as u8,
+        (s.c3 / 0x10000 % 0x100) as u8,
+        (s.c3 / 0x1000000 % 0x100) as u8,
     ]
 }
 

@@ -8,21 +8,19 @@ ghost use Rattle.cipher.specs.Table.{sBoxTable};
 ghost use Rattle.cipher.specs.Words.{littleEndian};
 ghost use Rattle.cipher.specs.KeyExpansion.{rotWord, subWord, nextRoundKey, keyExpansion};
 ghost use Rattle.cipher.specs.State.{state};
+use crate::columns::BLOCK;
 use crate::columns::Columns;
 use crate::columns::from_block;
 use crate::columns::to_block;
+use crate::rounds::ROUNDS;
 use crate::words::rotate_left_24;
 use crate::words::sub_bytes;
-
-const BLOCK: usize = 16;
-
-const ROUNDS: usize = 10;
 
 // b times x in the field.
 fn times_x(b: u8) -> u8
     ensures { λ r. ⌜ r ≡ xtime b ⌝ }
 {
-    (b << 1) ^ ((b >> 7) * 0x1b)
+    ((b >> 7) * 0x1b) ^ (b << 1)
 }
 
 // RotWord, then SubWord.
@@ -34,8 +32,9 @@ fn sub_rot_word(sbox: &[u8; 256], x: u32) -> u32
     sub_bytes(sbox, y, y, y, y)
 }
 
-// The round key after k, where constant is the first byte of the round constant: each word is the one four places
-// before it, plus the one before it, which for the first word goes through RotWord and SubWord and the round constant.
+// The round key after k, where constant is the first byte of its round constant. Each word is the sum of the word four
+// places before it and the word just before it; for the first word the latter goes through RotWord and SubWord, and the
+// round constant is added.
 fn next_round_key(sbox: &[u8; 256], k: Columns, constant: u8) -> Columns
     requires { ⌜ now sbox ≡ sBoxTable ⌝ }
     ensures { λ r. ⌜ state r ≡ nextRoundKey constant (state k) ⌝ }

@@ -36,7 +36,7 @@ pub fn encrypt(keys: RoundKeys, block: [u8; 16]) -> [u8; 16]
     columns::to_block(rounds::encrypt_columns(&S_BOX, &ROUND_TABLE, &w, input))
 }
 
-// Enciphers or deciphers data in place.
+// Enciphers text in place, or deciphers it: adds the key stream.
 pub fn apply_stream(keys: RoundKeys, text: &mut [u8])
     ensures { λ _. ⌜ now (text .exit) ≡ counterMode (keys .bytes) (now (text .entry)) ⌝ }
 {

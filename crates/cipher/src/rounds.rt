@@ -1,10 +1,10 @@
 // The cipher on columns: FIPS 197, 5.1.
 ghost use mathlib.Core.Path.{_≡_};
-ghost use Prim.Native.Nat.{_/_, _%_, _<_, _≤_};
+ghost use Prim.Native.Nat.{_+_, _*_, _<_, _≤_};
 ghost use Rattle.cipher.specs.SBox.{sBox};
 ghost use Rattle.cipher.specs.Table.{sBoxTable, roundTable};
-ghost use Rattle.cipher.specs.Words.{littleEndian, word};
-ghost use Rattle.cipher.specs.Cipher.{Nr, subBytes, shiftRows, mixedColumn, mixColumns, roundKey, cipher};
+ghost use Rattle.cipher.specs.Words.{word, byte0, byte1, byte2, byte3, littleEndian};
+ghost use Rattle.cipher.specs.Cipher.{Nb, Nr, subBytes, shiftRows, mixBytes, mixColumns, roundKey, cipher};
 ghost use Rattle.cipher.specs.State.{state};
 use crate::columns::Columns;
 use crate::columns::add;
@@ -14,24 +14,24 @@ use crate::words::rotate_left_16;
 use crate::words::rotate_left_24;
 use crate::words::sub_bytes;
 
-// The rounds: nine alike, and one without MixColumns.
-const FULL_ROUNDS: usize = 9;
+// The rounds. All but the last are alike; the last has no MixColumns.
+pub(crate) const ROUNDS: usize = 10;
 
-const LAST_ROUND: usize = 10;
+const FULL_ROUNDS: usize = ROUNDS - 1;
 
-// A column of SubBytes, ShiftRows and MixColumns: row 0 of a, row 1 of b, row 2 of c and row 3 of d, by the table.
+// SubBytes and MixColumns of row 0 of a, row 1 of b, row 2 of c and row 3 of d, by the round table.
 fn sub_mix(table: &[u32; 256], a: u32, b: u32, c: u32, d: u32) -> u32
     requires { ⌜ now table ≡ roundTable ⌝ }
-    ensures { λ r. ⌜ littleEndian r ≡ mixedColumn (sBox (a % 256)) (sBox (b / 256 % 256)) (sBox (c / 65536 % 256)) (sBox (d / 16777216 % 256)) ⌝ }
+    ensures { λ r. ⌜ littleEndian r ≡ mixBytes (sBox (byte0 a)) (sBox (byte1 b)) (sBox (byte2 c)) (sBox (byte3 d)) ⌝ }
 {
-    let t0 = table[(a % 256) as usize];
-    let t1 = rotate_left_8(table[(b / 256 % 256) as usize]);
-    let t2 = rotate_left_16(table[(c / 65536 % 256) as usize]);
-    let t3 = rotate_left_24(table[(d / 16777216 % 256) as usize]);
+    let t0 = table[(a % 0x100) as usize];
+    let t1 = rotate_left_8(table[(b / 0x100 % 0x100) as usize]);
+    let t2 = rotate_left_16(table[(c / 0x10000 % 0x100) as usize]);
+    let t3 = rotate_left_24(table[(d / 0x1000000 % 0x100) as usize]);
     t0 ^ t1 ^ t2 ^ t3
 }
 
-// SubBytes, ShiftRows and MixColumns.
+// SubBytes, ShiftRows and MixColumns: ShiftRows brings the rows of a column from that column and the next three.
 fn sub_shift_mix(table: &[u32; 256], s: Columns) -> Columns
     requires { ⌜ now table ≡ roundTable ⌝ }
     ensures { λ r. ⌜ state r ≡ mixColumns (shiftRows (subBytes (state s))) ⌝ }
@@ -57,7 +57,7 @@ fn sub_shift(sbox: &[u8; 256], s: Columns) -> Columns
 
 // Word i of the round keys.
 fn key_word(w: &[u8; 176], i: usize) -> u32
-    requires { ⌜ i < 44 ⌝ }
+    requires { ⌜ i < Nb * (Nr + 1) ⌝ }
     ensures { λ r. ⌜ littleEndian r ≡ word (now (w .entry)) i ⌝ }
 {
     let at = 4 * i;
@@ -94,5 +94,5 @@ pub(crate) fn encrypt_columns(
         round += 1;
         s = add(sub_shift_mix(table, s), round_key(w, round));
     }
-    add(sub_shift(sbox, s), round_key(w, LAST_ROUND))
+    add(sub_shift(sbox, s), round_key(w, ROUNDS))
 }

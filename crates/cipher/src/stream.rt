@@ -4,28 +4,27 @@ ghost use Rattle.cipher.specs.Table.{sBoxTable, roundTable};
 ghost use Rattle.cipher.specs.Words.{xorBytes};
 ghost use Rattle.cipher.specs.State.{state};
 ghost use Rattle.cipher.specs.CounterMode.{counterBlock, counterMode};
+use crate::columns::BLOCK;
 use crate::columns::Columns;
 use crate::columns::to_block;
 use crate::rounds::encrypt_columns;
 use crate::words::from_le_bytes;
-
-const BLOCK: usize = 16;
 
 // The counter n as a block: 16 bytes, the highest first.
 fn counter_block(n: u64) -> Columns
     ensures { λ r. ⌜ state r ≡ counterBlock n ⌝ }
 {
     let c2 = from_le_bytes(
-        (n / 72057594037927936) as u8,
-        (n / 281474976710656 % 256) as u8,
-        (n / 1099511627776 % 256) as u8,
-        (n / 4294967296 % 256) as u8,
+        (n / 0x100000000000000) as u8,
+        (n / 0x1000000000000 % 0x100) as u8,
+        (n / 0x10000000000 % 0x100) as u8,
+        (n / 0x100000000 % 0x100) as u8,
     );
     let c3 = from_le_bytes(
-        (n / 16777216 % 256) as u8,
-        (n / 65536 % 256) as u8,
-        (n / 256 % 256) as u8,
-        (n % 256) as u8,
+        (n / 0x1000000 % 0x100) as u8,
+        (n / 0x10000 % 0x100) as u8,
+        (n / 0x100 % 0x100) as u8,
+        (n % 0x100) as u8,
     );
     Columns {
         c0: 0,
@@ -46,7 +45,7 @@ fn add_block(q: &mut [u8], block: [u8; 16])
     }
 }
 
-// Adds the key stream to data.
+// Adds the key stream to text, block by block.
 pub(crate) fn add_key_stream(sbox: &[u8; 256], table: &[u32; 256], w: &[u8; 176], text: &mut [u8])
     requires { ⌜ now sbox ≡ sBoxTable ⌝ }
     requires { ⌜ now table ≡ roundTable ⌝ }

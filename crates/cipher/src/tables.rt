@@ -1,5 +1,6 @@
 // The two constant tables of the cipher. A constant is laid out anew wherever it is named, so each is named once to a
-// call, in lib.rt, and passed on by reference.
+// call, in lib.rt, and passed on by reference. The bytes that pick the entries depend on key and text, and through the
+// processor's cache the time of a call can depend on them.
 
 // FIPS 197, 5.1.1, figure 7: the S-box. Row x, column y is the byte that takes the place of {xy}.
 pub(crate) const S_BOX: [u8; 256] = *b"\

@@ -1,7 +1,7 @@
 -- Empty pages and blocks: a block is empty exactly if its pages are, and what a step does to emptiness.
-use Prim.Native.Nat.{ℕ, zero, suc, _+_, _-_, _*_, _/_, _%_, _<_, _≤_, min}
+use Prim.Native.Nat.{ℕ, zero, suc, _+_, _*_, _/_, _≤_}
 use native.Mathlib.Omega.{arith}
-use mathlib.Core.Path.{_≡_, refl, sym, ap, subst, _∙_}
+use mathlib.Core.Path.{_≡_, refl, sym, ap, _∙_}
 use mathlib.Core.Bool.{Bool, true, false, _&&_}
 use mathlib.Core.List.{List, [], _∷_, _++_}
 use lib.Dec.{eqb}
@@ -19,7 +19,7 @@ use Rattle.page.specs.Form.{isEmpty}
 use Rattle.page.specs.Page.{cutPage}
 use Rattle.image.specs.Size.{blockSize, pagesInBlock}
 use Rattle.image.specs.Look.{pageAt, blockAt, pageEmpty, blockEmpty}
-use Rattle.image.specs.Step.{Step, program, erase, Inside, upTo, whole}
+use Rattle.image.specs.Step.{program, erase, Inside, upTo, whole}
 use Rattle.image.proofs.Step.{page-length, block-length, block-erase, page-program}
 
 -- ---- bytes

@@ -1,22 +1,30 @@
 -- The keys of a key block: where they stand, how many bytes they have, and keys in a row.
-use Prim.Native.Nat.{ℕ, zero, suc, _+_, _-_, _*_, _/_, _%_, _<_, _≤_}
+use Prim.Native.Nat.{ℕ, zero, suc, _+_, _-_, _*_, _<_, _≤_}
 use native.Mathlib.Omega.{arith}
-use native.Mathlib.Numerals.{add-one}
-use mathlib.Core.Path.{_≡_, refl, sym, ap, subst, _∙_}
+use native.Mathlib.Nat.{mul-comm}
+use mathlib.Core.Path.{_≡_, refl, sym, ap, _∙_}
 use mathlib.Core.Bool.{Bool, true, false, cond}
 use mathlib.Core.List.{List, _++_, append-assoc, append-nil}
 use lib.Dec.{eqb}
 use lib.ListN.{length, getD, take, drop, length-append}
 use lib.Seq.{drop-append-add, take-at, take-all, length-take-le}
+use borrow.Author.Tests.{eq-eqb, ne-eqb}
 use borrow.Rule.Slice.PartMut.{putMid}
 use Rattle.base.specs.Part.{part}
+use Rattle.base.specs.Each.{Each}
 use Rattle.base.proofs.Parts.{part-length, part-part}
-use Rattle.page.specs.Frame.{pageSize, headerSize}
+use Rattle.base.proofs.Folds.{length-listFrom, listFrom-agree}
+use Rattle.page.specs.Frame.{pageSize, headerSize, payloadSize}
 use Rattle.page.specs.Entry.{usedLetter}
-use Rattle.page.specs.Key.{keySize, keysInPage, positions, keyPage, keySlot, keyInPage, keyInNoise}
-use Rattle.image.specs.Size.{blockSize}
+use Rattle.page.specs.Key.{keySize, keysInPage, keysInBlock, positions, keyBlock, keyPage, keySlot, keyInPage, keyInNoise}
+use Rattle.page.specs.Page.{keysPage}
+use Rattle.page.proofs.Pages.{keys-length, key-back}
+use Rattle.image.specs.Size.{blockSize, pagesInBlock}
 use Rattle.image.specs.Look.{blockAt}
-use Rattle.image.specs.Block.{keyInBlock, keysFrom, renewedKey}
+use Rattle.image.specs.Step.{program, Inside, playAll}
+use Rattle.image.specs.Block.{keyInBlock, keysFrom, renewedKey, keyBlockSteps}
+use Rattle.image.proofs.Step.{block-length, page-of-block}
+use Rattle.image.proofs.Rows.{rowSteps, row-inside, row-page-done}
 
 -- ---- the key of a position in a key block of the image
 pub key-in-block-at : (img : List ℕ) (b p : ℕ) → keyInPage (part img (b * blockSize + pageSize * keyPage p) pageSize) (keySlot p) ≡ keyInBlock (blockAt img b) p
@@ -44,12 +52,16 @@ renewed-length old letters noise p l m h = go (eqb (getD letters p 0) usedLetter
     go true = key-in-block-length old p l
     go false = key-in-noise-length noise p m h
 
+pub renewed-at-length : (img letters noise : List ℕ) (old : ℕ) → old * blockSize + blockSize ≤ length img → length noise ≡ keySize * positions
+    → (p : ℕ) → p < positions → length (renewedKey (blockAt img old) letters noise p) ≡ keySize
+renewed-at-length img letters noise old f m p h = renewed-length (blockAt img old) letters noise p (block-length img old f) m h
+
 -- ---- keys in a row
-pub keys-length : (key : ℕ → List ℕ) (n p : ℕ) → ((j : ℕ) → p ≤ j → j < p + n → length (key j) ≡ keySize) → length (keysFrom key n p) ≡ keySize * n
+pub keys-from-length : (key : ℕ → List ℕ) (n p : ℕ) → ((j : ℕ) → p ≤ j → j < p + n → length (key j) ≡ keySize) → length (keysFrom key n p) ≡ keySize * n
 unfolding keysFrom
-keys-length key zero p h = refl
-keys-length key (suc n) p h =
-    simp length-append (omega (arith, h p (omega arith) (omega arith), keys-length key n (suc p) (λ j a b. h j (omega arith) (omega arith))))
+keys-from-length key zero p h = refl
+keys-from-length key (suc n) p h =
+    simp length-append (omega (arith, h p (omega arith) (omega arith), keys-from-length key n (suc p) (λ j a b. h j (omega arith) (omega arith))))
 
 -- the key at a place of the row
 pub keys-at : (key : ℕ → List ℕ) (n p j : ℕ) → ((j : ℕ) → p ≤ j → j < p + n → length (key j) ≡ keySize) → j < n
@@ -74,7 +86,7 @@ keys-agree key key' (suc n) p h =
 module _ (key : ℕ → List ℕ) (n p j : ℕ) (dst : List ℕ) where
   pub keys-next : (zs : List ℕ) → j < n → keySize * n ≤ length dst → zs ≡ key (p + j) → length zs ≡ keySize
       → take (keySize * j) dst ++ keysFrom key (n - j) (p + j)
-          ≡ take (keySize * (j + 1)) (putMid (keySize * j) ((keySize * j + keySize) - keySize * j) dst zs) ++ keysFrom key (n - (j + 1)) (p + (j + 1))
+      ≡ take (keySize * (j + 1)) (putMid (keySize * j) ((keySize * j + keySize) - keySize * j) dst zs) ++ keysFrom key (n - (j + 1)) (p + (j + 1))
   unfolding keysFrom
   keys-next zs h f e l =
       let front = take (keySize * j) dst in
@@ -83,7 +95,7 @@ module _ (key : ℕ → List ℕ) (n p j : ℕ) (dst : List ℕ) where
       let m : suc (p + j) ≡ p + (j + 1) = omega arith in
       let t : length front ≡ keySize * j = length-take-le (keySize * j) dst (omega arith) in
       let q : take (keySize * (j + 1)) (front ++ (zs ++ rest)) ≡ front ++ zs =
-          rw (← append-assoc front zs rest) (take-at (front ++ zs) rest (keySize * (j + 1)) (length-append front zs ∙ omega arith)) in
+      rw (← append-assoc front zs rest) (take-at (front ++ zs) rest (keySize * (j + 1)) (length-append front zs ∙ omega arith)) in
       rw (q, i, m, e) (sym (append-assoc front (key (p + j)) (keysFrom key (n - (j + 1)) (p + (j + 1)))))
 
   pub keys-done : n ≤ j → length dst ≡ keySize * j → take (keySize * j) dst ++ keysFrom key (n - j) (p + j) ≡ dst
@@ -91,3 +103,62 @@ module _ (key : ℕ → List ℕ) (n p j : ℕ) (dst : List ℕ) where
   keys-done h l =
       let i : n - j ≡ 0 = omega arith in
       rw (i, append-nil, take-all (keySize * j) dst (omega arith))
+
+-- ---- a key of the next copy: the old one of a used position, the noise of any other
+module _ (old letters noise : List ℕ) (p : ℕ) where
+  pub renewed-used : getD letters p 0 ≡ usedLetter → renewedKey old letters noise p ≡ keyInBlock old p
+  unfolding renewedKey
+  renewed-used e = rw (eq-eqb _ _ e)
+
+  pub renewed-other : (getD letters p 0 ≡ usedLetter → ⊥) → renewedKey old letters noise p ≡ keyInNoise noise p
+  unfolding renewedKey
+  renewed-other e = rw (ne-eqb _ _ e)
+
+-- ---- the pages of a key block
+-- page i of key block 0 or 1 of an epoch
+abbrev pub keyBlockPage : ℕ → ℕ → (ℕ → List ℕ) → ℕ → List ℕ
+keyBlockPage epoch block key i = keysPage epoch block i (keysFrom key keysInPage (keysInBlock * block + keysInPage * i))
+
+module _ (epoch block : ℕ) (key : ℕ → List ℕ) (sizes : (p : ℕ) → p < positions → length (key p) ≡ keySize) (h : block < 2) where
+  keys-size : (i : ℕ) → i < pagesInBlock → length (keysFrom key keysInPage (keysInBlock * block + keysInPage * i)) ≡ payloadSize
+  keys-size i l = keys-from-length key keysInPage (keysInBlock * block + keysInPage * i) (λ j a b. sizes j (omega arith))
+
+  pub key-page-size : (i : ℕ) → i < pagesInBlock → length (keyBlockPage epoch block key i) ≡ pageSize
+  key-page-size i l = keys-length epoch block i (keysFrom key keysInPage (keysInBlock * block + keysInPage * i)) (keys-size i l)
+
+  pub key-block-inside : (n b : ℕ) → b * blockSize + blockSize ≤ n → Each (Inside n) (keyBlockSteps epoch block b key)
+  unfolding keyBlockSteps
+  key-block-inside n b f = row-inside b (keyBlockPage epoch block key) key-page-size n pagesInBlock 0 f (omega arith)
+
+  -- the key of a position of the block, read back
+  pub key-block-key : (b p : ℕ) (img : List ℕ) → b * blockSize + blockSize ≤ length img → keyBlock p ≡ block
+      → keyInBlock (blockAt (playAll (keyBlockSteps epoch block b key) img) b) p ≡ key p
+  unfolding keyBlockSteps keyInBlock
+  key-block-key b p img f e =
+      let i = keyPage p in
+      let row = rowSteps b (keyBlockPage epoch block key) pagesInBlock 0 in
+      let page : part (blockAt (playAll row img) b) (pageSize * i) pageSize ≡ keyBlockPage epoch block key i =
+      ap (λ (a : ℕ). part (blockAt (playAll row img) b) a pageSize) (mul-comm pageSize i)
+      ∙ sym (page-of-block (playAll row img) b i (omega arith))
+      ∙ row-page-done b (keyBlockPage epoch block key) key-page-size pagesInBlock img (omega arith) f i (omega arith) in
+      ap (λ (xs : List ℕ). keyInPage xs (keySlot p)) page
+      ∙ key-back epoch block i (keysFrom key keysInPage (keysInBlock * block + keysInPage * i)) (keySlot p) (keys-size i (omega arith)) (omega arith)
+      ∙ keys-at key keysInPage (keysInBlock * block + keysInPage * i) (keySlot p) (λ j a b. sizes j (omega arith)) (omega arith)
+      ∙ ap key (omega arith)
+
+-- keys that agree at the block's positions make the same block
+pub key-block-agree : (epoch block b : ℕ) (key key' : ℕ → List ℕ) → ((p : ℕ) → keyBlock p ≡ block → key p ≡ key' p)
+    → keyBlockSteps epoch block b key ≡ keyBlockSteps epoch block b key'
+unfolding keyBlockSteps
+key-block-agree epoch block b key key' h =
+    listFrom-agree _ _ pagesInBlock 0
+    (λ i l m. ap (λ (keys : List ℕ). program (b * pagesInBlock + i) (keysPage epoch block i keys))
+    (keys-agree key key' keysInPage (keysInBlock * block + keysInPage * i) (λ j c d. h j (omega arith))))
+
+pub key-block-count : (epoch block b : ℕ) (key : ℕ → List ℕ) → length (keyBlockSteps epoch block b key) ≡ pagesInBlock
+unfolding keyBlockSteps
+key-block-count epoch block b key = length-listFrom _ pagesInBlock 0
+
+pub key-block-steps : (epoch block b : ℕ) (key : ℕ → List ℕ) → keyBlockSteps epoch block b key ≡ rowSteps b (keyBlockPage epoch block key) pagesInBlock 0
+unfolding keyBlockSteps
+key-block-steps epoch block b key = refl

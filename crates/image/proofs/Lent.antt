@@ -1,7 +1,7 @@
 -- A part of the image that was lent to the writer of a step and is back: the image after that step.
-use Prim.Native.Nat.{ℕ, _+_, _-_, _*_, _≤_, min}
+use Prim.Native.Nat.{ℕ, _+_, _-_, _*_, min}
 use native.Mathlib.Omega.{arith}
-use mathlib.Core.Path.{_≡_, refl, sym, ap, _∙_}
+use mathlib.Core.Path.{_≡_, sym, ap, _∙_}
 use mathlib.Core.Bool.{true}
 use mathlib.Core.List.{List}
 use lib.ListN.{length, take, drop, replicate}
@@ -9,11 +9,11 @@ use borrow.Rule.Slice.PartMut.{putMid}
 use Rattle.base.proofs.Parts.{lent, lent-fill}
 use Rattle.page.specs.Frame.{pageSize, erased}
 use Rattle.page.specs.Page.{cutPage}
+use Rattle.page.proofs.Pages.{cut-length}
 use Rattle.image.specs.declared.Power.{Power}
 use Rattle.image.specs.Size.{blockSize}
 use Rattle.image.specs.Step.{program, erase, Inside, upTo}
 use Rattle.image.specs.Power.{device, act, reach, lessStep}
-use Rattle.image.proofs.Step.{cut-length}
 use Rattle.image.proofs.Runs.{act-on}
 
 module _ (img : List ℕ) (p q : Power) (on : p .on ≡ true) (less : q ≡ lessStep p) (k : ℕ) (far : k ≡ reach p) (zs : List ℕ) where

@@ -1,9 +1,9 @@
 -- The sizes that are taken; the lowest empty block, and how many blocks are empty.
-use Prim.Native.Nat.{ℕ, zero, suc, _+_, _-_, _*_, _/_, _%_, _<_, _≤_}
+use Prim.Native.Nat.{ℕ, zero, suc, _+_, _*_, _/_, _%_, _<_, _≤_}
 use native.Mathlib.Omega.{arith}
 use native.Mathlib.Decide.{decLt, ℕ-discrete}
-use mathlib.Core.Path.{_≡_, refl, sym, ap, subst, _∙_}
-use mathlib.Core.Bool.{Bool, true, false, cond, _&&_}
+use mathlib.Core.Path.{_≡_, refl, ap}
+use mathlib.Core.Bool.{Bool, true, false, cond}
 use mathlib.Core.List.{List}
 use lib.Dec.{eqb, leb}
 use lib.ListN.{length}
@@ -12,8 +12,7 @@ use Rattle.base.specs.Search.{firstFrom, countFrom}
 use Rattle.base.proofs.Choice.{and-true, and-intro, true-false}
 use Rattle.base.proofs.Searches.{first-bounds, first-holds, first-least, first-agree, count-agree, count-most}
 use Rattle.image.specs.Size.{blockSize, pagesInBlock, fewestBlocks, mostBlocks, blocks, pages, rightLength, sizeRight}
-use Rattle.image.specs.Look.{blockAt, blockEmpty, lowestEmpty, emptyBlocks}
-use Rattle.image.proofs.Empties.{block-empty-same}
+use Rattle.image.specs.Look.{blockEmpty, lowestEmpty, emptyBlocks}
 
 -- ---- sizes
 -- what a right size says of an image: full blocks, 8 to 256 of them
@@ -21,6 +20,7 @@ pub record Sized (img : List ℕ) : Type 0 where
   pub full : length img ≡ blockSize * blocks img
   pub fewest : fewestBlocks ≤ blocks img
   pub most : blocks img ≤ mostBlocks
+  pub bounded : length img ≤ mostBlocks * blockSize
   pub paged : pages img ≡ pagesInBlock * blocks img
 
 pub sized : (img : List ℕ) → sizeRight img ≡ true → Sized img
@@ -33,6 +33,7 @@ sized img e =
       full = omega arith;
       fewest = leb-true _ _ (low .1);
       most = leb-true _ _ (both .1);
+      bounded = let m : length img / blockSize ≤ mostBlocks = leb-true _ _ (both .1) in omega arith;
       paged = omega arith;
     }
 
@@ -99,9 +100,9 @@ count-except p q zero i b h k e f a = absurd (omega arith)
 count-except p q (suc n) i b h k e f a =
     elim (ℕ-discrete i b) [
       | yes d ↦
-      let x : p i ≡ true = rw d e in
-      let y : q i ≡ false = rw d f in
-      rw (x, y, count-agree q p n (suc i) (λ j l m. a j (λ z. omega arith))) (omega arith)
+          let x : p i ≡ true = rw d e in
+          let y : q i ≡ false = rw d f in
+          rw (x, y, count-agree q p n (suc i) (λ j l m. a j (λ z. omega arith))) (omega arith)
       | no d ↦ rw (a i d, count-except p q n (suc i) b (omega arith) (omega arith) e f a) (omega arith)
     ]
 

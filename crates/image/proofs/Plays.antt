@@ -1,15 +1,14 @@
 -- Steps in a row: all whole, or n of them whole and the first k bytes of the next.
-use Prim.Native.Nat.{ℕ, zero, suc, _+_, _-_, _*_, _/_, _<_, _≤_}
+use Prim.Native.Nat.{ℕ, zero, suc, _-_, _<_, _≤_}
 use native.Mathlib.Omega.{arith}
 use native.Mathlib.Nat.{sub-zero}
-use mathlib.Core.Path.{_≡_, refl, sym, ap, subst, _∙_}
+use mathlib.Core.Path.{_≡_, refl, sym, subst, _∙_}
 use mathlib.Core.List.{List, [], _∷_, _++_}
-use lib.ListN.{length, getD, take, drop}
+use lib.ListN.{length, getD, take}
 use Rattle.base.specs.Each.{Each}
-use Rattle.image.specs.Size.{blockSize, pagesInBlock}
-use Rattle.image.specs.Look.{pageAt, blockAt}
-use Rattle.image.specs.Step.{Step, program, erase, Inside, upTo, whole, play, playAll}
-use Rattle.image.proofs.Step.{blockOf, upTo-length, whole-length, block-upTo-other, block-whole-other, page-of-same}
+use Rattle.image.specs.Look.{blockAt}
+use Rattle.image.specs.Step.{Step, Inside, upTo, whole, play, playAll}
+use Rattle.image.proofs.Step.{blockOf, upTo-length, whole-length, block-upTo-other, block-whole-other}
 
 -- ---- the definitions' clauses, for those who do not open them
 pub play-nil : (n k : ℕ) (img : List ℕ) → play n k [] img ≡ img

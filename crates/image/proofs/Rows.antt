@@ -1,10 +1,10 @@
 -- Pages of a block that are programmed one after the other, from page j on: what each page holds, all done or cut.
-use Prim.Native.Nat.{ℕ, zero, suc, _+_, _-_, _*_, _/_, _<_, _≤_}
+use Prim.Native.Nat.{ℕ, zero, suc, _+_, _*_, _<_, _≤_}
 use native.Mathlib.Omega.{arith}
 use native.Mathlib.Nat.{add-zero, zero-add, le-of-eq}
 use native.Mathlib.Decide.{ℕ-discrete}
-use mathlib.Core.Path.{_≡_, refl, sym, ap, subst, _∙_}
-use mathlib.Core.List.{List, [], _∷_}
+use mathlib.Core.Path.{_≡_, refl, _∙_}
+use mathlib.Core.List.{List, _∷_}
 use lib.ListN.{length}
 use Rattle.base.specs.Each.{Each}
 use Rattle.base.specs.Fold.{listFrom}
@@ -12,10 +12,10 @@ use Rattle.base.proofs.Folds.{length-listFrom}
 use Rattle.page.specs.Frame.{pageSize}
 use Rattle.page.specs.Page.{cutPage}
 use Rattle.image.specs.Size.{blockSize, pagesInBlock}
-use Rattle.image.specs.Look.{pageAt, blockAt}
-use Rattle.image.specs.Step.{Step, program, Inside, upTo, whole, play, playAll}
+use Rattle.image.specs.Look.{pageAt}
+use Rattle.image.specs.Step.{Step, program, Inside, whole, play, playAll}
 use Rattle.image.proofs.Step.{blockOf, whole-length, page-program, page-program-other, page-program-upTo, page-program-upTo-other}
-use Rattle.image.proofs.Plays.{play-all, play-nil, play-zero, play-suc}
+use Rattle.image.proofs.Plays.{play-all}
 
 module _ (b : ℕ) (page : ℕ → List ℕ) where
   -- the steps that program n pages of block b from page j on

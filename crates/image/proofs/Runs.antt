@@ -3,12 +3,11 @@ use Prim.Native.Nat.{ℕ, zero, suc, _+_, _-_, _<_, _≤_}
 use native.Mathlib.Omega.{arith}
 use native.Mathlib.Nat.{sub-zero}
 use native.Mathlib.Decide.{ℕ-discrete, decLt}
-use native.Mathlib.Numerals.{sub-one}
 use mathlib.Core.Path.{_≡_, refl, sym, ap, subst, _∙_}
 use mathlib.Core.Bool.{Bool, true, false}
 use mathlib.Core.List.{List, [], _∷_, _++_}
 use lib.ListN.{length}
-use lib.Dec.{eqb, leb}
+use lib.Dec.{leb}
 use borrow.Author.Tests.{eq-eqb, ne-eqb, le-leb, lt-leb}
 use Rattle.base.specs.Fold.{listFrom}
 use Rattle.base.specs.Each.{Each}
@@ -137,7 +136,7 @@ run-bind (s ∷ xs) f p img = go (p .on) refl (ℕ-discrete (p .steps) 0) (run-b
 
     go : (b : Bool) → p .on ≡ b → Dec (p .steps ≡ 0)
         → run (f (run xs (device (powerFor (p .steps - 1) (p .bytes)) (whole s img)) .image)) (run xs (device (powerFor (p .steps - 1) (p .bytes)) (whole s img)))
-            ≡ run later (device (powerFor (p .steps - 1) (p .bytes)) (whole s img))
+        ≡ run later (device (powerFor (p .steps - 1) (p .bytes)) (whole s img))
         → run (f (run xs (act s (device p img)) .image)) (run xs (act s (device p img))) ≡ run later (act s (device p img))
     go false e z r = rw (act-off s p img e) (dark xs later f p img e)
     go true e (yes z) r = rw (act-cut s p img e z) (dark xs later f (spent (p .bytes)) (upTo (p .bytes) s img) refl)
@@ -165,6 +164,11 @@ act-length s d ins = act-image (λ (img : List ℕ). length img ≡ length (d .i
 pub block-act-other : (s : Step) (d : Device) (b : ℕ) → Inside (length (d .image)) s → (blockOf s ≡ b → ⊥) → blockAt (act s d .image) b ≡ blockAt (d .image) b
 block-act-other s d b ins o =
     act-image (λ (img : List ℕ). blockAt img b ≡ blockAt (d .image) b) s d ins refl (λ k. block-upTo-other k s (d .image) ins b o)
+
+-- the same of a step that code did
+pub block-done-other : (s : Step) (p q : Power) (img img' : List ℕ) (b : ℕ) → device q img' ≡ act s (device p img) → Inside (length img) s → (blockOf s ≡ b → ⊥)
+    → blockAt img' b ≡ blockAt img b
+block-done-other s p q img img' b e ins o = ap (λ (d : Device). blockAt (d .image) b) e ∙ block-act-other s (device p img) b ins o
 
 pub run-length : (ss : List Step) (d : Device) → Each (Inside (length (d .image))) ss → length (run ss d .image) ≡ length (d .image)
 unfolding run

@@ -1,16 +1,17 @@
 -- What one step of the flash, whole or cut, leaves of the image's length, of each page and of each block.
-use Prim.Native.Nat.{ℕ, zero, suc, _+_, _-_, _*_, _/_, _%_, _<_, _≤_, min}
+use Prim.Native.Nat.{ℕ, _+_, _-_, _*_, _/_, _%_, _<_, _≤_, min}
 use native.Mathlib.Omega.{arith}
 use native.Mathlib.Nat.{add-zero}
 use native.Mathlib.Decide.{decLe, decLt}
 use mathlib.Core.Path.{_≡_, refl, sym, ap, subst, _∙_}
-use mathlib.Core.List.{List, [], _∷_, _++_, append-nil}
-use lib.ListN.{length, getD, take, drop, replicate, length-append, length-take, length-drop, length-replicate, getD-replicate, List·getD-append}
-use lib.Seq.{drop-length, take-all, getD-append-add, getD-drop, ext-getD}
+use mathlib.Core.List.{List, _++_, append-nil}
+use lib.ListN.{length, getD, drop, replicate, length-append, length-drop, length-replicate, getD-replicate, List·getD-append}
+use lib.Seq.{drop-length, getD-append-add, getD-drop, ext-getD}
 use Rattle.base.specs.Part.{part, splice}
 use Rattle.base.proofs.Parts.{part-length, part-at, part-part, part-splice, part-splice-before, part-splice-after, part-splice-within, splice-length}
 use Rattle.page.specs.Frame.{pageSize, erased}
 use Rattle.page.specs.Page.{cutPage}
+use Rattle.page.proofs.Pages.{cut-length, cut-whole}
 use Rattle.image.specs.Size.{blockSize, pagesInBlock}
 use Rattle.image.specs.Look.{pageAt, blockAt}
 use Rattle.image.specs.Step.{Step, program, erase, Inside, upTo, whole}
@@ -79,16 +80,6 @@ abbrev size : Step → ℕ
 size (program g page) = pageSize
 size (erase b) = blockSize
 
-pub cut-length : (k : ℕ) (page : List ℕ) → length page ≡ pageSize → length (cutPage k page) ≡ pageSize
-unfolding cutPage
-cut-length k page h = simp (length-append, length-replicate, length-take) (omega arith)
-
-pub cut-none : (k : ℕ) (page : List ℕ) → length page ≡ pageSize → pageSize ≤ k → cutPage k page ≡ page
-unfolding cutPage
-cut-none k page h f =
-    let m : pageSize - k ≡ 0 = omega arith in
-    rw (take-all k page (omega arith), m) (append-nil page)
-
 upTo-splice : (k : ℕ) (s : Step) (img : List ℕ) → upTo k s img ≡ splice img (start s) (bytesTo k s)
 unfolding upTo
 upTo-splice k (program g page) img = refl
@@ -101,12 +92,12 @@ inside-fits n (erase b) h = h
 -- a step up to a byte past its end is the whole step
 pub upTo-whole : (k n : ℕ) (s : Step) (img : List ℕ) → Inside n s → blockSize ≤ k → upTo k s img ≡ whole s img
 unfolding upTo whole
-upTo-whole k n (program g page) img ins h = rw (cut-none k page (ins .1) (omega arith))
+upTo-whole k n (program g page) img ins h = rw (cut-whole k page (ins .1) (omega arith))
 upTo-whole k n (erase b) img ins h = let m : min k blockSize ≡ blockSize = omega arith in rw m
 
 pub program-upTo-whole : (k g : ℕ) (page img : List ℕ) → length page ≡ pageSize → pageSize ≤ k → upTo k (program g page) img ≡ whole (program g page) img
 unfolding upTo whole
-program-upTo-whole k g page img l h = rw (cut-none k page l h)
+program-upTo-whole k g page img l h = rw (cut-whole k page l h)
 
 whole-upTo : (n : ℕ) (s : Step) (img : List ℕ) → Inside n s → whole s img ≡ upTo blockSize s img
 whole-upTo n s img ins = sym (upTo-whole blockSize n s img ins (omega arith))
@@ -262,7 +253,7 @@ module _ (g : ℕ) (page img : List ℕ) (ins : Inside (length img) (program g p
 
   pub page-program : pageAt (whole (program g page) img) g ≡ page
   page-program =
-      rw (whole-upTo (length img) (program g page) img ins) (page-program-upTo blockSize g page img ins ∙ cut-none blockSize page (ins .1) (omega arith))
+      rw (whole-upTo (length img) (program g page) img ins) (page-program-upTo blockSize g page img ins ∙ cut-whole blockSize page (ins .1) (omega arith))
 
 module _ (b : ℕ) (img : List ℕ) (ins : Inside (length img) (erase b)) where
   pub block-erase : blockAt (whole (erase b) img) b ≡ replicate blockSize erased
@@ -279,4 +270,4 @@ pub block-program : (b i : ℕ) (page img : List ℕ) → Inside (length img) (p
     → blockAt (whole (program (b * pagesInBlock + i) page) img) b ≡ splice (blockAt img b) (i * pageSize) page
 block-program b i page img ins h f =
     rw (whole-upTo (length img) (program (b * pagesInBlock + i) page) img ins)
-    (block-program-upTo blockSize b i page img ins h f ∙ ap (splice (blockAt img b) (i * pageSize)) (cut-none blockSize page (ins .1) (omega arith)))
+    (block-program-upTo blockSize b i page img ins h f ∙ ap (splice (blockAt img b) (i * pageSize)) (cut-whole blockSize page (ins .1) (omega arith)))

@@ -1,16 +1,20 @@
 // What stands on the image: its size, empty pages and blocks, and the form of a page.
+use page::Form;
+use page::Frame;
 use page::forms;
 ghost use mathlib.Core.Path.{_≡_};
 ghost use Prim.Native.Nat.{_≤_, _+_, _*_};
 ghost use lib.ListN.{length};
 ghost use Rattle.page.specs.Frame.{pageSize};
 ghost use Rattle.image.specs.Size.{blockSize, blocks, sizeRight};
-ghost use Rattle.image.specs.Look.{pageEmpty, blockEmpty, lowestEmpty, emptyBlocks};
+ghost use Rattle.image.specs.Look.{formAt, pageEmpty, blockEmpty, lowestEmpty, emptyBlocks};
 
-const PAGE_SIZE: usize = 256;
+// A block has 4,096 bytes, 16 pages.
+pub const BLOCK_SIZE: usize = 4096;
 
-const BLOCK_SIZE: usize = 4096;
+pub const PAGES_IN_BLOCK: usize = 16;
 
+// An image has 8 to 256 blocks.
 const FEWEST_BLOCKS: usize = 8;
 
 const MOST_BLOCKS: usize = 256;
@@ -29,13 +33,22 @@ pub fn size_right(image: &[u8]) -> bool
     n <= MOST_BLOCKS
 }
 
+// The form of page g.
+pub fn form_at(image: &[u8], g: usize) -> Form
+    requires { ⌜ g * pageSize + pageSize ≤ length (now image) ⌝ }
+    ensures { λ r. ⌜ r ≡ formAt (now (image .entry)) g ⌝ }
+{
+    let at = g * Frame::PAGE;
+    forms::form(&image[at..at + Frame::PAGE])
+}
+
 // Whether page g is empty.
 pub fn page_empty(image: &[u8], g: usize) -> bool
     requires { ⌜ g * pageSize + pageSize ≤ length (now image) ⌝ }
     ensures { λ r. ⌜ r ≡ pageEmpty (now (image .entry)) g ⌝ }
 {
-    let start = g * PAGE_SIZE;
-    forms::is_empty(&image[start..start + PAGE_SIZE])
+    let start = g * Frame::PAGE;
+    forms::is_empty(&image[start..start + Frame::PAGE])
 }
 
 // Whether block b is empty.

@@ -1,5 +1,7 @@
 // The two steps of the flash as far as the power goes: a block is erased, a page is programmed.
 use crate::Power;
+use crate::look;
+use page::Frame;
 use page::bytes;
 use page::writers;
 ghost use mathlib.Core.Path.{_≡_};
@@ -11,10 +13,7 @@ ghost use Rattle.image.specs.Size.{blockSize};
 ghost use Rattle.image.specs.Step.{program, erase};
 ghost use Rattle.image.specs.Power.{device, act, reach, lessStep};
 
-const PAGE_SIZE: usize = 256;
-
-const BLOCK_SIZE: usize = 4096;
-
+// An erased byte.
 const ERASED: u8 = 0xff;
 
 // How many bytes of the next step the power lasts for: no step has more than a block's.
@@ -24,7 +23,7 @@ fn reach_of(p: Power) -> usize
     if p.steps == 0 {
         return p.bytes;
     }
-    BLOCK_SIZE
+    look::BLOCK_SIZE
 }
 
 // What is left of the power after a step.
@@ -63,60 +62,122 @@ pub fn erase_block(image: &mut [u8], b: usize, p: Power) -> Power
     if !p.on {
         return p;
     }
-    let start = b * BLOCK_SIZE;
-    let n = smaller(reach_of(p), BLOCK_SIZE);
+    let start = b * look::BLOCK_SIZE;
+    let n = smaller(reach_of(p), look::BLOCK_SIZE);
     bytes::fill(&mut image[start..start + n], ERASED);
     after_step(p)
 }
 
 // Programs page g with a node.
-pub fn program_node(image: &mut [u8], g: usize, sequence: u32, file: u32, offset: u32, position: u32, key: [u8; 16], payload: &[u8], p: Power) -> Power
+pub fn program_node(
+    image: &mut [u8],
+    g: usize,
+    sequence: u32,
+    file: u32,
+    offset: u32,
+    position: u32,
+    key: [u8; 16],
+    payload: &[u8],
+    p: Power,
+) -> Power
     requires { ⌜ (g * pageSize + pageSize ≤ length (now image)) × (length (now payload) ≡ payloadSize) ⌝ }
     ensures { λ r. ⌜ device r (now (image .exit)) ≡ act (program g (nodePage sequence file offset position key (now (payload .entry)))) (device p (now (image .entry))) ⌝ }
 {
     if !p.on {
         return p;
     }
-    let start = g * PAGE_SIZE;
-    writers::write_node(&mut image[start..start + PAGE_SIZE], sequence, file, offset, position, key, payload, reach_of(p));
+    let start = g * Frame::PAGE;
+    writers::write_node(
+        &mut image[start..start + Frame::PAGE],
+        sequence,
+        file,
+        offset,
+        position,
+        key,
+        payload,
+        reach_of(p),
+    );
     after_step(p)
 }
 
 // Programs page g with a cut-off.
-pub fn program_cut_off(image: &mut [u8], g: usize, sequence: u32, file: u32, offset: u32, p: Power) -> Power
+pub fn program_cut_off(
+    image: &mut [u8],
+    g: usize,
+    sequence: u32,
+    file: u32,
+    offset: u32,
+    p: Power,
+) -> Power
     requires { ⌜ g * pageSize + pageSize ≤ length (now image) ⌝ }
     ensures { λ r. ⌜ device r (now (image .exit)) ≡ act (program g (cutOffPage sequence file offset)) (device p (now (image .entry))) ⌝ }
 {
     if !p.on {
         return p;
     }
-    let start = g * PAGE_SIZE;
-    writers::write_cut_off(&mut image[start..start + PAGE_SIZE], sequence, file, offset, reach_of(p));
+    let start = g * Frame::PAGE;
+    writers::write_cut_off(
+        &mut image[start..start + Frame::PAGE],
+        sequence,
+        file,
+        offset,
+        reach_of(p),
+    );
     after_step(p)
 }
 
 // Programs page g as page i of key block 0 or 1, with its keys.
-pub fn program_key_page(image: &mut [u8], g: usize, epoch: u32, block: u32, i: u32, keys: &[u8], p: Power) -> Power
+pub fn program_key_page(
+    image: &mut [u8],
+    g: usize,
+    epoch: u32,
+    block: u32,
+    i: u32,
+    keys: &[u8],
+    p: Power,
+) -> Power
     requires { ⌜ (g * pageSize + pageSize ≤ length (now image)) × (length (now keys) ≡ payloadSize) ⌝ }
     ensures { λ r. ⌜ device r (now (image .exit)) ≡ act (program g (keysPage epoch block i (now (keys .entry)))) (device p (now (image .entry))) ⌝ }
 {
     if !p.on {
         return p;
     }
-    let start = g * PAGE_SIZE;
-    writers::write_key_page(&mut image[start..start + PAGE_SIZE], epoch, block, i, keys, reach_of(p));
+    let start = g * Frame::PAGE;
+    writers::write_key_page(
+        &mut image[start..start + Frame::PAGE],
+        epoch,
+        block,
+        i,
+        keys,
+        reach_of(p),
+    );
     after_step(p)
 }
 
 // Programs page g as part i of a commit.
-pub fn program_commit_page(image: &mut [u8], g: usize, epoch: u32, i: u32, covered: u32, payload: &[u8], p: Power) -> Power
+pub fn program_commit_page(
+    image: &mut [u8],
+    g: usize,
+    epoch: u32,
+    i: u32,
+    covered: u32,
+    payload: &[u8],
+    p: Power,
+) -> Power
     requires { ⌜ (g * pageSize + pageSize ≤ length (now image)) × (length (now payload) ≡ payloadSize) ⌝ }
     ensures { λ r. ⌜ device r (now (image .exit)) ≡ act (program g (commitPage epoch i covered (now (payload .entry)))) (device p (now (image .entry))) ⌝ }
 {
     if !p.on {
         return p;
     }
-    let start = g * PAGE_SIZE;
-    writers::write_commit_page(&mut image[start..start + PAGE_SIZE], epoch, i, covered, payload, reach_of(p));
+    let start = g * Frame::PAGE;
+    writers::write_commit_page(
+        &mut image[start..start + Frame::PAGE],
+        epoch,
+        i,
+        covered,
+        payload,
+        reach_of(p),
+    );
     after_step(p)
 }

@@ -1,10 +1,44 @@
--- Cases of document 01, computed from the definitions: P3 to P8, where a key position and a node stand.
+-- Cases of document 01, computed from the definitions: P1 and P2, two headers; P3 to P8, where a key position and a node stand.
 use Prim.Native.Nat.{_+_}
 use mathlib.Core.Path.{_≡_, refl}
+use mathlib.Core.List.{[], _∷_}
+use Rattle.base.specs.Part.{part}
+use Rattle.base.specs.Each.{same}
+use Rattle.page.specs.Column.{columns, spell, valueAfter, numberIn}
+use Rattle.page.specs.Header.{nodeFrame, inRange, headerOf}
 use Rattle.page.specs.Plan.{filePlan, countOf, startOf, placeOf}
 use Rattle.page.specs.Key.{keyBlock, keyPage, keySlot}
 use Rattle.page.specs.Entry.{entrySize, entryPart, entryAt}
+use Rattle.page.specs.declared.Header.the-variants.{Is, Invalid}
 use Rattle.page.specs.declared.Place.the-variants.{At, Outside}
+
+-- `N       7  2   5  31       0: ` is sequence 7, file 2, offset 5, key 31
+pub p1 :
+    headerOf
+    (0x4e ∷
+    0x20 ∷ 0x20 ∷ 0x20 ∷ 0x20 ∷ 0x20 ∷ 0x20 ∷ 0x20 ∷ 0x37 ∷
+    0x20 ∷ 0x20 ∷ 0x32 ∷
+    0x20 ∷ 0x20 ∷ 0x20 ∷ 0x35 ∷
+    0x20 ∷ 0x20 ∷ 0x33 ∷ 0x31 ∷
+    0x20 ∷ 0x20 ∷ 0x20 ∷ 0x20 ∷ 0x20 ∷ 0x20 ∷ 0x20 ∷ 0x30 ∷
+    0x3a ∷ 0x20 ∷ [])
+    ≡ Is (nodeFrame 7 2 5 31)
+unfolding headerOf numberIn spell columns valueAfter same part inRange countOf
+p1 = refl
+
+-- with `0031` it is no header
+pub p2 :
+    headerOf
+    (0x4e ∷
+    0x20 ∷ 0x20 ∷ 0x20 ∷ 0x20 ∷ 0x20 ∷ 0x20 ∷ 0x20 ∷ 0x37 ∷
+    0x20 ∷ 0x20 ∷ 0x32 ∷
+    0x20 ∷ 0x20 ∷ 0x20 ∷ 0x35 ∷
+    0x30 ∷ 0x30 ∷ 0x33 ∷ 0x31 ∷
+    0x20 ∷ 0x20 ∷ 0x20 ∷ 0x20 ∷ 0x20 ∷ 0x20 ∷ 0x20 ∷ 0x30 ∷
+    0x3a ∷ 0x20 ∷ [])
+    ≡ Invalid
+unfolding headerOf numberIn spell columns valueAfter same part
+p2 = refl
 
 -- position 223: block 0, page 15, slot 13
 pub p3 : (keyBlock 223 ≡ 0) × (keyPage 223 ≡ 15) × (keySlot 223 ≡ 13)

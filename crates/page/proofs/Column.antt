@@ -10,11 +10,10 @@ use lib.ListN.{length, getD, set, drop, length-set, drop-of-length-le}
 use lib.Seq.{drop-cons, drop-drop, drop-set-lt, getD-set-same}
 use lib.Dec.{eqb, ltb}
 use borrow.Author.Tests.{eqb-true, le-ltb, ltb-false}
-use Rattle.base.specs.Each.{Each, Bytes, same}
+use Rattle.base.specs.Each.{Bytes, same}
 use Rattle.base.proofs.Eachs.{same-true, same-refl}
 use Rattle.page.specs.Frame.{space}
 use Rattle.page.specs.Column.{zeroDigit, column, columns, spell, digit, valueAfter, numberIn}
-use Rattle.page.specs.declared.Number.{Number}
 use Rattle.page.specs.declared.Number.the-variants.{Is, Misspelt}
 
 -- ---- columns, from the right

@@ -13,28 +13,22 @@ use Rattle.cipher.specs.CounterMode.{counterMode}
 use Rattle.cipher.specs.KeyExpansion.{keyExpansion}
 use Rattle.cipher.proofs.Laws.{length-counter-mode, counter-mode-twice}
 use Rattle.page.specs.Frame.{headerSize, payloadSize, closingSize, pageSize, closingAt, erased, closing, space}
-use Rattle.page.specs.Column.{spell}
 use Rattle.page.specs.Header.{headerBytes, nodeFrame, cutOffFrame, keysFrame, commitFrame}
 use Rattle.page.specs.Key.{keySize, keysInPage, keyInPage}
 use Rattle.page.specs.Page.{pageBytes, enciphered, nodePage, cutOffPage, keysPage, commitPage, payloadOf, cutPage}
 use Rattle.page.specs.declared.Frame.{Frame}
-use Rattle.page.proofs.Column.{length-spell}
+use Rattle.page.proofs.HeaderLaws.{length-header}
 use Rattle.page.proofs.Slices.{part-front, part-past, part-middle, part-back, part-replicate, splice-middle, three-parts}
-
-length-header : (f : Frame) → length (headerBytes f) ≡ headerSize
-unfolding headerBytes
-length-header f =
-    let a = length-spell 8 (f .number) (omega arith) in
-    let b = length-spell 3 (f .unit) (omega arith) in
-    let c = length-spell 4 (f .part) (omega arith) in
-    let d = length-spell 4 (f .key) (omega arith) in
-    let e = length-spell 8 (f .second) (omega arith) in
-    simp length-append (omega arith)
 
 -- ---- enciphering
 pub enciphered-length : (key payload : List ℕ) → length (enciphered key payload) ≡ length payload
 unfolding enciphered
 enciphered-length key payload = length-counter-mode (keyExpansion key) payload
+
+-- what the cipher leaves under the round keys of a key
+pub stream-enciphered : (key w s zs : List ℕ) → zs ≡ counterMode w s → w ≡ keyExpansion key → zs ≡ enciphered key s
+unfolding enciphered
+stream-enciphered key w s zs e h = e ∙ ap (λ (v : List ℕ). counterMode v s) h
 
 -- the same both ways
 pub enciphered-twice : (key payload : List ℕ) → enciphered key (enciphered key payload) ≡ payload
@@ -72,6 +66,10 @@ module _ (f : Frame) (payload : List ℕ) (h : length payload ≡ payloadSize) w
   page-splice ys e = splice-middle (headerBytes f) payload closing ys headerSize (length-header f) (h ∙ sym e)
 
 -- ---- the pages of each kind
+-- what is said of a page of the frame f, said of the frame g that f is
+pub framed : (k : ℕ) (payload page : List ℕ) (f g : Frame) → f ≡ g → page ≡ cutPage k (pageBytes f payload) → page ≡ cutPage k (pageBytes g payload)
+framed k payload page f g e p = p ∙ ap (λ (h : Frame). cutPage k (pageBytes h payload)) e
+
 pub node-length : (sequence file offset position : ℕ) (key payload : List ℕ) → length payload ≡ payloadSize → length (nodePage sequence file offset position key payload) ≡ pageSize
 unfolding nodePage
 node-length sequence file offset position key payload h =
@@ -83,6 +81,14 @@ pub node-back : (sequence file offset position : ℕ) (key payload : List ℕ) �
 unfolding nodePage
 node-back sequence file offset position key payload h =
     rw (payload-back (nodeFrame sequence file offset position) (enciphered key payload) (enciphered-length key payload ∙ h)) (enciphered-twice key payload)
+
+-- a node's page, written with the payload plain and then enciphered in place
+pub node-written : (sequence file offset position : ℕ) (key payload : List ℕ) → length payload ≡ payloadSize
+    → (f : Frame) (page page' : List ℕ) → f ≡ nodeFrame sequence file offset position → page ≡ pageBytes f payload → page' ≡ splice page headerSize (enciphered key (payloadOf page))
+    → page' ≡ nodePage sequence file offset position key payload
+unfolding nodePage
+node-written sequence file offset position key payload h f page page' e p q =
+    q ∙ rw (p, payload-back f payload h, page-splice f payload h (enciphered key payload) (enciphered-length key payload ∙ h), e)
 
 pub cut-off-length : (sequence file offset : ℕ) → length (cutOffPage sequence file offset) ≡ pageSize
 unfolding cutOffPage

@@ -15,12 +15,15 @@ use Rattle.page.specs.declared.Form.the-variants.{Empty, Whole, Torn, Sp
 unfoldable pub isEmpty : List ℕ → Bool
 isEmpty xs = allAre erased xs
 
+-- the last two bytes are the closing
 unfoldable pub closed : List ℕ → Bool
 closed page = same (part page closingAt closingSize) closing
 
+-- the form, by the header that the page starts with
 abbrev pub formBy : Header → List ℕ → Form
 formBy (Is f) page = cond (closed page) (Whole f) (Torn f)
 formBy Invalid page = cond (isEmpty page) Empty Spoilt
 
+-- the form of a page
 unfoldable pub formOf : List ℕ → Form
 formOf page = formBy (headerOf (part page 0 headerSize)) page

@@ -45,6 +45,7 @@ lastKeyPage = 15
 abbrev pub lastPart : ℕ
 lastPart = 9
 
+-- n is from low to high
 abbrev pub within : ℕ → ℕ → ℕ → Bool
 within low high n = leb low n && leb n high
 
@@ -84,6 +85,7 @@ abbrev pub commitRanges : Frame → Bool
 commitRanges f =
     within 1 lastNumber (f .number) && eqb (f .unit) 0 && leb (f .part) lastPart && eqb (f .key) 0 && leb (f .second) lastNumber
 
+-- the kind is one of the four letters, and each field in that kind's range
 unfoldable pub inRange : Frame → Bool
 inRange f =
     cond (eqb (f .kind) nodeLetter) (nodeRanges f)
@@ -96,6 +98,7 @@ unfoldable pub headerBytes : Frame → List ℕ
 headerBytes f =
     f .kind ∷ (spell 8 (f .number) ++ (spell 3 (f .unit) ++ (spell 4 (f .part) ++ (spell 4 (f .key) ++ (spell 8 (f .second) ++ colonSpace)))))
 
+-- what follows a number that is spelt right; where it is misspelt there is no header
 abbrev pub andThen : Number → (ℕ → Header) → Header
 andThen (IsNumber n) f = f n
 andThen Misspelt f = Invalid

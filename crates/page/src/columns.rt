@@ -3,6 +3,7 @@ use crate::Number;
 ghost use mathlib.Core.Path.{_≡_};
 ghost use Prim.Native.Nat.{_+_, _≤_, _<_};
 ghost use lib.ListN.{length};
+ghost use Rattle.base.specs.Part.{part, splice};
 ghost use Rattle.base.specs.Each.{same};
 ghost use Rattle.page.specs.Column.{zeroDigit, column, spell, digit, valueAfter, numberIn};
 
@@ -40,6 +41,14 @@ pub fn put(dst: &mut [u8], w: usize, n: u32)
         dst[i] = column_of(m);
         m = m / 10;
     }
+}
+
+// Writes n into the w columns of dst from at on.
+pub fn put_at(dst: &mut [u8], at: usize, w: usize, n: u32)
+    requires { ⌜ (at + w ≤ length (now dst)) × (1 ≤ w) ⌝ }
+    ensures { λ _. ⌜ now (dst .exit) ≡ splice (now (dst .entry)) at (spell w n) ⌝ }
+{
+    put(&mut dst[at..at + w], w, n);
 }
 
 // Whether the columns of src are the spelling of n.
@@ -100,4 +109,12 @@ pub fn get(src: &[u8]) -> Number
     } else {
         Number::Misspelt
     }
+}
+
+// The number that the w columns of src from at on hold.
+pub fn get_at(src: &[u8], at: usize, w: usize) -> Number
+    requires { ⌜ (at + w ≤ length (now src)) × (1 ≤ w) × (w ≤ 8) ⌝ }
+    ensures { λ r. ⌜ r ≡ numberIn (part (now (src .entry)) at w) ⌝ }
+{
+    get(&src[at..at + w])
 }

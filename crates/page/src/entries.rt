@@ -1,5 +1,6 @@
 // A commit's payloads: the letters of key positions, and the entries of places.
 use crate::Entry;
+use crate::Frame;
 use crate::Number;
 use crate::bytes;
 use crate::columns;
@@ -29,8 +30,6 @@ const ENTRY_SIZE: usize = 8;
 const ENTRIES_IN_PART: usize = 28;
 
 const FIRST_ENTRY_PART: usize = 2;
-
-const PAYLOAD_SIZE: usize = 224;
 
 const PLACES: usize = 224;
 
@@ -102,8 +101,8 @@ pub fn write_commit_payload(dst: &mut [u8], map: &[u16], letters: &[u8], i: usiz
     ensures { λ _. ⌜ now (dst .exit) ≡ commitPayload (now (map .entry)) (now (letters .entry)) i ⌝ }
 {
     if i < FIRST_ENTRY_PART {
-        let at = PAYLOAD_SIZE * i;
-        bytes::copy(dst, &letters[at..at + PAYLOAD_SIZE]);
+        let at = Frame::PAYLOAD * i;
+        bytes::copy(dst, &letters[at..at + Frame::PAYLOAD]);
     } else {
         write_entries(dst, map, ENTRIES_IN_PART * (i - FIRST_ENTRY_PART));
     }
@@ -115,7 +114,7 @@ fn all_letters(payload: &[u8]) -> bool
     ensures { λ r. ⌜ r ≡ allFrom (λ j. isLetter (getD (now (payload .entry)) j 0)) payloadSize 0 ⌝ }
 {
     let mut j = 0;
-    while j < PAYLOAD_SIZE {
+    while j < Frame::PAYLOAD {
         if !is_letter(payload[j]) {
             return false;
         }

@@ -1,8 +1,41 @@
 // Headers: the ranges of their fields, their 30 bytes, and the header that 30 bytes are.
 use crate::Frame;
+use crate::Header;
+use crate::Number;
+use crate::bytes;
+use crate::columns;
 use crate::plan;
 ghost use mathlib.Core.Path.{_≡_};
-ghost use Rattle.page.specs.Header.{lastNumber, within, inPlan, nodeRanges, cutOffRanges, keysRanges, commitRanges, inRange};
+ghost use mathlib.Core.Bool.{true, _||_};
+ghost use lib.ListN.{length};
+ghost use lib.Dec.{eqb};
+ghost use Rattle.base.specs.Part.{part};
+ghost use Rattle.base.specs.Each.{same};
+ghost use Rattle.page.specs.Frame.{headerSize, colonSpace};
+ghost use Rattle.page.specs.Header.{nodeLetter, cutOffLetter, keysLetter, commitLetter, lastNumber, within, inPlan, nodeRanges, cutOffRanges, keysRanges, commitRanges, inRange, headerBytes, headerOf};
+
+// Where each number's columns start and how many there are; the kind letter is before them, colon and space after them.
+const NUMBER_AT: usize = 1;
+
+const NUMBER_COLUMNS: usize = 8;
+
+const UNIT_AT: usize = 9;
+
+const UNIT_COLUMNS: usize = 3;
+
+const PART_AT: usize = 12;
+
+const PART_COLUMNS: usize = 4;
+
+const KEY_AT: usize = 16;
+
+const KEY_COLUMNS: usize = 4;
+
+const SECOND_AT: usize = 20;
+
+const SECOND_COLUMNS: usize = 8;
+
+const END_AT: usize = 28;
 
 // The last number of each kind of field.
 const LAST_NUMBER: u32 = 99_999_999;
@@ -82,4 +115,78 @@ pub fn in_range(f: Frame) -> bool
         return is_commit(f);
     }
     false
+}
+
+// Writes the header of f into the 30 bytes of dst.
+pub fn write_header(dst: &mut [u8], f: Frame)
+    requires { ⌜ length (now dst) ≡ headerSize ⌝ }
+    ensures { λ _. ⌜ now (dst .exit) ≡ headerBytes f ⌝ }
+{
+    columns::put_at(dst, NUMBER_AT, NUMBER_COLUMNS, f.number);
+    columns::put_at(dst, UNIT_AT, UNIT_COLUMNS, f.unit);
+    columns::put_at(dst, PART_AT, PART_COLUMNS, f.part);
+    columns::put_at(dst, KEY_AT, KEY_COLUMNS, f.key);
+    columns::put_at(dst, SECOND_AT, SECOND_COLUMNS, f.second);
+    bytes::copy(&mut dst[END_AT..Frame::HEADER], b": ");
+    dst[0] = f.kind;
+}
+
+// Whether b is one of the four kind letters.
+fn is_kind(b: u8) -> bool
+    ensures { λ r. ⌜ r ≡ (eqb b nodeLetter || eqb b cutOffLetter || eqb b keysLetter || eqb b commitLetter) ⌝ }
+{
+    (b == Frame::NODE_LETTER)
+        | (b == Frame::CUT_OFF_LETTER)
+        | (b == Frame::KEYS_LETTER)
+        | (b == Frame::COMMIT_LETTER)
+}
+
+// The header that 30 bytes are which end in colon and space.
+fn read_fields(src: &[u8]) -> Header
+    requires { ⌜ (length (now src) ≡ headerSize) × (same (part (now src) 28 2) colonSpace ≡ true) ⌝ }
+    ensures { λ r. ⌜ r ≡ headerOf (now (src .entry)) ⌝ }
+{
+    let kind = src[0];
+    let Number::Is(number) = columns::get_at(src, NUMBER_AT, NUMBER_COLUMNS) else {
+        return Header::Invalid;
+    };
+    let Number::Is(unit) = columns::get_at(src, UNIT_AT, UNIT_COLUMNS) else {
+        return Header::Invalid;
+    };
+    let Number::Is(part) = columns::get_at(src, PART_AT, PART_COLUMNS) else {
+        return Header::Invalid;
+    };
+    let Number::Is(key) = columns::get_at(src, KEY_AT, KEY_COLUMNS) else {
+        return Header::Invalid;
+    };
+    let Number::Is(second) = columns::get_at(src, SECOND_AT, SECOND_COLUMNS) else {
+        return Header::Invalid;
+    };
+    let f = Frame {
+        kind,
+        number,
+        unit,
+        part,
+        key,
+        second,
+    };
+    if in_range(f) {
+        Header::Is(f)
+    } else {
+        Header::Invalid
+    }
+}
+
+// The header that 30 bytes are. The kind letter and the end are looked at first: most bytes that are no header fail there.
+pub fn read_header(src: &[u8]) -> Header
+    requires { ⌜ length (now src) ≡ headerSize ⌝ }
+    ensures { λ r. ⌜ r ≡ headerOf (now (src .entry)) ⌝ }
+{
+    if !is_kind(src[0]) {
+        return Header::Invalid;
+    }
+    if !bytes::same(&src[END_AT..Frame::HEADER], b": ") {
+        return Header::Invalid;
+    }
+    read_fields(src)
 }

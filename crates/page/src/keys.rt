@@ -1,4 +1,5 @@
 // Key positions: where the key of a position stands, and the key in a slot.
+use crate::Frame;
 use crate::bytes;
 ghost use mathlib.Core.Path.{_≡_};
 ghost use Prim.Native.Nat.{_<_};
@@ -12,8 +13,6 @@ const KEY_SIZE: usize = 16;
 const KEYS_IN_PAGE: usize = 14;
 
 const KEYS_IN_BLOCK: usize = 224;
-
-const HEADER_SIZE: usize = 30;
 
 // The key block of position p.
 pub fn block_of(p: usize) -> usize
@@ -41,7 +40,7 @@ pub fn key_in_page(page: &[u8], slot: usize) -> [u8; 16]
     requires { ⌜ (length (now page) ≡ pageSize) × (slot < keysInPage) ⌝ }
     ensures { λ r. ⌜ r ≡ keyInPage (now (page .entry)) slot ⌝ }
 {
-    let at = HEADER_SIZE + KEY_SIZE * slot;
+    let at = Frame::HEADER + KEY_SIZE * slot;
     let mut key = [0u8; 16];
     bytes::copy(&mut key, &page[at..at + KEY_SIZE]);
     key

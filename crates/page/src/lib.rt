@@ -2,10 +2,12 @@
 pub mod bytes;
 pub mod columns;
 pub mod entries;
+pub mod forms;
 pub mod frames;
 pub mod headers;
 pub mod keys;
 pub mod plan;
+pub mod writers;
 
 // What columns hold.
 pub enum Number {

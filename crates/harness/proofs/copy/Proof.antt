@@ -1,5 +1,5 @@
 -- `copy` makes one slice the same as another. After i turns the first i bytes are copied.
-use mathlib.Core.Path.{_≡_, refl, ap, _∙_}
+use mathlib.Core.Path.{_≡_, refl, ap, ap₂, _∙_}
 use mathlib.Core.List.{List, _++_, append-nil}
 use Prim.Native.Nat.{ℕ, _-_, _≤_}
 use native.Mathlib.Omega.{arith}
@@ -32,13 +32,24 @@ loop-less : tie.Need-loop-less Inv-loop μ-loop
 loop-less c = omega arith
 
 loop-again : tie.Need-loop-again Inv-loop μ-loop
-loop-again c = ?
+loop-again c =
+    let a = c .before .before .before .args in
+    let l = c .before .before .loop in (
+      omega arith,
+      simp length-set (l .inv .1),
+      ap (λ (x : List ℕ). set x (l .i) (getD (now (a .src)) (l .i) 0)) (l .inv .2) ∙ copy-more (now (a .src)) (now (a .dst)) (l .i) 0 (omega arith) (omega arith),
+    )
 
 same-length : tie.Need-same-length Inv-loop μ-loop
-same-length c = ?
+same-length c = c .before .loop .inv .1
 
 returns : tie.Need-returns Inv-loop μ-loop
-returns c = ?
+returns c =
+    let a = c .before .before .args in
+    let l = c .before .loop in
+    l .inv .2
+    ∙ ap₂ (λ (x y : List ℕ). x ++ y) (take-all (l .i) (now (a .src)) (omega arith)) (drop-of-length-le (now (a .dst)) {i = l .i} (omega arith))
+    ∙ append-nil (now (a .src))
 
 pub copy-spec : {M : Type 1} → statement M
 copy-spec =

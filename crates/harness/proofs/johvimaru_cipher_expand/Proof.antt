@@ -1,43 +1,46 @@
+-- `johvimaru_cipher_expand` gives the round keys, or refuses a wrong length.
+use mathlib.Core.Path.{ap, sym, _∙_}
+use borrow.Author.Tests.{eq-eqb, ne-eqb}
+use lib.ListN.{length}
+use Rattle.cipher.specs.KeyExpansion.{keyExpansion}
+use Rattle.cipher.proofs.Laws.{length-key-expansion}
+use Rattle.harness.specs.Answer.{answer, expandAnswer}
 use borrow.Author.Needs.{needs}
 use Rattle.harness.proofs.johvimaru_cipher_expand.Statement.{statement}
 use Rattle.harness.proofs.johvimaru_cipher_expand.Tie as tie
-use Rattle.harness.proofs.johvimaru_cipher_expand.Reads as reads
-use Rattle.harness.proofs.johvimaru_cipher_expand.Lts as lts
-use Rattle.cipher.proofs.expand.Reads as expand-reads
-use Rattle.harness.proofs.array_of.Reads as array-of-reads
-use Rattle.harness.proofs.copy.Reads as copy-reads
 
--- src/lib.rt:45:9
 returns : tie.Need-returns
-returns c = ?
+unfolding expandAnswer
+returns c = rw (ne-eqb _ _ (c .if1 .taken))
 
--- src/lib.rt:48:9
 returns-2 : tie.Need-returns-2
-returns-2 c = ?
+unfolding expandAnswer
+returns-2 c = rw (eq-eqb _ _ (c .before .if1 .left), ne-eqb _ _ (c .if2 .taken))
 
--- src/lib.rt:50:31
 array-of-requires : tie.Need-array-of-requires
 array-of-requires c κs = search needs
 
--- src/lib.rt:50:9
 expand-requires : tie.Need-expand-requires
 expand-requires c κs = search needs
 
--- src/lib.rt:52:20
 slice-aggregate-copy : tie.Need-slice-aggregate-copy
 slice-aggregate-copy c = search needs
 
--- src/lib.rt:52:5
 copy-requires : tie.Need-copy-requires
-copy-requires c κs = ?
+copy-requires c κs =
+    let a = c .before .before .before .before in
+    a .before .if2 .left
+    ∙ sym (ap length (c .before .before .before .expand .ensures) ∙ length-key-expansion (a .array-of .result) (ap length (a .array-of .ensures) ∙ a .before .before .if1 .left))
 
--- src/lib.rt:40:1
 same-length : tie.Need-same-length
 same-length c = search needs
 
--- src/lib.rt:40:1
 returns-3 : tie.Need-returns-3
-returns-3 c = ?
+unfolding expandAnswer
+returns-3 c =
+    let a = c .before .before .before .before .before .before .before in
+    rw (eq-eqb _ _ (a .before .before .if1 .left), eq-eqb _ _ (a .before .if2 .left))
+    (ap (answer 0) (c .before .before .copy .ensures ∙ c .before .before .before .before .before .before .expand .ensures ∙ ap keyExpansion (a .array-of .ensures)))
 
 pub johvimaru-cipher-expand-spec : {M : Type 1} → statement M
 johvimaru-cipher-expand-spec =

@@ -1,35 +1,40 @@
+-- `johvimaru_cipher_stream` gives a text in counter mode, or refuses a key of a wrong length.
+use mathlib.Core.Path.{ap, _∙_}
+use mathlib.Core.List.{List}
+use Prim.Native.Nat.{ℕ}
+use borrow.Author.Tests.{eq-eqb, ne-eqb}
+use denote.Ref.{now}
+use Rattle.cipher.specs.KeyExpansion.{keyExpansion}
+use Rattle.cipher.specs.CounterMode.{counterMode}
+use Rattle.harness.specs.Answer.{answer, streamAnswer}
 use borrow.Author.Needs.{needs}
 use Rattle.harness.proofs.johvimaru_cipher_stream.Statement.{statement}
 use Rattle.harness.proofs.johvimaru_cipher_stream.Tie as tie
-use Rattle.harness.proofs.johvimaru_cipher_stream.Reads as reads
-use Rattle.harness.proofs.johvimaru_cipher_stream.Lts as lts
-use Rattle.cipher.proofs.apply_stream.Reads as apply-stream-reads
-use Rattle.cipher.proofs.expand.Reads as expand-reads
-use Rattle.harness.proofs.array_of.Reads as array-of-reads
 
--- src/lib.rt:79:9
 returns : tie.Need-returns
-returns c = ?
+unfolding streamAnswer
+returns c = rw (ne-eqb _ _ (c .if1 .taken))
 
--- src/lib.rt:81:41
 array-of-requires : tie.Need-array-of-requires
 array-of-requires c κs = search needs
 
--- src/lib.rt:81:26
 expand-requires : tie.Need-expand-requires
 expand-requires c κs = search needs
 
--- src/lib.rt:81:5
 apply-stream-requires : tie.Need-apply-stream-requires
 apply-stream-requires c κs = search needs
 
--- src/lib.rt:74:1
 same-length : tie.Need-same-length
 same-length c = search needs
 
--- src/lib.rt:74:1
 returns-2 : tie.Need-returns-2
-returns-2 c = ?
+unfolding streamAnswer
+returns-2 c =
+    let b = c .before .before .before .before in
+    rw (eq-eqb _ _ (b .before .before .if1 .left))
+    (ap (answer 0)
+    (c .before .before .apply-stream .ensures
+    ∙ ap (λ (w : List ℕ). counterMode w (now (b .before .before .before .before .before .args .text))) (b .expand .ensures ∙ ap keyExpansion (b .before .array-of .ensures))))
 
 pub johvimaru-cipher-stream-spec : {M : Type 1} → statement M
 johvimaru-cipher-stream-spec =

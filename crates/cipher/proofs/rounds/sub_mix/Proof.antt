@@ -1,7 +1,7 @@
 -- `sub_mix` makes a mixed column of the S-box bytes of four bytes, by the round table.
 use mathlib.Core.Path.{_∙_, ap}
-use Prim.Native.Nat.{_/_, _%_}
 use native.Mathlib.Omega.{arith}
+use Rattle.cipher.specs.Words.{byte0, byte1, byte2, byte3}
 use Rattle.cipher.proofs.RoundLaws.{round-entry, rotated1, rotated2, rotated3, mixed}
 use borrow.Author.Needs.{needs}
 use Rattle.cipher.proofs.rounds.sub_mix.Statement.{statement}
@@ -56,10 +56,10 @@ returns : tie.Need-returns
 returns c =
     let s = c .before .before .before .before .before .before .before in
     mixed _ (c .before .before .before .before .rotate-left-8 .result) (c .before .before .rotate-left-16 .result) (c .rotate-left-24 .result)
-    (round-entry (s .pre) (s .args .a % 256) (omega arith))
-    (c .before .before .before .before .rotate-left-8 .ensures ∙ ap rotated1 (round-entry (s .pre) (s .args .b / 256 % 256) (omega arith)))
-    (c .before .before .rotate-left-16 .ensures ∙ ap rotated2 (round-entry (s .pre) (s .args .c / 65536 % 256) (omega arith)))
-    (c .rotate-left-24 .ensures ∙ ap rotated3 (round-entry (s .pre) (s .args .d / 16777216 % 256) (omega arith)))
+    (round-entry (s .pre) (byte0 (s .args .a)) (omega arith))
+    (c .before .before .before .before .rotate-left-8 .ensures ∙ ap rotated1 (round-entry (s .pre) (byte1 (s .args .b)) (omega arith)))
+    (c .before .before .rotate-left-16 .ensures ∙ ap rotated2 (round-entry (s .pre) (byte2 (s .args .c)) (omega arith)))
+    (c .rotate-left-24 .ensures ∙ ap rotated3 (round-entry (s .pre) (byte3 (s .args .d)) (omega arith)))
 
 pub sub-mix-spec : {M : Type 1} → statement M
 sub-mix-spec =

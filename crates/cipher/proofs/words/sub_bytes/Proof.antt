@@ -1,7 +1,7 @@
 -- `sub_bytes` reads four entries of the S-box.
 use mathlib.Core.Path.{_∙_}
-use Prim.Native.Nat.{_/_, _%_}
 use native.Mathlib.Omega.{arith}
+use Rattle.cipher.specs.Words.{byte0, byte1, byte2, byte3}
 use Rattle.cipher.proofs.WordLaws.{four-eq}
 use Rattle.cipher.proofs.RoundLaws.{s-box-entry}
 use borrow.Author.Needs.{needs}
@@ -39,8 +39,8 @@ returns : tie.Need-returns
 returns c =
     let s = c .before .before .before .before .before in
     c .from-le-bytes .ensures
-    ∙ four-eq (s-box-entry (s .pre) (s .args .a % 256) (omega arith)) (s-box-entry (s .pre) (s .args .b / 256 % 256) (omega arith))
-    (s-box-entry (s .pre) (s .args .c / 65536 % 256) (omega arith)) (s-box-entry (s .pre) (s .args .d / 16777216 % 256) (omega arith))
+    ∙ four-eq (s-box-entry (s .pre) (byte0 (s .args .a)) (omega arith)) (s-box-entry (s .pre) (byte1 (s .args .b)) (omega arith))
+    (s-box-entry (s .pre) (byte2 (s .args .c)) (omega arith)) (s-box-entry (s .pre) (byte3 (s .args .d)) (omega arith))
 
 pub sub-bytes-spec : {M : Type 1} → statement M
 sub-bytes-spec =

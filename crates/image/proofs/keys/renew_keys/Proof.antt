@@ -20,7 +20,7 @@ Inv-loop dst₀ image old letters noise first j₀ dst j =
     (j ≤ keysInPage)
     × (length dst ≡ length dst₀)
     × (keysFrom (renewedKey (blockAt image old) letters noise) keysInPage first
-        ≡ take (keySize * j) dst ++ keysFrom (renewedKey (blockAt image old) letters noise) (keysInPage - j) (first + j))
+    ≡ take (keySize * j) dst ++ keysFrom (renewedKey (blockAt image old) letters noise) (keysInPage - j) (first + j))
 
 abbrev μ-loop : tie.MeasureT-loop
 μ-loop dst₀ image old letters noise first j₀ dst j = keysInPage - j

@@ -3,7 +3,7 @@ use mathlib.Core.Path.{sym}
 use denote.Ref.{now}
 use borrow.Author.Tests.{not-true, not-false}
 use Rattle.image.proofs.Runs.{act-off}
-use Rattle.image.proofs.Pages.{keys-page-length}
+use Rattle.page.proofs.Pages.{keys-length}
 use Rattle.image.proofs.Lent.{lent-program}
 use borrow.Author.Needs.{needs}
 use Rattle.image.proofs.steps.program_key_page.Statement.{statement}
@@ -44,7 +44,7 @@ returns-2 c =
     let a = c .before .before .before .before .before .before .before .before .before .before .args in
     lent-program (now (a .image)) (a .p) (c .after-step .result) (not-false _ (c .before .before .before .before .before .before .if1 .left)) (c .after-step .ensures)
     (c .before .before .before .before .reach-of .result) (c .before .before .before .before .reach-of .ensures) _ (a .g) _
-    (search needs, keys-page-length (a .epoch) (a .block) (a .i) (now (a .keys)) (c .before .before .before .before .before .before .before .before .before .before .pre .1))
+    (search needs, keys-length (a .epoch) (a .block) (a .i) (now (a .keys)) (c .before .before .before .before .before .before .before .before .before .before .pre .1))
     (c .before .before .before .write-key-page .ensures)
 
 pub program-key-page-spec : {M : Type 1} → statement M

@@ -3,7 +3,7 @@ use mathlib.Core.Path.{sym}
 use denote.Ref.{now}
 use borrow.Author.Tests.{not-true, not-false}
 use Rattle.image.proofs.Runs.{act-off}
-use Rattle.image.proofs.Pages.{node-page-length}
+use Rattle.page.proofs.Pages.{node-length}
 use Rattle.image.proofs.Lent.{lent-program}
 use borrow.Author.Needs.{needs}
 use Rattle.image.proofs.steps.program_node.Statement.{statement}
@@ -44,7 +44,7 @@ returns-2 c =
     let a = c .before .before .before .before .before .before .before .before .before .before .args in
     lent-program (now (a .image)) (a .p) (c .after-step .result) (not-false _ (c .before .before .before .before .before .before .if1 .left)) (c .after-step .ensures)
     (c .before .before .before .before .reach-of .result) (c .before .before .before .before .reach-of .ensures) _ (a .g) _
-    (search needs, node-page-length (a .sequence) (a .file) (a .offset) (a .position) (a .key) (now (a .payload)) (c .before .before .before .before .before .before .before .before .before .before .pre .1))
+    (search needs, node-length (a .sequence) (a .file) (a .offset) (a .position) (a .key) (now (a .payload)) (c .before .before .before .before .before .before .before .before .before .before .pre .1))
     (c .before .before .before .write-node .ensures)
 
 pub program-node-spec : {M : Type 1} → statement M

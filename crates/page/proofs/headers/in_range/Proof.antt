@@ -24,18 +24,31 @@ is-keys-requires c κs = search needs
 
 returns-3 : tie.Need-returns-3
 unfolding inRange
-returns-3 c = rw (ne-eqb _ _ (c .before .before .before .before .before .if1 .left), ne-eqb _ _ (c .before .before .before .if2 .left), eq-eqb _ _ (c .before .if3 .taken)) (c .is-keys .ensures)
+returns-3 c =
+    let if3 = c .before in
+    let if2 = if3 .before .before in
+    let if1 = if2 .before .before in
+    rw (ne-eqb _ _ (if1 .if1 .left), ne-eqb _ _ (if2 .if2 .left), eq-eqb _ _ (if3 .if3 .taken)) (c .is-keys .ensures)
 
 is-commit-requires : tie.Need-is-commit-requires
 is-commit-requires c κs = search needs
 
 returns-4 : tie.Need-returns-4
 unfolding inRange
-returns-4 c = rw (ne-eqb _ _ (c .before .before .before .before .before .before .before .if1 .left), ne-eqb _ _ (c .before .before .before .before .before .if2 .left), ne-eqb _ _ (c .before .before .before .if3 .left), eq-eqb _ _ (c .before .if4 .taken)) (c .is-commit .ensures)
+returns-4 c =
+    let if4 = c .before in
+    let if3 = if4 .before .before in
+    let if2 = if3 .before .before in
+    let if1 = if2 .before .before in
+    rw (ne-eqb _ _ (if1 .if1 .left), ne-eqb _ _ (if2 .if2 .left), ne-eqb _ _ (if3 .if3 .left), eq-eqb _ _ (if4 .if4 .taken)) (c .is-commit .ensures)
 
 returns-5 : tie.Need-returns-5
 unfolding inRange
-returns-5 c = rw (ne-eqb _ _ (c .before .before .before .before .before .before .if1 .left), ne-eqb _ _ (c .before .before .before .before .if2 .left), ne-eqb _ _ (c .before .before .if3 .left), ne-eqb _ _ (c .if4 .left))
+returns-5 c =
+    let if3 = c .before .before in
+    let if2 = if3 .before .before in
+    let if1 = if2 .before .before in
+    rw (ne-eqb _ _ (if1 .if1 .left), ne-eqb _ _ (if2 .if2 .left), ne-eqb _ _ (if3 .if3 .left), ne-eqb _ _ (c .if4 .left))
 
 pub in-range-spec : {M : Type 1} → statement M
 in-range-spec =

@@ -1,0 +1,38 @@
+-- The pages of a commit block.
+use Prim.Native.Nat.{ℕ, _+_, _*_, _<_, _≤_}
+use native.Mathlib.Omega.{arith}
+use mathlib.Core.Path.{_≡_, refl}
+use mathlib.Core.List.{List}
+use lib.ListN.{length}
+use Rattle.base.specs.Each.{Each}
+use Rattle.base.proofs.Folds.{length-listFrom}
+use Rattle.page.specs.Frame.{pageSize}
+use Rattle.page.specs.Key.{positions}
+use Rattle.page.specs.Entry.{parts, commitPayload}
+use Rattle.page.specs.Page.{commitPage}
+use Rattle.page.proofs.Commits.{payload-length}
+use Rattle.page.proofs.Pages.{commit-length}
+use Rattle.image.specs.Size.{blockSize, pagesInBlock}
+use Rattle.image.specs.Step.{Inside}
+use Rattle.image.specs.Block.{commitBlockSteps}
+use Rattle.image.proofs.Rows.{rowSteps, row-inside}
+
+-- part i of a commit of an epoch and a covered sequence, from map and letters
+abbrev pub commitBlockPage : ℕ → ℕ → List ℕ → List ℕ → ℕ → List ℕ
+commitBlockPage epoch covered map letters i = commitPage epoch i covered (commitPayload map letters i)
+
+module _ (epoch covered : ℕ) (map letters : List ℕ) where
+  pub commit-block-steps : (b : ℕ) → commitBlockSteps epoch covered b map letters ≡ rowSteps b (commitBlockPage epoch covered map letters) parts 0
+  unfolding commitBlockSteps
+  commit-block-steps b = refl
+
+  pub commit-block-count : (b : ℕ) → length (commitBlockSteps epoch covered b map letters) ≡ parts
+  unfolding commitBlockSteps
+  commit-block-count b = length-listFrom _ parts 0
+
+  pub commit-page-size : length letters ≡ positions → (i : ℕ) → i < pagesInBlock → length (commitBlockPage epoch covered map letters i) ≡ pageSize
+  commit-page-size l i h = commit-length epoch i covered (commitPayload map letters i) (payload-length map letters i l)
+
+  pub commit-block-inside : (n b : ℕ) → length letters ≡ positions → b * blockSize + blockSize ≤ n → Each (Inside n) (commitBlockSteps epoch covered b map letters)
+  unfolding commitBlockSteps
+  commit-block-inside n b l f = row-inside b (commitBlockPage epoch covered map letters) (commit-page-size l) n parts 0 f (omega arith)

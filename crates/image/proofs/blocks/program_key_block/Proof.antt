@@ -1,0 +1,75 @@
+-- `blocks::program_key_block` programs page after page: with i pages done, those from i on are left to run, and the last copy stands.
+use Prim.Native.Nat.{_≤_, _-_}
+use native.Mathlib.Omega.{arith}
+use mathlib.Core.Path.{_≡_, refl, sym, _∙_}
+use lib.ListN.{length}
+use denote.Ref.{now}
+use borrow.Author.Needs.{needs}
+use Rattle.image.specs.Size.{pagesInBlock}
+use Rattle.image.specs.Look.{blockAt}
+use Rattle.image.specs.Power.{device, run}
+use Rattle.image.specs.Block.{renewedKey, keyBlockSteps}
+use Rattle.image.proofs.Rows.{rowSteps}
+use Rattle.image.proofs.Runs.{run-next, run-none, block-done-other}
+use Rattle.image.proofs.KeyBlock.{keyBlockPage, key-page-size, renewed-at-length}
+use Rattle.image.proofs.blocks.program_key_block.Statement.{statement}
+use Rattle.image.proofs.blocks.program_key_block.Tie as tie
+
+abbrev Inv-loop : tie.InvT-loop
+Inv-loop image₀ b epoch block old letters noise q₀ i₀ image q i =
+    (i ≤ pagesInBlock)
+    × (length image ≡ length image₀)
+    × (blockAt image old ≡ blockAt image₀ old)
+    × (run (rowSteps b (keyBlockPage epoch block (renewedKey (blockAt image₀ old) letters noise)) pagesInBlock 0) (device q₀ image₀)
+    ≡ run (rowSteps b (keyBlockPage epoch block (renewedKey (blockAt image₀ old) letters noise)) (pagesInBlock - i) i) (device q image))
+
+abbrev μ-loop : tie.MeasureT-loop
+μ-loop image₀ b epoch block old letters noise q₀ i₀ image q i = pagesInBlock - i
+
+loop-holds : tie.Need-loop-holds Inv-loop μ-loop
+loop-holds c = (omega arith, refl, refl, refl)
+
+program-next-keys-requires : tie.Need-program-next-keys-requires Inv-loop μ-loop
+program-next-keys-requires c κs = search needs
+
+add-i : tie.Need-add-i Inv-loop μ-loop
+add-i c = search needs
+
+loop-less : tie.Need-loop-less Inv-loop μ-loop
+loop-less c = search needs
+
+loop-again : tie.Need-loop-again Inv-loop μ-loop
+loop-again c =
+    let l = c .before .before .before .before .before .loop in
+    let w = c .before .before .program-next-keys in
+    let a = c .before .before .before .before .before .before .before .before .before .args in
+    let pre = c .before .before .before .before .before .before .before .before .before .pre in
+    let e = rw (l .inv .2) at (w .ensures) in
+    let size = key-page-size (a .epoch) (a .block) (renewedKey (blockAt (now (a .image)) (a .old)) (now (a .letters)) (now (a .noise)))
+    (renewed-at-length (now (a .image)) (now (a .letters)) (now (a .noise)) (a .old) (omega arith) (omega arith)) (omega arith) (l .i) (omega arith) in (
+      omega arith,
+      w .kept .0 ∙ l .inv .1,
+      block-done-other _ (l .q) (w .result) (l .image) (w .last .0) (a .old) e (omega arith, size) (λ f. omega arith) ∙ l .inv .2,
+      l .inv .3 ∙ run-next _ pagesInBlock (l .i) _ _ (omega arith) e,
+    )
+
+same-length : tie.Need-same-length Inv-loop μ-loop
+same-length c = c .before .loop .inv .1
+
+returns : tie.Need-returns Inv-loop μ-loop
+unfolding keyBlockSteps
+returns c = let l = c .before .loop in sym (l .inv .3 ∙ run-none _ pagesInBlock (l .i) _ (c .loop-test .left))
+
+pub program-key-block-spec : {M : Type 1} → statement M
+program-key-block-spec =
+    tie.close
+    (tie.spec
+    Inv-loop
+    μ-loop
+    loop-holds
+    program-next-keys-requires
+    add-i
+    loop-less
+    loop-again
+    same-length
+    returns)

@@ -1,0 +1,210 @@
+-- Laws of page forms: the form of a page that was programmed whole or in part, and what a form says of a page's bytes.
+use Prim.Native.Nat.{ℕ, _+_, _<_, _≤_}
+use native.Mathlib.Omega.{arith}
+use native.Mathlib.Decide.{decLt, ℕ-discrete}
+use mathlib.Core.Path.{_≡_, refl, sym, ap, _∙_}
+use mathlib.Core.Logic.{_⊎_, inl, inr, _↔_}
+use mathlib.Core.Bool.{Bool, true, false, cond}
+use mathlib.Core.List.{List, [], _∷_, _++_}
+use lib.ListN.{length, getD, replicate}
+use lib.Dec.{eqb, ltb}
+use borrow.Author.Tests.{eqb-true, eq-eqb, ne-eqb, lt-ltb, le-ltb}
+use Rattle.base.specs.Part.{part}
+use Rattle.base.specs.Each.{same, allAre}
+use Rattle.base.proofs.Choice.{and-true}
+use Rattle.base.proofs.Parts.{part-part, part-length}
+use Rattle.base.proofs.Eachs.{same-true, same-refl, same-false, allAre-true, allAre-replicate}
+use Rattle.page.specs.Frame.{headerSize, payloadSize, closingSize, pageSize, closingAt, erased, closing}
+use Rattle.page.specs.Header.{nodeLetter, cutOffLetter, keysLetter, commitLetter, inRange, headerBytes, headerOf}
+use Rattle.page.specs.Form.{isEmpty, closed, formBy, formOf}
+use Rattle.page.specs.Page.{pageBytes, payloadOf, cutPage}
+use Rattle.page.specs.declared.Frame.{Frame}
+use Rattle.page.specs.declared.Header.{Header}
+use Rattle.page.specs.declared.Header.the-variants.{Is, Invalid}
+use Rattle.page.specs.declared.Form.{Form}
+use Rattle.page.specs.declared.Form.the-variants.{Empty, Whole, Torn, Spoilt}
+use Rattle.page.proofs.Slices.{part-replicate, part-halves}
+use Rattle.page.proofs.Ranges.{kinds}
+use Rattle.page.proofs.HeaderLaws.{header-read, header-is, header-range, no-kind, no-colon}
+use Rattle.page.proofs.Pages.{page-length, header-back, closing-back, cut-length, cut-whole, cut-before, cut-after}
+
+-- ---- a form goes by the header, by whether the page is closed and whether it is empty
+abbrev formFrom : Header → Bool → Bool → Form
+formFrom (Is f) closed empty = cond closed (Whole f) (Torn f)
+formFrom Invalid closed empty = cond empty Empty Spoilt
+
+pub form-from : (page : List ℕ) → formOf page ≡ formFrom (headerOf (part page 0 headerSize)) (closed page) (isEmpty page)
+unfolding formOf
+form-from page = go (headerOf (part page 0 headerSize))
+  where
+    go : (h : Header) → formBy h page ≡ formFrom h (closed page) (isEmpty page)
+    go (Is f) = refl
+    go Invalid = refl
+
+from-whole : (h : Header) (c e : Bool) (f : Frame) → formFrom h c e ≡ Whole f → (h ≡ Is f) × (c ≡ true)
+from-whole (Is g) true e f t = (cc, refl)
+from-whole (Is g) false e f t = absurd (let z : _≡_ {A = ℕ} 0 1 = cc in omega arith)
+from-whole Invalid c true f t = absurd (let z : _≡_ {A = ℕ} 0 1 = cc in omega arith)
+from-whole Invalid c false f t = absurd (let z : _≡_ {A = ℕ} 0 1 = cc in omega arith)
+
+from-torn : (h : Header) (c e : Bool) (f : Frame) → formFrom h c e ≡ Torn f → (h ≡ Is f) × (c ≡ false)
+from-torn (Is g) true e f t = absurd (let z : _≡_ {A = ℕ} 0 1 = cc in omega arith)
+from-torn (Is g) false e f t = (cc, refl)
+from-torn Invalid c true f t = absurd (let z : _≡_ {A = ℕ} 0 1 = cc in omega arith)
+from-torn Invalid c false f t = absurd (let z : _≡_ {A = ℕ} 0 1 = cc in omega arith)
+
+from-empty : (h : Header) (c e : Bool) → formFrom h c e ≡ Empty → e ≡ true
+from-empty (Is g) true e t = absurd (let z : _≡_ {A = ℕ} 0 1 = cc in omega arith)
+from-empty (Is g) false e t = absurd (let z : _≡_ {A = ℕ} 0 1 = cc in omega arith)
+from-empty Invalid c true t = refl
+from-empty Invalid c false t = absurd (let z : _≡_ {A = ℕ} 0 1 = cc in omega arith)
+
+-- pages with the same header, the same closing and emptiness have the same form
+pub form-agree : (p q : List ℕ) → part p 0 headerSize ≡ part q 0 headerSize → closed p ≡ closed q → isEmpty p ≡ isEmpty q → formOf p ≡ formOf q
+form-agree p q h c e = form-from p ∙ rw (h, c, e) (sym (form-from q))
+
+-- ---- what a form says of a page's bytes
+module _ (page : List ℕ) (f : Frame) where
+  pub whole-is : formOf page ≡ Whole f → (headerOf (part page 0 headerSize) ≡ Is f) × (closed page ≡ true)
+  whole-is e = from-whole (headerOf (part page 0 headerSize)) (closed page) (isEmpty page) f (sym (form-from page) ∙ e)
+
+  pub torn-is : formOf page ≡ Torn f → (headerOf (part page 0 headerSize) ≡ Is f) × (closed page ≡ false)
+  torn-is e = from-torn (headerOf (part page 0 headerSize)) (closed page) (isEmpty page) f (sym (form-from page) ∙ e)
+
+  pub is-whole : headerOf (part page 0 headerSize) ≡ Is f → closed page ≡ true → formOf page ≡ Whole f
+  is-whole h c = form-from page ∙ rw (h, c)
+
+  pub is-torn : headerOf (part page 0 headerSize) ≡ Is f → closed page ≡ false → formOf page ≡ Torn f
+  is-torn h c = form-from page ∙ rw (h, c)
+
+  -- its header is that of f, and f is in range
+  pub whole-range : formOf page ≡ Whole f → inRange f ≡ true
+  whole-range e = header-range (part page 0 headerSize) f (whole-is e .0)
+
+  pub torn-range : formOf page ≡ Torn f → inRange f ≡ true
+  torn-range e = header-range (part page 0 headerSize) f (torn-is e .0)
+
+  module _ (l : length page ≡ pageSize) where
+    pub whole-header : formOf page ≡ Whole f → part page 0 headerSize ≡ headerBytes f
+    whole-header e = header-is (part page 0 headerSize) f (part-length page 0 headerSize (omega arith)) (whole-is e .0)
+
+    pub torn-header : formOf page ≡ Torn f → part page 0 headerSize ≡ headerBytes f
+    torn-header e = header-is (part page 0 headerSize) f (part-length page 0 headerSize (omega arith)) (torn-is e .0)
+
+    -- a whole page is its header, its payload and the closing
+    pub whole-bytes : formOf page ≡ Whole f → page ≡ pageBytes f (payloadOf page)
+    unfolding pageBytes payloadOf closed
+    whole-bytes e =
+        let n : ℕ = payloadSize + closingSize in
+        let back = part page headerSize n in
+        let two : back ≡ part page headerSize payloadSize ++ closing =
+        sym (part-halves back payloadSize closingSize (part-length page headerSize n (omega arith)))
+        ∙ rw (
+          part-part page headerSize n 0 payloadSize (omega arith),
+          part-part page headerSize n payloadSize closingSize (omega arith),
+          same-true (part page closingAt closingSize) closing (whole-is e .1),
+        ) in
+        sym (part-halves page headerSize n l) ∙ rw (whole-header e, two)
+
+-- ---- empty pages
+pub empty-part : (page : List ℕ) (a n : ℕ) → isEmpty page ≡ true → a + n ≤ length page → part page a n ≡ replicate n erased
+unfolding isEmpty
+empty-part page a n e h = rw (allAre-true erased page e) (part-replicate (length page) a n erased h)
+
+-- an erased byte starts no header
+pub empty-header : (page : List ℕ) → isEmpty page ≡ true → headerOf (part page 0 headerSize) ≡ Invalid
+unfolding isEmpty allAre part
+empty-header [] e = no-kind [] refl
+empty-header (x ∷ xs) e =
+    let b = eqb-true x erased (and-true (eqb x erased) (allAre erased xs) e .0) in
+    no-kind (part (x ∷ xs) 0 headerSize) (rw b)
+
+pub empty-form : (page : List ℕ) → (formOf page ≡ Empty) ↔ (isEmpty page ≡ true)
+empty-form page = (
+  λ e. from-empty (headerOf (part page 0 headerSize)) (closed page) (isEmpty page) (sym (form-from page) ∙ e),
+  λ e. form-from page ∙ rw (empty-header page e, e),
+)
+
+-- ---- the form of what a program leaves
+-- a letter is no erased byte
+kind-written : (f : Frame) → inRange f ≡ true → f .kind ≡ erased → ⊥
+kind-written f e h = go (kinds f e)
+  where
+    go : (f .kind ≡ nodeLetter) ⊎ (f .kind ≡ cutOffLetter) ⊎ (f .kind ≡ keysLetter) ⊎ (f .kind ≡ commitLetter) → ⊥
+    go (inl k) = omega arith
+    go (inr (inl k)) = omega arith
+    go (inr (inr (inl k))) = omega arith
+    go (inr (inr (inr k))) = omega arith
+
+-- two bytes whose last is erased are no others
+last-erased : (xs : List ℕ) (a x y : ℕ) → part xs (a + 1) 1 ≡ erased ∷ [] → (y ≡ erased → ⊥) → same (part xs a 2) (x ∷ (y ∷ [])) ≡ false
+unfolding part
+last-erased xs a x y h d =
+    same-false (part xs a 2) (x ∷ (y ∷ [])) λ e.
+    d (sym (ap (λ (l : List ℕ). getD l 0 0) (sym h ∙ sym (part-part xs a 2 1 1 (omega arith)) ∙ ap (λ (l : List ℕ). part l 1 1) e)))
+
+-- where no byte was written the page is empty
+pub cut-none : (page : List ℕ) → cutPage 0 page ≡ replicate pageSize erased
+unfolding cutPage
+cut-none page = refl
+
+form-none : (page : List ℕ) → formOf (cutPage 0 page) ≡ Empty
+unfolding isEmpty
+form-none page = empty-form (cutPage 0 page) .1 (rw (cut-none page) (allAre-replicate erased pageSize))
+
+-- the form of a page of f after its first k bytes
+abbrev pub cutForm : ℕ → Frame → Form
+cutForm k f = cond (eqb k 0) Empty (cond (ltb k headerSize) Spoilt (cond (ltb k pageSize) (Torn f) (Whole f)))
+
+module _ (f : Frame) (payload : List ℕ) (ranges : inRange f ≡ true) (l : length payload ≡ payloadSize) where
+  pub form-page : formOf (pageBytes f payload) ≡ Whole f
+  unfolding closed
+  form-page = is-whole (pageBytes f payload) f (rw (header-back f payload l) (header-read f ranges)) (rw (closing-back f payload l) (same-refl closing))
+
+  cut-header : (k : ℕ) → 0 < k → k < headerSize → formOf (cutPage k (pageBytes f payload)) ≡ Spoilt
+  cut-header k a b = form-from cut ∙ rw (no-header, not-empty (isEmpty cut) refl)
+    where
+      p : List ℕ
+      p = pageBytes f payload
+
+      cut : List ℕ
+      cut = cutPage k p
+
+      m : length p ≡ pageSize
+      m = page-length f payload l
+
+      no-header : headerOf (part cut 0 headerSize) ≡ Invalid
+      no-header =
+          no-colon (part cut 0 headerSize)
+          (rw (part-part cut 0 headerSize 28 2 (omega arith)) (last-erased cut 28 0x3a 0x20 (cut-after k p m 29 1 (omega arith) (omega arith)) (λ e. omega arith)))
+
+      first : part p 0 1 ≡ f .kind ∷ []
+      first = unfold pageBytes headerBytes part in refl
+
+      not-empty : (e : Bool) → isEmpty cut ≡ e → e ≡ false
+      not-empty false q = refl
+      not-empty true q =
+          let n = cut-length k p m in
+          absurd (kind-written f ranges (ap (λ (t : List ℕ). getD t 0 0) (sym first ∙ sym (cut-before k p m 0 1 a (omega arith)) ∙ empty-part cut 0 1 q (omega arith))))
+
+  cut-payload : (k : ℕ) → headerSize ≤ k → k < pageSize → formOf (cutPage k (pageBytes f payload)) ≡ Torn f
+  unfolding closed
+  cut-payload k a b =
+      let p = pageBytes f payload in
+      let m = page-length f payload l in
+      is-torn (cutPage k p) f
+      (rw (cut-before k p m 0 headerSize (omega arith) (omega arith), header-back f payload l) (header-read f ranges))
+      (last-erased (cutPage k p) closingAt 0x0d 0x0a (cut-after k p m 255 1 (omega arith) (omega arith)) (λ e. omega arith))
+
+  pub form-cut : (k : ℕ) → formOf (cutPage k (pageBytes f payload)) ≡ cutForm k f
+  form-cut k =
+      elim (ℕ-discrete k 0) [
+        | yes z ↦ rw (eq-eqb k 0 z, z) (form-none (pageBytes f payload))
+        | no z ↦ rw (ne-eqb k 0 z) (elim (decLt k headerSize) [
+          | yes a ↦ rw (lt-ltb k headerSize a) (cut-header k (omega arith) a)
+          | no a ↦ rw (le-ltb k headerSize (omega arith)) (elim (decLt k pageSize) [
+            | yes b ↦ rw (lt-ltb k pageSize b) (cut-payload k (omega arith) b)
+            | no b ↦ rw (le-ltb k pageSize (omega arith), cut-whole k (pageBytes f payload) (page-length f payload l) (omega arith)) form-page
+          ])
+        ])
+      ]

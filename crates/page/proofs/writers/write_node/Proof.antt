@@ -1,0 +1,42 @@
+-- `page::writers::write_node` meets its contract: the page is written whole, its payload enciphered in place, then cut.
+use borrow.Author.Needs.{needs}
+use mathlib.Core.Path.{ap, _∙_}
+use denote.Ref.{now}
+use Rattle.page.specs.Page.{cutPage}
+use Rattle.page.proofs.Pages.{node-written}
+use Rattle.page.proofs.writers.write_node.Statement.{statement}
+use Rattle.page.proofs.writers.write_node.Tie as tie
+
+node-requires : tie.Need-node-requires
+node-requires c κs = search needs
+
+write-whole-requires : tie.Need-write-whole-requires
+write-whole-requires c κs = search needs
+
+encipher-requires : tie.Need-encipher-requires
+encipher-requires c κs = search needs
+
+cut-requires : tie.Need-cut-requires
+cut-requires c κs = search needs
+
+same-length : tie.Need-same-length
+same-length c = search needs
+
+returns : tie.Need-returns
+returns c =
+    let s = c .before .before .before .before .before .before .before .before .before .before .before .before .before .before .before in
+    let a = s .args in
+    c .before .before .cut .ensures
+    ∙ ap (cutPage (a .k))
+    (node-written (a .sequence) (a .file) (a .offset) (a .position) (a .key) (now (a .payload)) (s .pre .1) _ _ _ (c .before .before .before .before .before .before .before .before .before .before .before .node .ensures) (c .before .before .before .before .before .before .before .before .before .before .write-whole .ensures) (c .before .before .before .before .before .before .encipher .ensures))
+
+pub write-node-spec : {M : Type 1} → statement M
+write-node-spec =
+    tie.close
+    (tie.spec
+    node-requires
+    write-whole-requires
+    encipher-requires
+    cut-requires
+    same-length
+    returns)

@@ -1,0 +1,57 @@
+// Page forms: empty, whole, torn, spoilt.
+use crate::Form;
+use crate::Frame;
+use crate::Header;
+use crate::bytes;
+use crate::headers;
+ghost use mathlib.Core.Path.{_≡_};
+ghost use lib.ListN.{length};
+ghost use Rattle.page.specs.Frame.{pageSize};
+ghost use Rattle.page.specs.Form.{isEmpty, closed, formOf};
+
+const ERASED: u8 = 0xff;
+
+// Whether all bytes are FFh.
+pub fn is_empty(bytes: &[u8]) -> bool
+    ensures { λ r. ⌜ r ≡ isEmpty (now (bytes .entry)) ⌝ }
+{
+    let mut i = 0;
+    while i < bytes.len() {
+        if bytes[i] != ERASED {
+            return false;
+        }
+        i += 1;
+    }
+    true
+}
+
+// Whether a page's closing is right.
+fn is_closed(page: &[u8]) -> bool
+    requires { ⌜ length (now page) ≡ pageSize ⌝ }
+    ensures { λ r. ⌜ r ≡ closed (now (page .entry)) ⌝ }
+{
+    bytes::same(&page[Frame::CLOSING_AT..Frame::PAGE], b"\r\n")
+}
+
+// The form of a page.
+pub fn form(page: &[u8]) -> Form
+    requires { ⌜ length (now page) ≡ pageSize ⌝ }
+    ensures { λ r. ⌜ r ≡ formOf (now (page .entry)) ⌝ }
+{
+    match headers::read_header(&page[0..Frame::HEADER]) {
+        Header::Is(f) => {
+            if is_closed(page) {
+                Form::Whole(f)
+            } else {
+                Form::Torn(f)
+            }
+        }
+        Header::Invalid => {
+            if is_empty(page) {
+                Form::Empty
+            } else {
+                Form::Spoilt
+            }
+        }
+    }
+}

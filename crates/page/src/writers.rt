@@ -1,0 +1,112 @@
+// The 256 bytes of a page, written in place up to byte k, and a node's payload read.
+use crate::Frame;
+use crate::bytes;
+use crate::headers;
+ghost use mathlib.Core.Path.{_≡_};
+ghost use lib.ListN.{length};
+ghost use Rattle.base.specs.Part.{splice};
+ghost use Rattle.page.specs.Frame.{headerSize, payloadSize, pageSize};
+ghost use Rattle.page.specs.Page.{pageBytes, enciphered, nodePage, cutOffPage, keysPage, commitPage, payloadOf, cutPage};
+
+// An erased byte.
+const ERASED: u8 = 0xff;
+
+// Writes a page whole: header, payload, closing.
+fn write_whole(page: &mut [u8], f: Frame, payload: &[u8])
+    requires { ⌜ (length (now page) ≡ pageSize) × (length (now payload) ≡ payloadSize) ⌝ }
+    ensures { λ _. ⌜ now (page .exit) ≡ pageBytes f (now (payload .entry)) ⌝ }
+{
+    headers::write_header(&mut page[0..Frame::HEADER], f);
+    bytes::copy(&mut page[Frame::HEADER..Frame::CLOSING_AT], payload);
+    bytes::copy(&mut page[Frame::CLOSING_AT..Frame::PAGE], b"\r\n");
+}
+
+// Leaves of a page what a program that is cut after k bytes leaves.
+fn cut(page: &mut [u8], k: usize)
+    requires { ⌜ length (now page) ≡ pageSize ⌝ }
+    ensures { λ _. ⌜ now (page .exit) ≡ cutPage k (now (page .entry)) ⌝ }
+{
+    if k < Frame::PAGE {
+        bytes::fill(&mut page[k..], ERASED);
+    }
+}
+
+// Enciphers a page's payload in place.
+fn encipher(page: &mut [u8], key: [u8; 16])
+    requires { ⌜ length (now page) ≡ pageSize ⌝ }
+    ensures { λ _. ⌜ now (page .exit) ≡ splice (now (page .entry)) headerSize (enciphered key (payloadOf (now (page .entry)))) ⌝ }
+{
+    cipher::apply_stream(
+        cipher::expand(key),
+        &mut page[Frame::HEADER..Frame::CLOSING_AT],
+    );
+}
+
+// Writes a page of a frame and a payload, as a program that is cut after k bytes.
+pub fn write_page(page: &mut [u8], f: Frame, payload: &[u8], k: usize)
+    requires { ⌜ (length (now page) ≡ pageSize) × (length (now payload) ≡ payloadSize) ⌝ }
+    ensures { λ _. ⌜ now (page .exit) ≡ cutPage k (pageBytes f (now (payload .entry))) ⌝ }
+{
+    write_whole(page, f, payload);
+    cut(page, k);
+}
+
+// Writes a node's page, its payload enciphered under its key.
+pub fn write_node(
+    page: &mut [u8],
+    sequence: u32,
+    file: u32,
+    offset: u32,
+    position: u32,
+    key: [u8; 16],
+    payload: &[u8],
+    k: usize,
+)
+    requires { ⌜ (length (now page) ≡ pageSize) × (length (now payload) ≡ payloadSize) ⌝ }
+    ensures { λ _. ⌜ now (page .exit) ≡ cutPage k (nodePage sequence file offset position key (now (payload .entry))) ⌝ }
+{
+    write_whole(page, Frame::node(sequence, file, offset, position), payload);
+    encipher(page, key);
+    cut(page, k);
+}
+
+// Writes a cut-off's page, its payload spaces.
+pub fn write_cut_off(page: &mut [u8], sequence: u32, file: u32, offset: u32, k: usize)
+    requires { ⌜ length (now page) ≡ pageSize ⌝ }
+    ensures { λ _. ⌜ now (page .exit) ≡ cutPage k (cutOffPage sequence file offset) ⌝ }
+{
+    let spaces = [b' '; Frame::PAYLOAD];
+    write_page(page, Frame::cut_off(sequence, file, offset), &spaces, k);
+}
+
+// Writes page i of a key block, with its 14 keys.
+pub fn write_key_page(page: &mut [u8], epoch: u32, block: u32, i: u32, keys: &[u8], k: usize)
+    requires { ⌜ (length (now page) ≡ pageSize) × (length (now keys) ≡ payloadSize) ⌝ }
+    ensures { λ _. ⌜ now (page .exit) ≡ cutPage k (keysPage epoch block i (now (keys .entry))) ⌝ }
+{
+    write_page(page, Frame::keys(epoch, block, i), keys, k);
+}
+
+// Writes part i of a commit.
+pub fn write_commit_page(
+    page: &mut [u8],
+    epoch: u32,
+    i: u32,
+    covered: u32,
+    payload: &[u8],
+    k: usize,
+)
+    requires { ⌜ (length (now page) ≡ pageSize) × (length (now payload) ≡ payloadSize) ⌝ }
+    ensures { λ _. ⌜ now (page .exit) ≡ cutPage k (commitPage epoch i covered (now (payload .entry))) ⌝ }
+{
+    write_page(page, Frame::commit(epoch, i, covered), payload, k);
+}
+
+// Reads the payload of a node under its key.
+pub fn read_payload(page: &[u8], key: [u8; 16], out: &mut [u8])
+    requires { ⌜ (length (now page) ≡ pageSize) × (length (now out) ≡ payloadSize) ⌝ }
+    ensures { λ _. ⌜ now (out .exit) ≡ enciphered key (payloadOf (now (page .entry))) ⌝ }
+{
+    bytes::copy(out, &page[Frame::HEADER..Frame::CLOSING_AT]);
+    cipher::apply_stream(cipher::expand(key), out);
+}

@@ -1,0 +1,142 @@
+//! Document 01, "Contracts and cases": a list of calls on one image and record, any of which may be
+//! cut, at any n and k.
+
+use super::image::Power;
+use super::keys::NOISE;
+use super::pages::PAYLOAD;
+use super::record::SCRATCH;
+use crate::rng::Rng;
+use std::fmt;
+
+/// A call on an image and record, with its arguments.
+#[derive(Clone, Copy, Debug, PartialEq, Eq)]
+pub enum Call {
+    /// Mount.
+    Mount {
+        /// The length of the scratch.
+        scratch: usize,
+    },
+    /// Write.
+    Write {
+        /// The file.
+        file: usize,
+        /// The offset.
+        offset: usize,
+        /// The payload.
+        payload: Data,
+    },
+    /// Read.
+    Read {
+        /// The file.
+        file: usize,
+        /// The offset.
+        offset: usize,
+        /// The length of the output.
+        output: usize,
+    },
+    /// Cut-off from an offset.
+    CutOff {
+        /// The file.
+        file: usize,
+        /// The offset.
+        offset: usize,
+    },
+    /// Commit.
+    Commit {
+        /// The noise.
+        noise: Data,
+    },
+    /// Wipe.
+    Wipe {
+        /// The file.
+        file: usize,
+        /// The offset.
+        offset: usize,
+        /// The noise.
+        noise: Data,
+    },
+}
+
+/// Bytes by their length and the seed that gives them, so that a list can be printed small.
+#[derive(Clone, Copy, Debug, PartialEq, Eq)]
+pub struct Data {
+    /// How many bytes.
+    pub length: usize,
+    /// The seed of the generator that gives them.
+    pub seed: u64,
+}
+
+impl Data {
+    /// A payload of the right length.
+    pub fn payload(seed: u64) -> Data {
+        Data { length: PAYLOAD, seed }
+    }
+
+    /// Noise of the right length.
+    pub fn noise(seed: u64) -> Data {
+        Data { length: NOISE, seed }
+    }
+
+    /// The bytes.
+    pub fn bytes(self) -> Vec<u8> {
+        Rng::new(self.seed).bytes(self.length)
+    }
+}
+
+impl Call {
+    /// A mount with a scratch of the right length.
+    pub const MOUNT: Call = Call::Mount { scratch: SCRATCH };
+}
+
+/// By how much the length of what is lent for a call differs from the right one.
+#[derive(Clone, Copy, Debug, Default, PartialEq, Eq)]
+pub struct Lent {
+    /// Bytes of the image.
+    pub image: isize,
+    /// Numbers of the map.
+    pub map: isize,
+    /// Letters.
+    pub letters: isize,
+}
+
+impl Lent {
+    /// All lengths are right.
+    pub const RIGHT: Lent = Lent { image: 0, map: 0, letters: 0 };
+}
+
+/// A call of a list: what is lent for it, and when the power fails.
+#[derive(Clone, Copy, Debug, PartialEq, Eq)]
+pub struct Event {
+    /// The call.
+    pub call: Call,
+    /// The lengths of what is lent.
+    pub lent: Lent,
+    /// When the power fails.
+    pub power: Power,
+}
+
+impl From<Call> for Event {
+    fn from(call: Call) -> Event {
+        Event { call, lent: Lent::RIGHT, power: Power::STAYS }
+    }
+}
+
+impl Event {
+    /// The call, cut after `steps` whole steps and `bytes` of the next.
+    pub fn cut(call: Call, steps: usize, bytes: usize) -> Event {
+        Event { power: Power::cut(steps, bytes), ..call.into() }
+    }
+}
+
+impl fmt::Display for Event {
+    fn fmt(&self, f: &mut fmt::Formatter) -> fmt::Result {
+        write!(f, "{:?}", self.call)?;
+        if self.lent != Lent::RIGHT {
+            write!(f, ", {:?}", self.lent)?;
+        }
+        if self.power != Power::STAYS {
+            write!(f, ", cut at ({}, {})", self.power.steps, self.power.bytes)?;
+        }
+        Ok(())
+    }
+}

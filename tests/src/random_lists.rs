@@ -1,0 +1,195 @@
+//! Random lists of calls with cuts, wrong arguments and wrong lengths.
+
+use crate::model::files::{COUNTS, FILES};
+use crate::model::image::{Power, BLOCK, PAGES_IN_BLOCK};
+use crate::model::list::{Call, Data, Event, Lent};
+use crate::model::pages::{HEADER, PAGE};
+use crate::rng::Rng;
+
+/// Makes the calls of one list.
+pub struct RandomList {
+    rng: Rng,
+    habit: Habit,
+    /// How many calls the list has.
+    pub length: usize,
+}
+
+/// What a list is made of: of a hundred calls so many are of each kind (mounts are the rest), and so
+/// many are cut.
+#[derive(Clone, Copy)]
+struct Habit {
+    writes: usize,
+    cut_offs: usize,
+    commits: usize,
+    wipes: usize,
+    reads: usize,
+    cuts: usize,
+    /// Files and offsets are below these, so that nodes are met again.
+    files: usize,
+    offsets: usize,
+    /// The longest list.
+    longest: usize,
+}
+
+/// Some of everything.
+const MIXED: Habit = Habit {
+    writes: 45,
+    cut_offs: 15,
+    commits: 15,
+    wipes: 10,
+    reads: 10,
+    cuts: 30,
+    files: 4,
+    offsets: 4,
+    longest: 40,
+};
+
+/// Cuts upon cuts in commits and wipes.
+const PURGES: Habit =
+    Habit { writes: 30, cut_offs: 10, commits: 30, wipes: 25, reads: 0, cuts: 70, ..MIXED };
+
+/// Cuts upon cuts in writes and cut-offs.
+const TORN: Habit = Habit {
+    writes: 70,
+    cut_offs: 15,
+    commits: 6,
+    wipes: 4,
+    reads: 1,
+    cuts: 60,
+    files: FILES,
+    offsets: 2,
+    longest: 60,
+};
+
+/// Images that fill up. The list is longer, the larger the image.
+const FULL: Habit = Habit {
+    writes: 90,
+    cut_offs: 5,
+    commits: 1,
+    wipes: 0,
+    reads: 1,
+    cuts: 3,
+    files: FILES,
+    offsets: 32,
+    longest: 0,
+};
+
+impl RandomList {
+    /// The list of this seed, for an image of so many blocks.
+    pub fn new(seed: u64, blocks: usize) -> RandomList {
+        let mut rng = Rng::new(seed);
+        let mut habit =
+            [MIXED, MIXED, MIXED, PURGES, PURGES, PURGES, TORN, TORN, TORN, FULL][rng.below(10)];
+        if habit.longest == 0 {
+            habit.longest = 2 * PAGES_IN_BLOCK * blocks;
+        }
+        let length = 1 + rng.below(habit.longest);
+        RandomList { rng, habit, length }
+    }
+
+    /// The next call. While the power is off only mounts can be made.
+    pub fn next(&mut self, on: bool) -> Event {
+        let call = if on { self.call() } else { self.mount() };
+        let cuts = if on { self.habit.cuts } else { 40 };
+        let power = if self.happens(cuts) { self.cut(&call) } else { Power::STAYS };
+        let lent = if self.happens(2) { self.wrong_lengths() } else { Lent::RIGHT };
+        Event { call, lent, power }
+    }
+
+    fn happens(&mut self, percent: usize) -> bool {
+        self.rng.below(100) < percent
+    }
+
+    fn call(&mut self) -> Call {
+        let Habit { writes, cut_offs, commits, wipes, reads, .. } = self.habit;
+        let (file, offset) = self.node();
+        let mut draw = self.rng.below(100);
+        let mut drawn = |share| {
+            let hit = draw < share;
+            draw = draw.saturating_sub(share);
+            hit
+        };
+        if drawn(writes) {
+            Call::Write { file, offset, payload: self.data(Data::payload) }
+        } else if drawn(cut_offs) {
+            Call::CutOff { file, offset }
+        } else if drawn(commits) {
+            Call::Commit { noise: self.data(Data::noise) }
+        } else if drawn(wipes) {
+            Call::Wipe { file, offset, noise: self.data(Data::noise) }
+        } else if drawn(reads) {
+            let output = self.length(224);
+            Call::Read { file, offset, output }
+        } else {
+            self.mount()
+        }
+    }
+
+    fn mount(&mut self) -> Call {
+        Call::Mount { scratch: self.length(224) }
+    }
+
+    /// File and offset, now and then wrong ones.
+    fn node(&mut self) -> (usize, usize) {
+        let file = match self.rng.below(60) {
+            0 => FILES,
+            1 => usize::MAX,
+            _ => self.rng.below(self.habit.files),
+        };
+        let count = COUNTS.get(file).copied().unwrap_or(1);
+        let offset = match self.rng.below(60) {
+            0 => count,
+            1 => usize::MAX,
+            _ => self.rng.below(count.min(self.habit.offsets)),
+        };
+        (file, offset)
+    }
+
+    /// Bytes of the right length, now and then of a wrong one.
+    fn data(&mut self, right: fn(u64) -> Data) -> Data {
+        let data = right(self.rng.number());
+        Data { length: self.length(data.length), ..data }
+    }
+
+    /// This length, now and then a wrong one.
+    fn length(&mut self, right: usize) -> usize {
+        match self.rng.below(100) {
+            0 => right - 1,
+            1 => right + 1,
+            2 => self.rng.below(right),
+            _ => right,
+        }
+    }
+
+    fn wrong_lengths(&mut self) -> Lent {
+        let by = [-1, 1, -(BLOCK as isize), BLOCK as isize / 2, 100][self.rng.below(5)];
+        match self.rng.below(3) {
+            0 => Lent { image: if by % BLOCK as isize == 0 { -1 } else { by }, ..Lent::RIGHT },
+            1 => Lent { map: by, ..Lent::RIGHT },
+            _ => Lent { letters: by, ..Lent::RIGHT },
+        }
+    }
+
+    /// A power cut, most often one that the call meets.
+    fn cut(&mut self, call: &Call) -> Power {
+        let steps = match call {
+            Call::Mount { .. } => 2,
+            Call::Write { .. } | Call::CutOff { .. } | Call::Read { .. } => 2,
+            Call::Commit { .. } => 50,
+            Call::Wipe { .. } => 60,
+        };
+        let edges = [0, 9, 10, 15, 16, 26, 27, 32, 33, 43, 44, 45, 54, 55, 56];
+        let steps = match self.rng.below(3) {
+            0 => edges[self.rng.below(edges.len())].min(steps - 1),
+            _ => self.rng.below(steps),
+        };
+        let edges = [0, 1, HEADER - 1, HEADER, HEADER + 1, 254, 255, PAGE, 257, BLOCK - 1, BLOCK];
+        let bytes = match self.rng.below(4) {
+            0 => edges[self.rng.below(edges.len())],
+            1 => self.rng.below(PAGE),
+            2 => self.rng.below(BLOCK),
+            _ => self.rng.below(16) * PAGE + self.rng.below(HEADER + 2),
+        };
+        Power { steps, bytes }
+    }
+}

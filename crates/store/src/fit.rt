@@ -89,7 +89,9 @@ fn node_at(form: Form, x: usize, p: u32) -> bool
 {
     match form {
         Form::Empty => false,
-        Form::Whole(f) => (f.kind == Frame::NODE_LETTER) & is_at(plan::place(f.unit, f.part), x) & (f.key == p),
+        Form::Whole(f) => (f.kind == Frame::NODE_LETTER)
+            & is_at(plan::place(f.unit, f.part), x)
+            & (f.key == p),
         Form::Torn(_) => false,
         Form::Spoilt => false,
     }

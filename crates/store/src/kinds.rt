@@ -29,7 +29,12 @@ const PARTS: usize = 10;
 fn same_frame(f: Frame, h: Frame) -> bool
     ensures { λ r. ⌜ r ≡ sameFrame f h ⌝ }
 {
-    (f.kind == h.kind) & (f.number == h.number) & (f.unit == h.unit) & (f.part == h.part) & (f.key == h.key) & (f.second == h.second)
+    (f.kind == h.kind)
+        & (f.number == h.number)
+        & (f.unit == h.unit)
+        & (f.part == h.part)
+        & (f.key == h.key)
+        & (f.second == h.second)
 }
 
 // Whether a page is whole, with this header.

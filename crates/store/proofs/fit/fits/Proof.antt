@@ -11,18 +11,10 @@ use Rattle.store.proofs.Names.{letters-unfit, letters-right}
 use borrow.Author.Needs.{needs}
 use Rattle.store.proofs.fit.fits.Statement.{statement}
 use Rattle.store.proofs.fit.fits.Tie as tie
-use Rattle.store.proofs.fit.fits.Reads as reads
-use Rattle.store.proofs.fit.fits.Lts as lts
-use Rattle.store.proofs.fit.blocks_fit.Reads as blocks-fit-reads
-use Rattle.store.proofs.fit.letters_match.Reads as letters-match-reads
-use Rattle.store.proofs.fit.numbers_fit.Reads as numbers-fit-reads
-use Rattle.store.proofs.fit.places_fit.Reads as places-fit-reads
 
--- src/fit.rt:206:9
 numbers-fit-requires : tie.Need-numbers-fit-requires
 numbers-fit-requires c κs = search needs
 
--- src/fit.rt:207:9
 returns : tie.Need-returns
 unfolding recordFits
 returns c =
@@ -30,22 +22,18 @@ returns c =
     let n : numbersFit (a .numbers) ≡ false = sym (c .before .numbers-fit .ensures) ∙ not-true _ (c .if1 .taken) in
     rw n
 
--- src/fit.rt:209:9
 letters-match-requires : tie.Need-letters-match-requires
 letters-match-requires c κs = search needs
 
--- src/fit.rt:210:9
 returns-2 : tie.Need-returns-2
 unfolding recordFits
 returns-2 c =
     let a = c .before .before .before .before .before .before .before .args in
     sym (letters-unfit (numbersFit (a .numbers) && blocksFit (a .image .now) (a .numbers) && allFrom (placeFits (a .image .now) (a .map .now)) places 0) (keysApart (a .map .now)) (lettersFit (a .map .now) (a .letters .now)) (sym (c .before .letters-match .ensures) ∙ not-true _ (c .if2 .taken)))
 
--- src/fit.rt:212:9
 blocks-fit-requires : tie.Need-blocks-fit-requires
 blocks-fit-requires c κs = omega (arith, sized (c .before .before .before .before .before .before .before .args .image .now) (c .before .before .before .before .before .before .before .pre .0))
 
--- src/fit.rt:213:9
 returns-3 : tie.Need-returns-3
 unfolding recordFits
 returns-3 c =
@@ -54,11 +42,9 @@ returns-3 c =
     let k : blocksFit (a .image .now) (a .numbers) ≡ false = sym (c .before .blocks-fit .ensures) ∙ not-true _ (c .if3 .taken) in
     rw (n, k)
 
--- src/fit.rt:215:5
 places-fit-requires : tie.Need-places-fit-requires
 places-fit-requires c κs = (omega (arith, sized (c .before .before .before .before .before .before .before .before .before .args .image .now) (c .before .before .before .before .before .before .before .before .before .pre .0)), omega arith)
 
--- src/fit.rt:202:1
 returns-4 : tie.Need-returns-4
 unfolding recordFits
 returns-4 c =

@@ -2,22 +2,16 @@
 use borrow.Author.Needs.{needs}
 use Rattle.store.proofs.fit.is_at.Statement.{statement}
 use Rattle.store.proofs.fit.is_at.Tie as tie
-use Rattle.store.proofs.fit.is_at.Reads as reads
-use Rattle.store.proofs.fit.is_at.Lts as lts
 
--- src/fit.rt:68:19
 enum-known-place : tie.Need-enum-known-place
 enum-known-place c = search needs
 
--- src/fit.rt:69:27
 enum-told : tie.Need-enum-told
 enum-told c = search needs
 
--- src/fit.rt:64:1
 returns : tie.Need-returns
 returns c = rw (c .before .place .given .1)
 
--- src/fit.rt:64:1
 returns-2 : tie.Need-returns-2
 returns-2 c = search needs
 

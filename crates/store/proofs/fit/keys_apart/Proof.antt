@@ -12,9 +12,6 @@ use Rattle.page.proofs.Slices.{getD-there}
 use Rattle.store.proofs.Names.{Tallied, tallied-none, tallied-next, tallied-twice, tallied-all, tallied-apart}
 use Rattle.store.proofs.fit.keys_apart.Statement.{statement}
 use Rattle.store.proofs.fit.keys_apart.Tie as tie
-use Rattle.store.proofs.fit.keys_apart.Reads as reads
-use Rattle.store.proofs.fit.keys_apart.Lts as lts
-use Rattle.store.proofs.fit.name.Reads as name-reads
 
 abbrev Inv-loop : tie.InvT-loop
 Inv-loop map named₀ x₀ named x = (x ≤ places) × (length named ≡ length named₀) × Tallied map named x
@@ -22,31 +19,24 @@ Inv-loop map named₀ x₀ named x = (x ≤ places) × (length named ≡ length 
 abbrev μ-loop : tie.MeasureT-loop
 μ-loop map named₀ x₀ named x = places - x
 
--- src/fit.rt:138:5
 loop-holds : tie.Need-loop-holds Inv-loop μ-loop
 loop-holds c = (omega arith, refl, tallied-none (c .before .before .args .map .now) (c .before .before .args .named .now) (c .before .before .pre .1))
 
--- src/fit.rt:139:29
 add-name : tie.Need-add-name Inv-loop μ-loop
 add-name c = search needs
 
--- src/fit.rt:139:25
 mul-name : tie.Need-mul-name Inv-loop μ-loop
 mul-name c = search needs
 
--- src/fit.rt:139:25
 shared-slice-read-name : tie.Need-shared-slice-read-name Inv-loop μ-loop
 shared-slice-read-name c = search needs
 
--- src/fit.rt:139:13
 name-requires : tie.Need-name-requires Inv-loop μ-loop
 name-requires c κs = c .before .before .before .loop .inv .2 .size
 
--- src/fit.rt:140:13
 same-length : tie.Need-same-length Inv-loop μ-loop
 same-length c = search needs
 
--- src/fit.rt:140:13
 returns : tie.Need-returns Inv-loop μ-loop
 returns c =
     let l = c .before .before .before .before .before .before .before .loop in
@@ -54,15 +44,12 @@ returns c =
     let n = c .before .before .before .name in
     (sym (tallied-twice (a .map .now) (l .named) (l .x) (omega arith) (l .inv .2) _ (getD-there (a .map .now) (places + l .x) 0 none (omega arith)) (eqb-false _ _ (sym (n .ensures .0) ∙ not-true _ (c .if1 .taken)))), λ e. absurd (true-false e refl))
 
--- src/fit.rt:142:9
 add-x : tie.Need-add-x Inv-loop μ-loop
 add-x c = search needs
 
--- src/fit.rt:138:5
 loop-less : tie.Need-loop-less Inv-loop μ-loop
 loop-less c = search needs
 
--- src/fit.rt:138:5
 loop-again : tie.Need-loop-again Inv-loop μ-loop
 loop-again c =
     let l = c .before .before .before .before .before .before .before .loop in
@@ -71,11 +58,9 @@ loop-again c =
     let t = not-false _ (c .if1 .left) in
     (omega arith, search needs, tallied-next (a .map .now) (l .named) (l .x) (omega arith) (l .inv .2) _ _ (getD-there (a .map .now) (places + l .x) 0 none (omega arith)) (eqb-true _ _ (sym (n .ensures .0) ∙ t)) (n .ensures .1 t))
 
--- src/fit.rt:133:1
 same-length-2 : tie.Need-same-length-2 Inv-loop μ-loop
 same-length-2 c = search needs
 
--- src/fit.rt:133:1
 returns-2 : tie.Need-returns-2 Inv-loop μ-loop
 returns-2 c =
     let l = c .before .loop in

@@ -14,9 +14,6 @@ use Rattle.page.specs.Key.{positions}
 use Rattle.page.specs.Entry.{isLetter, usedLetter}
 use Rattle.store.proofs.fit.letters_fit.Statement.{statement}
 use Rattle.store.proofs.fit.letters_fit.Tie as tie
-use Rattle.store.proofs.fit.letters_fit.Reads as reads
-use Rattle.store.proofs.fit.letters_fit.Lts as lts
-use Rattle.store.proofs.fit.letter_fits.Reads as letter-fits-reads
 
 -- the letter of position p fits the table
 abbrev letterAt : List ℕ → List ℕ → ℕ → Bool
@@ -28,43 +25,34 @@ Inv-loop letters named p₀ p = (p ≤ positions) × (allFrom (letterAt letters 
 abbrev μ-loop : tie.MeasureT-loop
 μ-loop letters named p₀ p = positions - p
 
--- src/fit.rt:160:5
 loop-holds : tie.Need-loop-holds Inv-loop μ-loop
 loop-holds c = (omega arith, refl)
 
--- src/fit.rt:161:25
 shared-slice-read-letter-fits : tie.Need-shared-slice-read-letter-fits Inv-loop μ-loop
 shared-slice-read-letter-fits c = search needs
 
--- src/fit.rt:161:37
 shared-slice-read-letter-fits-2 : tie.Need-shared-slice-read-letter-fits-2 Inv-loop μ-loop
 shared-slice-read-letter-fits-2 c = search needs
 
--- src/fit.rt:161:13
 letter-fits-requires : tie.Need-letter-fits-requires Inv-loop μ-loop
 letter-fits-requires c κs = search needs
 
--- src/fit.rt:162:13
 returns : tie.Need-returns Inv-loop μ-loop
 returns c =
     let l = c .before .before .before .before .before .loop in
     sym (l .inv .1 ∙ all-fails _ positions (l .p) (omega arith) (sym (c .before .letter-fits .ensures) ∙ not-true _ (c .if1 .taken)))
 
--- src/fit.rt:164:9
 add-p : tie.Need-add-p Inv-loop μ-loop
 add-p c = search needs
 
--- src/fit.rt:160:5
 loop-less : tie.Need-loop-less Inv-loop μ-loop
 loop-less c = search needs
 
--- src/fit.rt:160:5
 loop-again : tie.Need-loop-again Inv-loop μ-loop
 loop-again c =
     let l = c .before .before .before .before .before .loop in
     (omega arith, l .inv .1 ∙ all-next _ positions (l .p) (omega arith) (sym (c .before .letter-fits .ensures) ∙ not-false _ (c .if1 .left)))
 
--- src/fit.rt:155:1
 returns-2 : tie.Need-returns-2 Inv-loop μ-loop
 returns-2 c = sym (c .before .loop .inv .1 ∙ all-none _ positions (c .before .loop .p) (c .loop-test .left))
 

@@ -8,41 +8,31 @@ use Rattle.store.proofs.Names.{letters-by-table}
 use borrow.Author.Needs.{needs}
 use Rattle.store.proofs.fit.letters_match.Statement.{statement}
 use Rattle.store.proofs.fit.letters_match.Tie as tie
-use Rattle.store.proofs.fit.letters_match.Reads as reads
-use Rattle.store.proofs.fit.letters_match.Lts as lts
-use Rattle.store.proofs.fit.keys_apart.Reads as keys-apart-reads
-use Rattle.store.proofs.fit.letters_fit.Reads as letters-fit-reads
 
--- src/fit.rt:195:25
 slice-aggregate-keys-apart : tie.Need-slice-aggregate-keys-apart
 slice-aggregate-keys-apart c = search needs
 
--- src/fit.rt:195:9
 keys-apart-requires : tie.Need-keys-apart-requires
 keys-apart-requires c κs = search needs
 
--- src/fit.rt:196:9
 returns : tie.Need-returns
 returns c =
     let e : keysApart (c .before .before .before .before .before .before .args .map .now) ≡ false = sym (c .before .before .keys-apart .ensures .0) ∙ not-true _ (c .if1 .taken) in
     rw e
 
--- src/fit.rt:198:26
 slice-aggregate-letters-fit : tie.Need-slice-aggregate-letters-fit
 slice-aggregate-letters-fit c = search needs
 
--- src/fit.rt:198:5
 letters-fit-requires : tie.Need-letters-fit-requires
 letters-fit-requires c κs = search needs
 
--- src/fit.rt:190:1
 returns-2 : tie.Need-returns-2
 returns-2 c =
     let a = c .before .before .before .before .before .before .before .before .args in
     let k = c .before .before .before .before .keys-apart in
     let t = not-false _ (c .before .before .if1 .left) in
     let e : keysApart (a .map .now) ≡ true = sym (k .ensures .0) ∙ t in
-    rw e (c .letters-fit .ensures ∙ letters-by-table (a .map .now) (a .letters .now) _ (k .ensures .1 t))
+    rw e (c .letters-fit .ensures ∙ letters-by-table (a .map .now) (a .letters .now) (k .last .1 .0) (k .ensures .1 t))
 
 pub letters-match-spec : {M : Type 1} → statement M
 letters-match-spec =

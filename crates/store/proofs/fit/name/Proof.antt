@@ -8,32 +8,24 @@ use Rattle.base.proofs.Choice.{true-false}
 use borrow.Author.Needs.{needs}
 use Rattle.store.proofs.fit.name.Statement.{statement}
 use Rattle.store.proofs.fit.name.Tie as tie
-use Rattle.store.proofs.fit.name.Reads as reads
-use Rattle.store.proofs.fit.name.Lts as lts
 
--- src/fit.rt:123:9
 returns : tie.Need-returns
 returns c =
     let a = c .before .args in
     (sym (eq-eqb _ _ (List·getD-eq-default (a .named .now) 0 (omega arith))), λ _. sym (set-out (a .named .now) (a .key) 1 (omega arith)))
 
--- src/fit.rt:125:8
 slice-read-if2 : tie.Need-slice-read-if2
 slice-read-if2 c = search needs
 
--- src/fit.rt:126:9
 returns-2 : tie.Need-returns-2
 returns-2 c = (sym (ne-eqb _ _ (c .if2 .taken)), λ e. absurd (true-false e refl))
 
--- src/fit.rt:128:5
 slice-write-named : tie.Need-slice-write-named
 slice-write-named c = search needs
 
--- src/fit.rt:117:1
 same-length : tie.Need-same-length
 same-length c = search needs
 
--- src/fit.rt:117:1
 returns-3 : tie.Need-returns-3
 returns-3 c = (sym (eq-eqb _ _ (c .if2 .left)), λ _. refl)
 

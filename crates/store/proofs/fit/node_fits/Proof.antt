@@ -8,31 +8,22 @@ use Rattle.store.proofs.BlockKinds.{empty-form, page-outside-empty}
 use borrow.Author.Needs.{needs}
 use Rattle.store.proofs.fit.node_fits.Statement.{statement}
 use Rattle.store.proofs.fit.node_fits.Tie as tie
-use Rattle.store.proofs.fit.node_fits.Reads as reads
-use Rattle.store.proofs.fit.node_fits.Lts as lts
-use Rattle.store.proofs.fit.node_at.Reads as node-at-reads
-use Rattle.store.proofs.look.form_at.Reads as form-at-reads
 
--- src/fit.rt:104:9
 returns : tie.Need-returns
 returns c = rw (c .if1 .taken)
 
--- src/fit.rt:108:9
 returns-2 : tie.Need-returns-2
 returns-2 c =
     let a = c .before .before .before .args in
     let e : formAt (a .image .now) (a .page) ≡ Empty = empty-form (a .image .now) (a .page) (page-outside-empty (a .image .now) (a .page) (omega arith)) in
     rw (c .before .if1 .left, e)
 
--- src/fit.rt:110:13
 form-at-requires : tie.Need-form-at-requires
 form-at-requires c κs = search needs
 
--- src/fit.rt:110:5
 node-at-requires : tie.Need-node-at-requires
 node-at-requires c κs = search needs
 
--- src/fit.rt:99:1
 returns-3 : tie.Need-returns-3
 returns-3 c =
     let a = c .before .before .before .before .before .args in

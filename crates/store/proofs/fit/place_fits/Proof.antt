@@ -8,35 +8,25 @@ use Rattle.store.specs.Record.{placeFits}
 use borrow.Author.Needs.{needs}
 use Rattle.store.proofs.fit.place_fits.Statement.{statement}
 use Rattle.store.proofs.fit.place_fits.Tie as tie
-use Rattle.store.proofs.fit.place_fits.Reads as reads
-use Rattle.store.proofs.fit.place_fits.Lts as lts
-use Rattle.store.proofs.fit.node_fits.Reads as node-fits-reads
 
--- src/fit.rt:118:25
 mul-node-fits : tie.Need-mul-node-fits
 mul-node-fits c = search needs
 
--- src/fit.rt:118:25
 shared-slice-read-node-fits : tie.Need-shared-slice-read-node-fits
 shared-slice-read-node-fits c = search needs
 
--- src/fit.rt:118:37
 add-node-fits : tie.Need-add-node-fits
 add-node-fits c = search needs
 
--- src/fit.rt:118:33
 mul-node-fits-2 : tie.Need-mul-node-fits-2
 mul-node-fits-2 c = search needs
 
--- src/fit.rt:118:33
 shared-slice-read-node-fits-2 : tie.Need-shared-slice-read-node-fits-2
 shared-slice-read-node-fits-2 c = search needs
 
--- src/fit.rt:118:5
 node-fits-requires : tie.Need-node-fits-requires
 node-fits-requires c κs = search needs
 
--- src/fit.rt:114:1
 returns : tie.Need-returns
 unfolding placeFits
 returns c =

@@ -10,9 +10,6 @@ use Rattle.page.specs.Plan.{places}
 use Rattle.store.specs.Record.{placeFits}
 use Rattle.store.proofs.fit.places_fit.Statement.{statement}
 use Rattle.store.proofs.fit.places_fit.Tie as tie
-use Rattle.store.proofs.fit.places_fit.Reads as reads
-use Rattle.store.proofs.fit.places_fit.Lts as lts
-use Rattle.store.proofs.fit.place_fits.Reads as place-fits-reads
 
 abbrev Inv-loop : tie.InvT-loop
 Inv-loop image map x₀ x = (x ≤ places) × (allFrom (placeFits image map) places 0 ≡ allFrom (placeFits image map) (places - x) x)
@@ -20,35 +17,28 @@ Inv-loop image map x₀ x = (x ≤ places) × (allFrom (placeFits image map) pla
 abbrev μ-loop : tie.MeasureT-loop
 μ-loop image map x₀ x = places - x
 
--- src/fit.rt:107:5
 loop-holds : tie.Need-loop-holds Inv-loop μ-loop
 loop-holds c = (omega arith, refl)
 
--- src/fit.rt:108:13
 place-fits-requires : tie.Need-place-fits-requires Inv-loop μ-loop
 place-fits-requires c κs = search needs
 
--- src/fit.rt:109:13
 returns : tie.Need-returns Inv-loop μ-loop
 returns c =
     let l = c .before .before .before .loop in
     sym (l .inv .1 ∙ all-fails _ places (l .x) (omega arith) (sym (c .before .place-fits .ensures) ∙ not-true _ (c .if1 .taken)))
 
--- src/fit.rt:111:9
 add-x : tie.Need-add-x Inv-loop μ-loop
 add-x c = search needs
 
--- src/fit.rt:107:5
 loop-less : tie.Need-loop-less Inv-loop μ-loop
 loop-less c = search needs
 
--- src/fit.rt:107:5
 loop-again : tie.Need-loop-again Inv-loop μ-loop
 loop-again c =
     let l = c .before .before .before .loop in
     (omega arith, l .inv .1 ∙ all-next _ places (l .x) (omega arith) (sym (c .before .place-fits .ensures) ∙ not-false _ (c .if1 .left)))
 
--- src/fit.rt:102:1
 returns-2 : tie.Need-returns-2 Inv-loop μ-loop
 returns-2 c = sym (c .before .loop .inv .1 ∙ all-none _ places (c .before .loop .x) (c .loop-test .left))
 

@@ -12,10 +12,6 @@ use Rattle.image.specs.Look.{formAt}
 use Rattle.store.specs.Kind.{pageIn, headed}
 use Rattle.store.proofs.kinds.has_event.Statement.{statement}
 use Rattle.store.proofs.kinds.has_event.Tie as tie
-use Rattle.store.proofs.kinds.has_event.Reads as reads
-use Rattle.store.proofs.kinds.has_event.Lts as lts
-use Rattle.store.proofs.kinds.is_headed.Reads as is-headed-reads
-use Rattle.store.proofs.look.form_at.Reads as form-at-reads
 
 -- page i of the block is a whole or torn N or D page
 abbrev eventIn : List ℕ → ℕ → ℕ → Bool
@@ -27,47 +23,37 @@ Inv-loop image b i₀ i = (i ≤ pagesInBlock) × (anyFrom (eventIn image b) pag
 abbrev μ-loop : tie.MeasureT-loop
 μ-loop image b i₀ i = pagesInBlock - i
 
--- src/kinds.rt:236:5
 loop-holds : tie.Need-loop-holds Inv-loop μ-loop
 loop-holds c = (omega arith, refl)
 
--- src/kinds.rt:237:43
 mul-form-at : tie.Need-mul-form-at Inv-loop μ-loop
 mul-form-at c = search needs
 
--- src/kinds.rt:237:43
 add-form-at : tie.Need-add-form-at Inv-loop μ-loop
 add-form-at c = search needs
 
--- src/kinds.rt:237:22
 form-at-requires : tie.Need-form-at-requires Inv-loop μ-loop
 form-at-requires c κs = search needs
 
--- src/kinds.rt:237:12
 is-headed-requires : tie.Need-is-headed-requires Inv-loop μ-loop
 is-headed-requires c κs = search needs
 
--- src/kinds.rt:238:13
 returns : tie.Need-returns Inv-loop μ-loop
 returns c =
     let l = c .before .before .before .before .loop in
     sym (l .inv .1 ∙ any-here _ pagesInBlock (l .i) (omega arith) (sym (c .before .is-headed .ensures ∙ ap headed (c .before .before .form-at .ensures)) ∙ c .if1 .taken))
 
--- src/kinds.rt:240:9
 add-i : tie.Need-add-i Inv-loop μ-loop
 add-i c = search needs
 
--- src/kinds.rt:236:5
 loop-less : tie.Need-loop-less Inv-loop μ-loop
 loop-less c = search needs
 
--- src/kinds.rt:236:5
 loop-again : tie.Need-loop-again Inv-loop μ-loop
 loop-again c =
     let l = c .before .before .before .before .loop in
     (omega arith, l .inv .1 ∙ any-next _ pagesInBlock (l .i) (omega arith) (sym (c .before .is-headed .ensures ∙ ap headed (c .before .before .form-at .ensures)) ∙ c .if1 .left))
 
--- src/kinds.rt:231:1
 returns-2 : tie.Need-returns-2 Inv-loop μ-loop
 returns-2 c = sym (c .before .loop .inv .1 ∙ any-none _ pagesInBlock (c .before .loop .i) (c .loop-test .left))
 

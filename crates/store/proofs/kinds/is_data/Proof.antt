@@ -6,16 +6,10 @@ use Rattle.store.proofs.BlockKinds.{hasEvents}
 use borrow.Author.Needs.{needs}
 use Rattle.store.proofs.kinds.is_data.Statement.{statement}
 use Rattle.store.proofs.kinds.is_data.Tie as tie
-use Rattle.store.proofs.kinds.is_data.Reads as reads
-use Rattle.store.proofs.kinds.is_data.Lts as lts
-use Rattle.store.proofs.kinds.has_event.Reads as has-event-reads
-use Rattle.store.proofs.kinds.is_chosen.Reads as is-chosen-reads
 
--- src/kinds.rt:250:8
 is-chosen-requires : tie.Need-is-chosen-requires
 is-chosen-requires c κs = search needs
 
--- src/kinds.rt:251:9
 returns : tie.Need-returns
 unfolding isData
 returns c =
@@ -23,11 +17,9 @@ returns c =
     let k : isChosen (a .numbers) (a .b) ≡ true = sym (c .before .is-chosen .ensures) ∙ c .if1 .taken in
     rw k (sym (and-false (hasEvents (a .image .now) (a .b))))
 
--- src/kinds.rt:253:5
 has-event-requires : tie.Need-has-event-requires
 has-event-requires c κs = search needs
 
--- src/kinds.rt:246:1
 returns-2 : tie.Need-returns-2
 unfolding isData
 returns-2 c =

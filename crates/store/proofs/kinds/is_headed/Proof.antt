@@ -2,47 +2,34 @@
 use borrow.Author.Needs.{needs}
 use Rattle.store.proofs.kinds.is_headed.Statement.{statement}
 use Rattle.store.proofs.kinds.is_headed.Tie as tie
-use Rattle.store.proofs.kinds.is_headed.Reads as reads
-use Rattle.store.proofs.kinds.is_headed.Lts as lts
-use Rattle.store.proofs.kinds.is_event_letter.Reads as is-event-letter-reads
 
--- src/kinds.rt:216:24
 enum-told : tie.Need-enum-told
 enum-told c = search needs
 
--- src/kinds.rt:217:21
 enum-known-form : tie.Need-enum-known-form
 enum-known-form c = search needs
 
--- src/kinds.rt:217:27
 is-event-letter-requires : tie.Need-is-event-letter-requires
 is-event-letter-requires c κs = search needs
 
--- src/kinds.rt:218:20
 enum-known-form-2 : tie.Need-enum-known-form-2
 enum-known-form-2 c = search needs
 
--- src/kinds.rt:218:26
 is-event-letter-requires-2 : tie.Need-is-event-letter-requires-2
 is-event-letter-requires-2 c κs = search needs
 
--- src/kinds.rt:219:25
 enum-told-2 : tie.Need-enum-told-2
 enum-told-2 c = search needs
 
--- src/kinds.rt:212:1
 returns : tie.Need-returns
 returns c = search needs
 
--- src/kinds.rt:212:1
 returns-2 : tie.Need-returns-2
 returns-2 c = rw (c .before .before .form .given .1) (c .is-event-letter .ensures)
 
--- src/kinds.rt:212:1
 returns-3 : tie.Need-returns-3
 returns-3 c = rw (c .before .before .form2 .given .1) (c .is-event-letter2 .ensures)
 
--- src/kinds.rt:212:1
 returns-4 : tie.Need-returns-4
 returns-4 c = search needs
 

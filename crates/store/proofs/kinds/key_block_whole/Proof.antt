@@ -15,11 +15,6 @@ use Rattle.image.specs.Look.{formAt}
 use Rattle.store.specs.Kind.{pageIn, sameFrame, wholeWith, keyBlockWhole}
 use Rattle.store.proofs.kinds.key_block_whole.Statement.{statement}
 use Rattle.store.proofs.kinds.key_block_whole.Tie as tie
-use Rattle.store.proofs.kinds.key_block_whole.Reads as reads
-use Rattle.store.proofs.kinds.key_block_whole.Lts as lts
-use Rattle.page.proofs.Frame.keys.Reads as keys-reads
-use Rattle.store.proofs.kinds.page_whole.Reads as page-whole-reads
-use Rattle.store.proofs.kinds.same_frame.Reads as same-frame-reads
 
 -- page i of the block is page i of key block q of epoch e
 abbrev keyPage : List ℕ → ℕ → ℕ → ℕ → ℕ → Bool
@@ -31,71 +26,57 @@ Inv-loop image b q e i₀ i = (i ≤ pagesInBlock) × (keyBlockWhole image b q e
 abbrev μ-loop : tie.MeasureT-loop
 μ-loop image b q e i₀ i = pagesInBlock - i
 
--- src/kinds.rt:62:23
 keys-requires : tie.Need-keys-requires Inv-loop μ-loop
 keys-requires c κs = search needs
 
--- src/kinds.rt:62:9
 same-frame-requires : tie.Need-same-frame-requires Inv-loop μ-loop
 same-frame-requires c κs = search needs
 
--- src/kinds.rt:63:9
 returns : tie.Need-returns Inv-loop μ-loop
 unfolding keyBlockWhole
 returns c =
     let a = c .before .before .before .before .args in
     sym (all-fails (keyPage (a .image .now) (a .b) (a .f .unit) (a .f .number)) pagesInBlock 0 (omega arith) (rw (c .before .before .before .before .pre .1) (sym (c .before .same-frame .ensures ∙ ap (sameFrame (a .f)) (c .before .before .keys .ensures)) ∙ not-true _ (c .if1 .taken))))
 
--- src/kinds.rt:66:5
 loop-holds : tie.Need-loop-holds Inv-loop μ-loop
 unfolding keyBlockWhole
 loop-holds c =
     let a = c .before .before .before .before .args in
     (omega arith, all-next (keyPage (a .image .now) (a .b) (a .f .unit) (a .f .number)) pagesInBlock 0 (omega arith) (rw (c .before .before .before .before .pre .1) (sym (c .before .same-frame .ensures ∙ ap (sameFrame (a .f)) (c .before .before .keys .ensures)) ∙ not-false _ (c .if1 .left))))
 
--- src/kinds.rt:67:31
 mul-page-whole : tie.Need-mul-page-whole Inv-loop μ-loop
 mul-page-whole c = search needs
 
--- src/kinds.rt:67:31
 add-page-whole : tie.Need-add-page-whole Inv-loop μ-loop
 add-page-whole c = search needs
 
--- src/kinds.rt:67:73
 cast-keys : tie.Need-cast-keys Inv-loop μ-loop
 cast-keys c = search needs
 
--- src/kinds.rt:67:55
 keys-requires-2 : tie.Need-keys-requires-2 Inv-loop μ-loop
 keys-requires-2 c κs = search needs
 
--- src/kinds.rt:67:13
 page-whole-requires : tie.Need-page-whole-requires Inv-loop μ-loop
 page-whole-requires c κs = search needs
 
--- src/kinds.rt:68:13
 returns-2 : tie.Need-returns-2 Inv-loop μ-loop
 returns-2 c =
     let l = c .before .before .before .before .loop in
     let a = c .before .before .before .before .before .before .before .before .before .args in
     sym (l .inv .1 ∙ all-fails _ pagesInBlock (l .i) (omega arith) (sym (c .before .page-whole .ensures ∙ ap (λ (h : Frame). wholeWith h (formAt (a .image .now) (pageIn (a .b) (l .i)))) (c .before .before .keys2 .ensures)) ∙ not-true _ (c .if2 .taken)))
 
--- src/kinds.rt:70:9
 add-i : tie.Need-add-i Inv-loop μ-loop
 add-i c = search needs
 
--- src/kinds.rt:66:5
 loop-less : tie.Need-loop-less Inv-loop μ-loop
 loop-less c = search needs
 
--- src/kinds.rt:66:5
 loop-again : tie.Need-loop-again Inv-loop μ-loop
 loop-again c =
     let l = c .before .before .before .before .loop in
     let a = c .before .before .before .before .before .before .before .before .before .args in
     (omega arith, l .inv .1 ∙ all-next _ pagesInBlock (l .i) (omega arith) (sym (c .before .page-whole .ensures ∙ ap (λ (h : Frame). wholeWith h (formAt (a .image .now) (pageIn (a .b) (l .i)))) (c .before .before .keys2 .ensures)) ∙ not-false _ (c .if2 .left)))
 
--- src/kinds.rt:56:1
 returns-3 : tie.Need-returns-3 Inv-loop μ-loop
 returns-3 c = sym (c .before .loop .inv .1 ∙ all-none _ pagesInBlock (c .before .loop .i) (c .loop-test .left))
 

@@ -3,34 +3,25 @@ use borrow.Author.Tests.{eq-eqb, ne-eqb}
 use borrow.Author.Needs.{needs}
 use Rattle.store.proofs.kinds.keys_epoch.Statement.{statement}
 use Rattle.store.proofs.kinds.keys_epoch.Tie as tie
-use Rattle.store.proofs.kinds.keys_epoch.Reads as reads
-use Rattle.store.proofs.kinds.keys_epoch.Lts as lts
 
--- src/kinds.rt:176:20
 enum-known-kind : tie.Need-enum-known-kind
 enum-known-kind c = search needs
 
--- src/kinds.rt:177:31
 enum-told : tie.Need-enum-told
 enum-told c = search needs
 
--- src/kinds.rt:178:24
 enum-told-2 : tie.Need-enum-told-2
 enum-told-2 c = search needs
 
--- src/kinds.rt:172:1
 returns : tie.Need-returns
 returns c = rw (c .before .before .kind .given .1, eq-eqb _ _ (c .if1 .taken))
 
--- src/kinds.rt:172:1
 returns-2 : tie.Need-returns-2
 returns-2 c = rw (c .before .before .kind .given .1, ne-eqb _ _ (c .if1 .left))
 
--- src/kinds.rt:172:1
 returns-3 : tie.Need-returns-3
 returns-3 c = search needs
 
--- src/kinds.rt:172:1
 returns-4 : tie.Need-returns-4
 returns-4 c = search needs
 

@@ -4,42 +4,29 @@ use Rattle.store.specs.Kind.{commitBlockWhole}
 use borrow.Author.Needs.{needs}
 use Rattle.store.proofs.kinds.kind_by.Statement.{statement}
 use Rattle.store.proofs.kinds.kind_by.Tie as tie
-use Rattle.store.proofs.kinds.kind_by.Reads as reads
-use Rattle.store.proofs.kinds.kind_by.Lts as lts
-use Rattle.store.proofs.kinds.key_block_whole.Reads as key-block-whole-reads
-use Rattle.store.proofs.kinds.parts_whole.Reads as parts-whole-reads
-use Rattle.store.proofs.kinds.rest_empty.Reads as rest-empty-reads
 
--- src/kinds.rt:139:12
 key-block-whole-requires : tie.Need-key-block-whole-requires
 key-block-whole-requires c κs = search needs
 
--- src/kinds.rt:140:13
 returns : tie.Need-returns
 returns c = rw (c .before .before .if1 .taken, ← c .before .key-block-whole .ensures, c .if2 .taken)
 
--- src/kinds.rt:142:9
 returns-2 : tie.Need-returns-2
 returns-2 c = rw (c .before .before .if1 .taken, ← c .before .key-block-whole .ensures, c .if2 .left)
 
--- src/kinds.rt:145:9
 returns-3 : tie.Need-returns-3
 returns-3 c = rw (ne-eqb _ _ (c .before .before .if1 .left), ne-eqb _ _ (c .if3 .taken))
 
--- src/kinds.rt:147:9
 parts-whole-requires : tie.Need-parts-whole-requires
 parts-whole-requires c κs = search needs
 
--- src/kinds.rt:148:9
 returns-4 : tie.Need-returns-4
 unfolding commitBlockWhole
 returns-4 c = rw (c .before .before .if3 .left, ← c .before .parts-whole .ensures, not-true (c .before .parts-whole .result) (c .if4 .taken))
 
--- src/kinds.rt:150:8
 rest-empty-requires : tie.Need-rest-empty-requires
 rest-empty-requires c κs = search needs
 
--- src/kinds.rt:134:1
 returns-5 : tie.Need-returns-5
 unfolding commitBlockWhole
 returns-5 c =
@@ -51,7 +38,6 @@ returns-5 c =
       c .if5 .taken,
     )
 
--- src/kinds.rt:134:1
 returns-6 : tie.Need-returns-6
 unfolding commitBlockWhole
 returns-6 c =

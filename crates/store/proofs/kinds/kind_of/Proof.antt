@@ -7,54 +7,41 @@ use mathlib.Core.List.{List}
 use Rattle.page.specs.declared.Form.{Form}
 use Rattle.image.specs.Size.{pagesInBlock}
 use Rattle.image.specs.Look.{formAt}
-use Rattle.store.specs.Kind.{kindOfFirst, kindOf}
+use Rattle.store.specs.Kind.{pageIn, kindOfFirst, kindOf}
 use Rattle.store.proofs.BlockKinds.{kind-outside}
 use borrow.Author.Needs.{needs}
 use Rattle.store.proofs.kinds.kind_of.Statement.{statement}
 use Rattle.store.proofs.kinds.kind_of.Tie as tie
-use Rattle.store.proofs.kinds.kind_of.Reads as reads
-use Rattle.store.proofs.kinds.kind_of.Lts as lts
-use Rattle.store.proofs.kinds.kind_by.Reads as kind-by-reads
-use Rattle.store.proofs.look.form_at.Reads as form-at-reads
 
 -- the form that was found of page 0 decides
 by-first : (img : List ℕ) (b : ℕ) (m n : Form) → m ≡ formAt img (b * pagesInBlock) → m ≡ n → kindOf img b ≡ kindOfFirst img b n
 unfolding kindOf
-by-first img b m n e q = ap (kindOfFirst img b) (rw add-zero (sym e ∙ q))
+by-first img b m n e q = let f : formAt img (pageIn b 0) ≡ n = rw add-zero (sym e ∙ q) in ap (kindOfFirst img b) f
 
--- src/kinds.rt:163:9
 returns : tie.Need-returns
 returns c = sym (kind-outside (c .before .before .args .image .now) (c .before .before .args .b) (omega arith))
 
--- src/kinds.rt:165:32
 mul-form-at : tie.Need-mul-form-at
 mul-form-at c = search needs
 
--- src/kinds.rt:165:11
 form-at-requires : tie.Need-form-at-requires
 form-at-requires c κs = search needs
 
--- src/kinds.rt:166:24
 enum-told : tie.Need-enum-told
 enum-told c = search needs
 
--- src/kinds.rt:167:21
 enum-known-f : tie.Need-enum-known-f
 enum-known-f c = search needs
 
--- src/kinds.rt:167:27
 kind-by-requires : tie.Need-kind-by-requires
 kind-by-requires c κs = (omega arith, rw add-zero (sym (c .before .before .before .form-at .ensures) ∙ c .before .f .given .1))
 
--- src/kinds.rt:168:26
 enum-told-2 : tie.Need-enum-told-2
 enum-told-2 c = search needs
 
--- src/kinds.rt:169:25
 enum-told-3 : tie.Need-enum-told-3
 enum-told-3 c = search needs
 
--- src/kinds.rt:158:1
 returns-2 : tie.Need-returns-2
 returns-2 c =
     let a = c .before .before .before .before .before .args in

@@ -9,36 +9,25 @@ use Rattle.store.specs.Kind.{wholeWith}
 use borrow.Author.Needs.{needs}
 use Rattle.store.proofs.kinds.part_whole.Statement.{statement}
 use Rattle.store.proofs.kinds.part_whole.Tie as tie
-use Rattle.store.proofs.kinds.part_whole.Reads as reads
-use Rattle.store.proofs.kinds.part_whole.Lts as lts
-use Rattle.page.proofs.Frame.commit.Reads as commit-reads
-use Rattle.store.proofs.kinds.page_whole.Reads as page-whole-reads
-use Rattle.store.proofs.kinds.payload_valid.Reads as payload-valid-reads
 
--- src/kinds.rt:89:47
 cast-commit : tie.Need-cast-commit
 cast-commit c = search needs
 
--- src/kinds.rt:89:30
 commit-requires : tie.Need-commit-requires
 commit-requires c κs = search needs
 
--- src/kinds.rt:89:9
 page-whole-requires : tie.Need-page-whole-requires
 page-whole-requires c κs = search needs
 
--- src/kinds.rt:90:9
 returns : tie.Need-returns
 returns c =
     let a = c .before .before .before .before .args in
     let w : wholeWith (commitFrame (a .e) (a .i) (a .s)) (formAt (a .image .now) (a .g)) ≡ false = sym (c .before .page-whole .ensures ∙ ap (λ (h : Frame). wholeWith h (formAt (a .image .now) (a .g))) (c .before .before .commit .ensures)) ∙ not-true _ (c .if1 .taken) in
     rw w
 
--- src/kinds.rt:92:5
 payload-valid-requires : tie.Need-payload-valid-requires
 payload-valid-requires c κs = search needs
 
--- src/kinds.rt:85:1
 returns-2 : tie.Need-returns-2
 returns-2 c =
     let a = c .before .before .before .before .before .args in

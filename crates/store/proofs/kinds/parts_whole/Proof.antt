@@ -16,12 +16,6 @@ use Rattle.image.specs.Look.{formAt, pageAt}
 use Rattle.store.specs.Kind.{pageIn, sameFrame, wholeWith}
 use Rattle.store.proofs.kinds.parts_whole.Statement.{statement}
 use Rattle.store.proofs.kinds.parts_whole.Tie as tie
-use Rattle.store.proofs.kinds.parts_whole.Reads as reads
-use Rattle.store.proofs.kinds.parts_whole.Lts as lts
-use Rattle.page.proofs.Frame.commit.Reads as commit-reads
-use Rattle.store.proofs.kinds.part_whole.Reads as part-whole-reads
-use Rattle.store.proofs.kinds.payload_valid.Reads as payload-valid-reads
-use Rattle.store.proofs.kinds.same_frame.Reads as same-frame-reads
 
 -- page i of the block is a whole part i of a commit of epoch e that covers s, with a valid payload
 abbrev partIn : List ℕ → ℕ → ℕ → ℕ → ℕ → Bool
@@ -33,30 +27,24 @@ Inv-loop image b e s i₀ i = (i ≤ parts) × (allFrom (partIn image b e s) par
 abbrev μ-loop : tie.MeasureT-loop
 μ-loop image b e s i₀ i = parts - i
 
--- src/kinds.rt:102:23
 commit-requires : tie.Need-commit-requires Inv-loop μ-loop
 commit-requires c κs = search needs
 
--- src/kinds.rt:102:9
 same-frame-requires : tie.Need-same-frame-requires Inv-loop μ-loop
 same-frame-requires c κs = search needs
 
--- src/kinds.rt:103:9
 returns : tie.Need-returns Inv-loop μ-loop
 returns c =
     let a = c .before .before .before .before .args in
     let w : wholeWith (commitFrame (a .f .number) 0 (a .f .second)) (formAt (a .image .now) (pageIn (a .b) 0)) ≡ false = rw (c .before .before .before .before .pre .1) (sym (c .before .same-frame .ensures ∙ ap (sameFrame (a .f)) (c .before .before .commit .ensures)) ∙ not-true _ (c .if1 .taken)) in
     sym (all-fails (partIn (a .image .now) (a .b) (a .f .number) (a .f .second)) parts 0 (omega arith) (rw w))
 
--- src/kinds.rt:105:30
 mul-payload-valid : tie.Need-mul-payload-valid Inv-loop μ-loop
 mul-payload-valid c = search needs
 
--- src/kinds.rt:105:9
 payload-valid-requires : tie.Need-payload-valid-requires Inv-loop μ-loop
 payload-valid-requires c κs = search needs
 
--- src/kinds.rt:106:9
 returns-2 : tie.Need-returns-2 Inv-loop μ-loop
 returns-2 c =
     let a = c .before .before .before .before .before .before .args in
@@ -64,7 +52,6 @@ returns-2 c =
     let v : validPayload 0 (payloadOf (pageAt (a .image .now) (pageIn (a .b) 0))) ≡ false = rw add-zero (sym (c .before .payload-valid .ensures) ∙ not-true _ (c .if2 .taken)) in
     sym (all-fails (partIn (a .image .now) (a .b) (a .f .number) (a .f .second)) parts 0 (omega arith) (rw (w, v)))
 
--- src/kinds.rt:109:5
 loop-holds : tie.Need-loop-holds Inv-loop μ-loop
 loop-holds c =
     let a = c .before .before .before .before .before .before .args in
@@ -72,39 +59,31 @@ loop-holds c =
     let v : validPayload 0 (payloadOf (pageAt (a .image .now) (pageIn (a .b) 0))) ≡ true = rw add-zero (sym (c .before .payload-valid .ensures) ∙ not-false _ (c .if2 .left)) in
     (omega arith, all-next (partIn (a .image .now) (a .b) (a .f .number) (a .f .second)) parts 0 (omega arith) (rw (w, v)))
 
--- src/kinds.rt:110:31
 mul-part-whole : tie.Need-mul-part-whole Inv-loop μ-loop
 mul-part-whole c = search needs
 
--- src/kinds.rt:110:31
 add-part-whole : tie.Need-add-part-whole Inv-loop μ-loop
 add-part-whole c = search needs
 
--- src/kinds.rt:110:13
 part-whole-requires : tie.Need-part-whole-requires Inv-loop μ-loop
 part-whole-requires c κs = search needs
 
--- src/kinds.rt:111:13
 returns-3 : tie.Need-returns-3 Inv-loop μ-loop
 returns-3 c =
     let l = c .before .before .before .loop in
     sym (l .inv .1 ∙ all-fails _ parts (l .i) (omega arith) (sym (c .before .part-whole .ensures) ∙ not-true _ (c .if3 .taken)))
 
--- src/kinds.rt:113:9
 add-i : tie.Need-add-i Inv-loop μ-loop
 add-i c = search needs
 
--- src/kinds.rt:109:5
 loop-less : tie.Need-loop-less Inv-loop μ-loop
 loop-less c = search needs
 
--- src/kinds.rt:109:5
 loop-again : tie.Need-loop-again Inv-loop μ-loop
 loop-again c =
     let l = c .before .before .before .loop in
     (omega arith, l .inv .1 ∙ all-next _ parts (l .i) (omega arith) (sym (c .before .part-whole .ensures) ∙ not-false _ (c .if3 .left)))
 
--- src/kinds.rt:96:1
 returns-4 : tie.Need-returns-4 Inv-loop μ-loop
 returns-4 c = sym (c .before .loop .inv .1 ∙ all-none _ parts (c .before .loop .i) (c .loop-test .left))
 

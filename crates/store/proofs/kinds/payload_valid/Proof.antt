@@ -13,39 +13,28 @@ use Rattle.image.specs.Look.{pageAt}
 use borrow.Author.Needs.{needs}
 use Rattle.store.proofs.kinds.payload_valid.Statement.{statement}
 use Rattle.store.proofs.kinds.payload_valid.Tie as tie
-use Rattle.store.proofs.kinds.payload_valid.Reads as reads
-use Rattle.store.proofs.kinds.payload_valid.Lts as lts
-use Rattle.page.proofs.entries.valid_payload.Reads as valid-payload-reads
 
--- src/kinds.rt:80:17
 mul-start : tie.Need-mul-start
 mul-start c = search needs
 
--- src/kinds.rt:80:17
 add-start : tie.Need-add-start
 add-start c = search needs
 
--- src/kinds.rt:81:42
 add-valid-payload : tie.Need-add-valid-payload
 add-valid-payload c = search needs
 
--- src/kinds.rt:81:28
 sub-valid-payload : tie.Need-sub-valid-payload
 sub-valid-payload c = search needs
 
--- src/kinds.rt:81:28
 part-valid-payload-start : tie.Need-part-valid-payload-start
 part-valid-payload-start c = search needs
 
--- src/kinds.rt:81:28
 part-valid-payload-end : tie.Need-part-valid-payload-end
 part-valid-payload-end c = search needs
 
--- src/kinds.rt:81:5
 valid-payload-requires : tie.Need-valid-payload-requires
 valid-payload-requires c κs = search needs
 
--- src/kinds.rt:76:1
 returns : tie.Need-returns
 unfolding payloadOf pageAt
 returns c =

@@ -14,9 +14,6 @@ use Rattle.image.specs.Look.{pageEmpty}
 use Rattle.store.specs.Kind.{pageIn}
 use Rattle.store.proofs.kinds.rest_empty.Statement.{statement}
 use Rattle.store.proofs.kinds.rest_empty.Tie as tie
-use Rattle.store.proofs.kinds.rest_empty.Reads as reads
-use Rattle.store.proofs.kinds.rest_empty.Lts as lts
-use Rattle.store.proofs.look.page_empty.Reads as page-empty-reads
 
 -- page i of the block is empty
 abbrev emptyIn : List ℕ → ℕ → ℕ → Bool
@@ -28,43 +25,34 @@ Inv-loop image b i₀ i = (parts ≤ i) × (i ≤ pagesInBlock) × (allFrom (emp
 abbrev μ-loop : tie.MeasureT-loop
 μ-loop image b i₀ i = pagesInBlock - i
 
--- src/kinds.rt:124:5
 loop-holds : tie.Need-loop-holds Inv-loop μ-loop
 loop-holds c = (omega arith, omega arith, refl)
 
--- src/kinds.rt:125:37
 mul-page-empty : tie.Need-mul-page-empty Inv-loop μ-loop
 mul-page-empty c = search needs
 
--- src/kinds.rt:125:37
 add-page-empty : tie.Need-add-page-empty Inv-loop μ-loop
 add-page-empty c = search needs
 
--- src/kinds.rt:125:13
 page-empty-requires : tie.Need-page-empty-requires Inv-loop μ-loop
 page-empty-requires c κs = search needs
 
--- src/kinds.rt:126:13
 returns : tie.Need-returns Inv-loop μ-loop
 returns c =
     let l = c .before .before .before .loop in
     sym (l .inv .2 ∙ all-fails _ pagesInBlock (l .i) (omega arith) (sym (c .before .page-empty .ensures) ∙ not-true _ (c .if1 .taken)))
 
--- src/kinds.rt:128:9
 add-i : tie.Need-add-i Inv-loop μ-loop
 add-i c = search needs
 
--- src/kinds.rt:124:5
 loop-less : tie.Need-loop-less Inv-loop μ-loop
 loop-less c = search needs
 
--- src/kinds.rt:124:5
 loop-again : tie.Need-loop-again Inv-loop μ-loop
 loop-again c =
     let l = c .before .before .before .loop in
     (omega arith, omega arith, l .inv .2 ∙ all-next _ pagesInBlock (l .i) (omega arith) (sym (c .before .page-empty .ensures) ∙ not-false _ (c .if1 .left)))
 
--- src/kinds.rt:119:1
 returns-2 : tie.Need-returns-2 Inv-loop μ-loop
 returns-2 c = sym (c .before .loop .inv .2 ∙ all-none _ pagesInBlock (c .before .loop .i) (c .loop-test .left))
 

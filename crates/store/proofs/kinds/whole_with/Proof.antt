@@ -2,43 +2,31 @@
 use borrow.Author.Needs.{needs}
 use Rattle.store.proofs.kinds.whole_with.Statement.{statement}
 use Rattle.store.proofs.kinds.whole_with.Tie as tie
-use Rattle.store.proofs.kinds.whole_with.Reads as reads
-use Rattle.store.proofs.kinds.whole_with.Lts as lts
-use Rattle.store.proofs.kinds.same_frame.Reads as same-frame-reads
 
--- src/kinds.rt:40:24
 enum-told : tie.Need-enum-told
 enum-told c = search needs
 
--- src/kinds.rt:41:21
 enum-known-form : tie.Need-enum-known-form
 enum-known-form c = search needs
 
--- src/kinds.rt:41:27
 same-frame-requires : tie.Need-same-frame-requires
 same-frame-requires c κs = search needs
 
--- src/kinds.rt:42:26
 enum-told-2 : tie.Need-enum-told-2
 enum-told-2 c = search needs
 
--- src/kinds.rt:43:25
 enum-told-3 : tie.Need-enum-told-3
 enum-told-3 c = search needs
 
--- src/kinds.rt:36:1
 returns : tie.Need-returns
 returns c = search needs
 
--- src/kinds.rt:36:1
 returns-2 : tie.Need-returns-2
 returns-2 c = rw (c .before .before .form .given .1) (c .same-frame .ensures)
 
--- src/kinds.rt:36:1
 returns-3 : tie.Need-returns-3
 returns-3 c = search needs
 
--- src/kinds.rt:36:1
 returns-4 : tie.Need-returns-4
 returns-4 c = search needs
 

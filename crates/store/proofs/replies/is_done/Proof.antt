@@ -5,15 +5,10 @@ use lib.Dec.{eqb}
 use borrow.Author.Needs.{needs}
 use Rattle.store.proofs.replies.is_done.Statement.{statement}
 use Rattle.store.proofs.replies.is_done.Tie as tie
-use Rattle.store.proofs.replies.is_done.Reads as reads
-use Rattle.store.proofs.replies.is_done.Lts as lts
-use Rattle.store.proofs.replies.number.Reads as number-reads
 
--- src/replies.rt:37:5
 number-requires : tie.Need-number-requires
 number-requires c κs = search needs
 
--- src/replies.rt:34:1
 returns : tie.Need-returns
 returns c = ap (λ (n : ℕ). eqb n 0) (c .number .ensures)
 

@@ -30,7 +30,7 @@ use Rattle.store.specs.Taken.{Buffers}
 use Rattle.store.specs.declared.Numbers.{Numbers}
 use Rattle.store.specs.declared.Reply.{Reply}
 use Rattle.store.specs.declared.Reply.the-variants.{Done, PowerCut}
-use Rattle.store.proofs.Replies.{done-false}
+use Rattle.store.proofs.Verdicts.{done-false}
 
 -- ---- taken or refused
 -- the outcome of a call that was taken, and an outcome without steps

@@ -1,4 +1,7 @@
 // The store: block kinds, the working record and its fit, and the calls of document 01.
+pub mod fit;
+pub mod kinds;
+pub mod replies;
 
 // The numbers of the working record: the next sequence and epoch, and the blocks of key block 0, key block 1 and the commit.
 pub struct Numbers {

@@ -1,0 +1,117 @@
+-- A table of the positions that the places of a map name, filled place by place: what it says so far, and of the whole map.
+use Prim.Native.Nat.{ℕ, _+_, _-_, _<_, _≤_}
+use native.Mathlib.Omega.{arith}
+use native.Mathlib.Decide.{ℕ-discrete, decLt}
+use native.Mathlib.Nat.{zero-add, add-zero}
+use mathlib.Core.Path.{_≡_, refl, sym, ap, _∙_}
+use mathlib.Core.Bool.{Bool, true, false, cond, Bool·beq, _&&_}
+use mathlib.Core.List.{List}
+use lib.Dec.{eqb, leb}
+use lib.ListN.{length, getD, set, replicate, length-set, length-replicate, getD-replicate, List·getD-eq-default}
+use lib.Seq.{getD-set-same, getD-set-other}
+use borrow.Author.Tests.{eq-eqb, ne-eqb, le-leb, lt-leb}
+use Rattle.base.specs.Search.{countFrom, allFrom}
+use Rattle.base.proofs.Choice.{true-false}
+use Rattle.base.proofs.Searches.{count-next, count-none, all-holds, all-intro, all-agree}
+use Rattle.page.specs.Plan.{places}
+use Rattle.page.specs.Key.{positions}
+use Rattle.page.specs.Entry.{isLetter, usedLetter}
+use Rattle.store.specs.Record.{keyOf, namedTimes, keysApart, lettersFit}
+
+-- how many of the places from x on name position p
+abbrev left : List ℕ → ℕ → ℕ → ℕ
+left map x p = countFrom (λ y. eqb (keyOf map y) p) (places - x) x
+
+-- the places before x name each position as often as the table says, and that is once at most
+pub record Tallied (map named : List ℕ) (x : ℕ) : Type 0 where
+  pub size : length named ≡ positions
+  pub few : (p : ℕ) → p < positions → getD named p 0 ≤ 1
+  pub times : (p : ℕ) → p < positions → namedTimes map p ≡ getD named p 0 + left map x p
+
+-- ---- before the first place
+zeros : (n : ℕ) (named : List ℕ) → named ≡ replicate n 0 → (length named ≡ n) × ((p : ℕ) → p < n → getD named p 0 ≡ 0)
+zeros n named e = (ap length e ∙ length-replicate n 0, λ p h. rw e (getD-replicate n p 0 0 h))
+
+pub tallied-none : (map named : List ℕ) → named ≡ replicate positions 0 → Tallied map named 0
+unfolding namedTimes
+tallied-none map named e =
+    let z = zeros positions named e in
+    record {
+      size = z .0;
+      few = λ p h. omega (arith, z .1 p h);
+      times = λ p h. rw (z .1 p h) (sym (zero-add _));
+    }
+
+-- ---- place x, whose key is k
+module _ (map named : List ℕ) (x : ℕ) (inside : x < places) (tallied : Tallied map named x) where
+  marked : (p : ℕ) → p < positions → getD named (keyOf map x) 0 ≡ 0 → Dec (p ≡ keyOf map x)
+      → (getD (set named (keyOf map x) 1) p 0 ≤ 1) × (namedTimes map p ≡ getD (set named (keyOf map x) 1) p 0 + left map (x + 1) p)
+  marked p h z (yes e) =
+      let size = tallied .size in
+      let now : getD (set named (keyOf map x) 1) p 0 ≡ 1 = rw e (getD-set-same named (keyOf map x) 1 0 (omega arith)) in
+      let before : getD named p 0 ≡ 0 = rw e z in
+      let here : _≡_ {A = ℕ} (cond (eqb (keyOf map x) p) 1 0) 1 = rw (eq-eqb (keyOf map x) p (sym e)) in
+      (omega arith, omega (arith, tallied .times p h, count-next (λ y. eqb (keyOf map y) p) places x inside))
+  marked p h z (no e) =
+      let now : getD (set named (keyOf map x) 1) p 0 ≡ getD named p 0 = getD-set-other named (keyOf map x) p 1 0 e in
+      let here : _≡_ {A = ℕ} (cond (eqb (keyOf map x) p) 1 0) 0 = rw (ne-eqb (keyOf map x) p (λ q. e (sym q))) in
+      (omega (arith, tallied .few p h), omega (arith, tallied .times p h, count-next (λ y. eqb (keyOf map y) p) places x inside))
+
+  -- not named before: it is marked
+  pub tallied-next : (next : List ℕ) (k : ℕ) → k ≡ keyOf map x → getD named k 0 ≡ 0 → next ≡ set named k 1 → Tallied map next (x + 1)
+  tallied-next next k a z e =
+      rw (e, a)
+      (let y : getD named (keyOf map x) 0 ≡ 0 = rw a at z in
+      let m : (p : ℕ) → p < positions → (getD (set named (keyOf map x) 1) p 0 ≤ 1) × (namedTimes map p ≡ getD (set named (keyOf map x) 1) p 0 + left map (x + 1) p)
+      = λ p h. marked p h y (ℕ-discrete p (keyOf map x)) in
+      record { size = length-set named (keyOf map x) 1 ∙ tallied .size; few = λ p h. m p h .0; times = λ p h. m p h .1 })
+
+  -- named before: a key is named twice
+  pub tallied-twice : (k : ℕ) → k ≡ keyOf map x → (getD named k 0 ≡ 0 → ⊥) → keysApart map ≡ false
+  unfolding keysApart
+  tallied-twice k a z = go (allFrom (λ p. leb (namedTimes map p) 1) positions 0) refl
+    where
+      position : k < positions
+      position =
+          elim (decLt k positions) [
+            | yes h ↦ h
+            | no h ↦ absurd (z (List·getD-eq-default named 0 (let size = tallied .size in omega arith)))
+          ]
+
+      twice : 1 < namedTimes map k
+      twice =
+          let here : _≡_ {A = ℕ} (cond (eqb (keyOf map x) k) 1 0) 1 = rw (eq-eqb (keyOf map x) k (sym a)) in
+          omega (arith, z, tallied .times k position, count-next (λ y. eqb (keyOf map y) k) places x inside)
+
+      go : (b : Bool) → allFrom (λ p. leb (namedTimes map p) 1) positions 0 ≡ b → b ≡ false
+      go true e = absurd (true-false (all-holds (λ p. leb (namedTimes map p) 1) positions 0 k e (omega arith) (omega (arith, position))) (lt-leb _ _ twice))
+      go false e = refl
+
+-- ---- after the last place: no key is named twice, and the table says how often each position is
+pub tallied-all : (map named : List ℕ) (x : ℕ) → places ≤ x → Tallied map named x → (p : ℕ) → p < positions → namedTimes map p ≡ getD named p 0
+tallied-all map named x l t p h =
+    t .times p h ∙ rw (count-none (λ y. eqb (keyOf map y) p) places x l) (add-zero (getD named p 0))
+
+pub tallied-apart : (map named : List ℕ) (x : ℕ) → places ≤ x → Tallied map named x → keysApart map ≡ true
+unfolding keysApart
+tallied-apart map named x l t =
+    all-intro (λ p. leb (namedTimes map p) 1) positions 0
+    (λ p a b.
+    let h : p < positions = omega arith in
+    le-leb (namedTimes map p) 1 (omega (arith, tallied-all map named x l t p h, t .few p h)))
+
+-- ---- letters by such a table
+pub letters-by-table : (map letters named : List ℕ) → ((p : ℕ) → p < positions → namedTimes map p ≡ getD named p 0)
+    → allFrom (λ p. isLetter (getD letters p 0) && Bool·beq (eqb (getD letters p 0) usedLetter) (leb 1 (getD named p 0))) positions 0 ≡ lettersFit map letters
+unfolding lettersFit
+letters-by-table map letters named t =
+    all-agree _ _ positions 0 (λ p a b. let h : p < positions = omega arith in rw (t p h))
+
+-- ---- the tests of a record in another order
+pub letters-unfit : (x k l : Bool) → k && l ≡ false → x && k && l ≡ false
+letters-unfit true k l e = e
+letters-unfit false k l e = refl
+
+pub letters-right : (x k l : Bool) → k && l ≡ true → x && k && l ≡ x
+letters-right true k l e = e
+letters-right false k l e = refl

@@ -1,0 +1,102 @@
+-- `store::kinds::key_block_whole` meets its contract: page 0 by its header, then all are whole where those left are.
+use borrow.Author.Needs.{needs}
+use Prim.Native.Nat.{ℕ, _≤_, _-_}
+use native.Mathlib.Omega.{arith}
+use mathlib.Core.Path.{_≡_, sym, ap, _∙_}
+use mathlib.Core.Bool.{Bool}
+use mathlib.Core.List.{List}
+use borrow.Author.Tests.{not-true, not-false}
+use Rattle.base.specs.Search.{allFrom}
+use Rattle.base.proofs.Searches.{all-next, all-fails, all-none}
+use Rattle.page.specs.Header.{keysFrame}
+use Rattle.page.specs.declared.Frame.{Frame}
+use Rattle.image.specs.Size.{pagesInBlock}
+use Rattle.image.specs.Look.{formAt}
+use Rattle.store.specs.Kind.{pageIn, sameFrame, wholeWith, keyBlockWhole}
+use Rattle.store.proofs.kinds.key_block_whole.Statement.{statement}
+use Rattle.store.proofs.kinds.key_block_whole.Tie as tie
+
+-- page i of the block is page i of key block q of epoch e
+abbrev keyPage : List ℕ → ℕ → ℕ → ℕ → ℕ → Bool
+keyPage img b q e i = wholeWith (keysFrame e q i) (formAt img (pageIn b i))
+
+abbrev Inv-loop : tie.InvT-loop
+Inv-loop image b q e i₀ i = (i ≤ pagesInBlock) × (keyBlockWhole image b q e ≡ allFrom (keyPage image b q e) (pagesInBlock - i) i)
+
+abbrev μ-loop : tie.MeasureT-loop
+μ-loop image b q e i₀ i = pagesInBlock - i
+
+keys-requires : tie.Need-keys-requires Inv-loop μ-loop
+keys-requires c κs = search needs
+
+same-frame-requires : tie.Need-same-frame-requires Inv-loop μ-loop
+same-frame-requires c κs = search needs
+
+returns : tie.Need-returns Inv-loop μ-loop
+unfolding keyBlockWhole
+returns c =
+    let a = c .before .before .before .before .args in
+    sym (all-fails (keyPage (a .image .now) (a .b) (a .f .unit) (a .f .number)) pagesInBlock 0 (omega arith) (rw (c .before .before .before .before .pre .1) (sym (c .before .same-frame .ensures ∙ ap (sameFrame (a .f)) (c .before .before .keys .ensures)) ∙ not-true _ (c .if1 .taken))))
+
+loop-holds : tie.Need-loop-holds Inv-loop μ-loop
+unfolding keyBlockWhole
+loop-holds c =
+    let a = c .before .before .before .before .args in
+    (omega arith, all-next (keyPage (a .image .now) (a .b) (a .f .unit) (a .f .number)) pagesInBlock 0 (omega arith) (rw (c .before .before .before .before .pre .1) (sym (c .before .same-frame .ensures ∙ ap (sameFrame (a .f)) (c .before .before .keys .ensures)) ∙ not-false _ (c .if1 .left))))
+
+mul-page-whole : tie.Need-mul-page-whole Inv-loop μ-loop
+mul-page-whole c = search needs
+
+add-page-whole : tie.Need-add-page-whole Inv-loop μ-loop
+add-page-whole c = search needs
+
+cast-keys : tie.Need-cast-keys Inv-loop μ-loop
+cast-keys c = search needs
+
+keys-requires-2 : tie.Need-keys-requires-2 Inv-loop μ-loop
+keys-requires-2 c κs = search needs
+
+page-whole-requires : tie.Need-page-whole-requires Inv-loop μ-loop
+page-whole-requires c κs = search needs
+
+returns-2 : tie.Need-returns-2 Inv-loop μ-loop
+returns-2 c =
+    let l = c .before .before .before .before .loop in
+    let a = c .before .before .before .before .before .before .before .before .before .args in
+    sym (l .inv .1 ∙ all-fails _ pagesInBlock (l .i) (omega arith) (sym (c .before .page-whole .ensures ∙ ap (λ (h : Frame). wholeWith h (formAt (a .image .now) (pageIn (a .b) (l .i)))) (c .before .before .keys2 .ensures)) ∙ not-true _ (c .if2 .taken)))
+
+add-i : tie.Need-add-i Inv-loop μ-loop
+add-i c = search needs
+
+loop-less : tie.Need-loop-less Inv-loop μ-loop
+loop-less c = search needs
+
+loop-again : tie.Need-loop-again Inv-loop μ-loop
+loop-again c =
+    let l = c .before .before .before .before .loop in
+    let a = c .before .before .before .before .before .before .before .before .before .args in
+    (omega arith, l .inv .1 ∙ all-next _ pagesInBlock (l .i) (omega arith) (sym (c .before .page-whole .ensures ∙ ap (λ (h : Frame). wholeWith h (formAt (a .image .now) (pageIn (a .b) (l .i)))) (c .before .before .keys2 .ensures)) ∙ not-false _ (c .if2 .left)))
+
+returns-3 : tie.Need-returns-3 Inv-loop μ-loop
+returns-3 c = sym (c .before .loop .inv .1 ∙ all-none _ pagesInBlock (c .before .loop .i) (c .loop-test .left))
+
+pub key-block-whole-spec : {M : Type 1} → statement M
+key-block-whole-spec =
+    tie.close
+    (tie.spec
+    Inv-loop
+    μ-loop
+    keys-requires
+    same-frame-requires
+    returns
+    loop-holds
+    mul-page-whole
+    add-page-whole
+    cast-keys
+    keys-requires-2
+    page-whole-requires
+    returns-2
+    add-i
+    loop-less
+    loop-again
+    returns-3)

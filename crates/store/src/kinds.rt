@@ -1,0 +1,261 @@
+// Block kinds: whole key blocks, whole commit blocks, data blocks.
+use crate::Kind;
+use crate::Numbers;
+use image::look;
+use page::Form;
+use page::Frame;
+use page::entries;
+ghost use mathlib.Core.Path.{_≡_};
+ghost use mathlib.Core.Bool.{_&&_};
+ghost use Prim.Native.Nat.{_≤_, _<_, _+_, _*_, _-_, _%_};
+ghost use lib.ListN.{length};
+ghost use Rattle.base.specs.Search.{allFrom, anyFrom};
+ghost use Rattle.page.specs.Frame.{pageSize};
+ghost use Rattle.page.specs.Header.{commitFrame};
+ghost use Rattle.page.specs.Entry.{parts, validPayload};
+ghost use Rattle.page.specs.Page.{payloadOf};
+ghost use Rattle.image.specs.Size.{blockSize, pagesInBlock};
+ghost use Rattle.image.specs.Look.{pageAt, pageEmpty, formAt};
+ghost use Rattle.store.specs.Kind.{pageIn, sameFrame, wholeWith, keyBlockWhole, commitBlockWhole, kindBy, kindOf, keysEpoch, commitEpoch, coveredBy, isEventLetter, headed, isChosen, isData};
+
+const PAGES_IN_BLOCK: usize = 16;
+
+const BLOCK_SIZE: usize = 4096;
+
+// How many parts a commit has.
+const PARTS: usize = 10;
+
+// Whether two headers are the same, field by field.
+fn same_frame(f: Frame, h: Frame) -> bool
+    ensures { λ r. ⌜ r ≡ sameFrame f h ⌝ }
+{
+    (f.kind == h.kind)
+        & (f.number == h.number)
+        & (f.unit == h.unit)
+        & (f.part == h.part)
+        & (f.key == h.key)
+        & (f.second == h.second)
+}
+
+// Whether a page is whole, with this header.
+fn whole_with(form: Form, h: Frame) -> bool
+    ensures { λ r. ⌜ r ≡ wholeWith h form ⌝ }
+{
+    match form {
+        Form::Empty => false,
+        Form::Whole(f) => same_frame(f, h),
+        Form::Torn(_) => false,
+        Form::Spoilt => false,
+    }
+}
+
+// Whether page g is whole, with this header.
+fn page_whole(image: &[u8], g: usize, h: Frame) -> bool
+    requires { ⌜ g * pageSize + pageSize ≤ length (now image) ⌝ }
+    ensures { λ r. ⌜ r ≡ wholeWith h (formAt (now (image .entry)) g) ⌝ }
+{
+    whole_with(look::form_at(image, g), h)
+}
+
+// Whether block b, whose page 0 is whole with header f, is a whole key block.
+fn key_block_whole(image: &[u8], b: usize, f: Frame) -> bool
+    requires { ⌜ (b * blockSize + blockSize ≤ length (now image)) × (formAt (now image) (pageIn b 0) ≡ Form.Whole f) ⌝ }
+    ensures { λ r. ⌜ r ≡ keyBlockWhole (now (image .entry)) b (f .unit) (f .number) ⌝ }
+{
+    let q = f.unit;
+    let e = f.number;
+    if !same_frame(f, Frame::keys(e, q, 0)) {
+        return false;
+    }
+    let mut i: usize = 1;
+    while i < PAGES_IN_BLOCK {
+        if !page_whole(image, b * PAGES_IN_BLOCK + i, Frame::keys(e, q, i as u32)) {
+            return false;
+        }
+        i += 1;
+    }
+    true
+}
+
+// Whether the payload of page g is valid as that of a commit's part i.
+fn payload_valid(image: &[u8], g: usize, i: usize) -> bool
+    requires { ⌜ g * pageSize + pageSize ≤ length (now image) ⌝ }
+    ensures { λ r. ⌜ r ≡ validPayload i (payloadOf (pageAt (now (image .entry)) g)) ⌝ }
+{
+    let start = g * Frame::PAGE + Frame::HEADER;
+    entries::valid_payload(&image[start..start + Frame::PAYLOAD], i)
+}
+
+// Whether page g is a whole part i of a commit of epoch e that covers s, with a valid payload.
+fn part_whole(image: &[u8], g: usize, i: usize, e: u32, s: u32) -> bool
+    requires { ⌜ (g * pageSize + pageSize ≤ length (now image)) × (i < parts) ⌝ }
+    ensures { λ r. ⌜ r ≡ wholeWith (commitFrame e i s) (formAt (now (image .entry)) g) && validPayload i (payloadOf (pageAt (now (image .entry)) g)) ⌝ }
+{
+    if !page_whole(image, g, Frame::commit(e, i as u32, s)) {
+        return false;
+    }
+    payload_valid(image, g, i)
+}
+
+// Whether block b, whose page 0 is whole with header f, has the whole parts of a commit.
+fn parts_whole(image: &[u8], b: usize, f: Frame) -> bool
+    requires { ⌜ (b * blockSize + blockSize ≤ length (now image)) × (formAt (now image) (pageIn b 0) ≡ Form.Whole f) ⌝ }
+    ensures { λ r. ⌜ r ≡ allFrom (λ i. wholeWith (commitFrame (f .number) i (f .second)) (formAt (now (image .entry)) (pageIn b i)) && validPayload i (payloadOf (pageAt (now (image .entry)) (pageIn b i)))) parts 0 ⌝ }
+{
+    let e = f.number;
+    let s = f.second;
+    if !same_frame(f, Frame::commit(e, 0, s)) {
+        return false;
+    }
+    if !payload_valid(image, b * PAGES_IN_BLOCK, 0) {
+        return false;
+    }
+    let mut i: usize = 1;
+    while i < PARTS {
+        if !part_whole(image, b * PAGES_IN_BLOCK + i, i, e, s) {
+            return false;
+        }
+        i += 1;
+    }
+    true
+}
+
+// Whether the pages of block b after a commit's parts are empty.
+fn rest_empty(image: &[u8], b: usize) -> bool
+    requires { ⌜ b * blockSize + blockSize ≤ length (now image) ⌝ }
+    ensures { λ r. ⌜ r ≡ allFrom (λ i. pageEmpty (now (image .entry)) (pageIn b i)) (pagesInBlock - parts) parts ⌝ }
+{
+    let mut i: usize = PARTS;
+    while i < PAGES_IN_BLOCK {
+        if !look::page_empty(image, b * PAGES_IN_BLOCK + i) {
+            return false;
+        }
+        i += 1;
+    }
+    true
+}
+
+// What the header of block b's page 0, which is whole, makes of it.
+fn kind_by(image: &[u8], b: usize, f: Frame) -> Kind
+    requires { ⌜ (b * blockSize + blockSize ≤ length (now image)) × (formAt (now image) (pageIn b 0) ≡ Form.Whole f) ⌝ }
+    ensures { λ r. ⌜ r ≡ kindBy (now (image .entry)) b f ⌝ }
+{
+    if f.kind == Frame::KEYS_LETTER {
+        if key_block_whole(image, b, f) {
+            return Kind::Keys(f.unit, f.number);
+        }
+        return Kind::Other;
+    }
+    if f.kind != Frame::COMMIT_LETTER {
+        return Kind::Other;
+    }
+    if !parts_whole(image, b, f) {
+        return Kind::Other;
+    }
+    if rest_empty(image, b) {
+        Kind::Commit(f.number, f.second)
+    } else {
+        Kind::Other
+    }
+}
+
+// What block b is; outside the image it is nothing of its own.
+pub fn kind_of(image: &[u8], b: usize) -> Kind
+    requires { ⌜ length (now image) % blockSize ≡ 0 ⌝ }
+    ensures { λ r. ⌜ r ≡ kindOf (now (image .entry)) b ⌝ }
+{
+    if image.len() / BLOCK_SIZE <= b {
+        return Kind::Other;
+    }
+    match look::form_at(image, b * PAGES_IN_BLOCK) {
+        Form::Empty => Kind::Other,
+        Form::Whole(f) => kind_by(image, b, f),
+        Form::Torn(_) => Kind::Other,
+        Form::Spoilt => Kind::Other,
+    }
+}
+
+// The epoch of a whole key block q, 0 where it is none.
+pub fn keys_epoch(kind: Kind, q: u32) -> u32
+    ensures { λ r. ⌜ r ≡ keysEpoch q kind ⌝ }
+{
+    match kind {
+        Kind::Keys(unit, epoch) => if unit == q { epoch } else { 0 },
+        Kind::Commit(_, _) => 0,
+        Kind::Other => 0,
+    }
+}
+
+// The epoch of a whole commit block, 0 where it is none.
+pub fn commit_epoch(kind: Kind) -> u32
+    ensures { λ r. ⌜ r ≡ commitEpoch kind ⌝ }
+{
+    match kind {
+        Kind::Keys(_, _) => 0,
+        Kind::Commit(epoch, _) => epoch,
+        Kind::Other => 0,
+    }
+}
+
+// The sequence that a whole commit block covers, 0 where it is none.
+pub fn covered_by(kind: Kind) -> u32
+    ensures { λ r. ⌜ r ≡ coveredBy kind ⌝ }
+{
+    match kind {
+        Kind::Keys(_, _) => 0,
+        Kind::Commit(_, covered) => covered,
+        Kind::Other => 0,
+    }
+}
+
+// Whether a kind letter is N or D.
+fn is_event_letter(kind: u8) -> bool
+    ensures { λ r. ⌜ r ≡ isEventLetter kind ⌝ }
+{
+    (kind == Frame::NODE_LETTER) | (kind == Frame::CUT_OFF_LETTER)
+}
+
+// Whether a page is a whole or torn N or D page.
+pub fn is_headed(form: Form) -> bool
+    ensures { λ r. ⌜ r ≡ headed form ⌝ }
+{
+    match form {
+        Form::Empty => false,
+        Form::Whole(f) => is_event_letter(f.kind),
+        Form::Torn(f) => is_event_letter(f.kind),
+        Form::Spoilt => false,
+    }
+}
+
+// Whether block b is one that the record has chosen.
+pub fn is_chosen(numbers: Numbers, b: usize) -> bool
+    ensures { λ r. ⌜ r ≡ isChosen numbers b ⌝ }
+{
+    (b == numbers.keys0 as usize) | (b == numbers.keys1 as usize) | (b == numbers.commit as usize)
+}
+
+// Whether block b has a whole or torn N or D page.
+pub fn has_event(image: &[u8], b: usize) -> bool
+    requires { ⌜ b * blockSize + blockSize ≤ length (now image) ⌝ }
+    ensures { λ r. ⌜ r ≡ anyFrom (λ i. headed (formAt (now (image .entry)) (pageIn b i))) pagesInBlock 0 ⌝ }
+{
+    let mut i: usize = 0;
+    while i < PAGES_IN_BLOCK {
+        if is_headed(look::form_at(image, b * PAGES_IN_BLOCK + i)) {
+            return true;
+        }
+        i += 1;
+    }
+    false
+}
+
+// Whether block b is a data block.
+pub fn is_data(image: &[u8], numbers: Numbers, b: usize) -> bool
+    requires { ⌜ b * blockSize + blockSize ≤ length (now image) ⌝ }
+    ensures { λ r. ⌜ r ≡ isData (now (image .entry)) numbers b ⌝ }
+{
+    if is_chosen(numbers, b) {
+        return false;
+    }
+    has_event(image, b)
+}

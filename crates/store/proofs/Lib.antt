@@ -1,6 +1,7 @@
 -- Laws of document 01's calls: what the definitions of specs/ mean at large.
 --   Verdicts    replies and their numbers; tests in order; a call is taken exactly where all its tests pass
 --   BlockKinds  what a whole key block and a whole commit block are, page by page; data blocks
+--   PageTests   what a test of a page against a header says
 --   Choices     the blocks that mount chooses: highest epoch, on a tie the lower block
 --   Finds       the lowest free key, and the page that a write takes
 --   Fits        what it says that a record fits
@@ -12,6 +13,7 @@
 --   Examples    small instances, by computation
 pub mod Verdicts
 pub mod BlockKinds
+pub mod PageTests
 pub mod Choices
 pub mod Finds
 pub mod Fits

@@ -36,10 +36,14 @@ wholeWith h Spoilt = false
 unfoldable pub keyBlockWhole : List ℕ → ℕ → ℕ → ℕ → Bool
 keyBlockWhole img b q e = allFrom (λ i. wholeWith (keysFrame e q i) (formAt img (pageIn b i))) pagesInBlock 0
 
+-- page i of block b is a whole part i of a commit of epoch e that covers sequence s, with a valid payload
+abbrev pub partWhole : List ℕ → ℕ → ℕ → ℕ → ℕ → Bool
+partWhole img b e s i = wholeWith (commitFrame e i s) (formAt img (pageIn b i)) && validPayload i (payloadOf (pageAt img (pageIn b i)))
+
 -- a commit block is whole if pages 0 to 9 are whole parts 0 to 9 of one epoch and covered sequence, with valid payloads, and pages 10 to 15 empty
 unfoldable pub commitBlockWhole : List ℕ → ℕ → ℕ → ℕ → Bool
 commitBlockWhole img b e s =
-    allFrom (λ i. wholeWith (commitFrame e i s) (formAt img (pageIn b i)) && validPayload i (payloadOf (pageAt img (pageIn b i)))) parts 0
+    allFrom (partWhole img b e s) parts 0
     && allFrom (λ i. pageEmpty img (pageIn b i)) (pagesInBlock - parts) parts
 
 -- what the header of a block's page 0 would make of it

@@ -152,7 +152,7 @@ fn name(named: &mut [u8], key: u16) -> bool
 }
 
 // Whether no key is named twice; where none is, named says how often each position is, 0 or 1.
-fn keys_apart(map: &[u16], named: &mut [u8]) -> bool
+pub fn keys_apart(map: &[u16], named: &mut [u8]) -> bool
     requires { ⌜ (length (now map) ≡ mapSize) × (now named ≡ replicate positions 0) ⌝ }
     ensures { λ r. ⌜ (r ≡ keysApart (now (map .entry))) × (r ≡ true → (p : ℕ) → p < positions → namedTimes (now (map .entry)) p ≡ getD (now (named .exit)) p 0) ⌝ }
 {

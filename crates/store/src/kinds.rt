@@ -6,17 +6,15 @@ use page::Form;
 use page::Frame;
 use page::entries;
 ghost use mathlib.Core.Path.{_≡_};
-ghost use mathlib.Core.Bool.{_&&_};
 ghost use Prim.Native.Nat.{_≤_, _<_, _+_, _*_, _-_, _%_};
 ghost use lib.ListN.{length};
 ghost use Rattle.base.specs.Search.{allFrom, anyFrom};
 ghost use Rattle.page.specs.Frame.{pageSize};
-ghost use Rattle.page.specs.Header.{commitFrame};
 ghost use Rattle.page.specs.Entry.{parts, validPayload};
 ghost use Rattle.page.specs.Page.{payloadOf};
 ghost use Rattle.image.specs.Size.{blockSize, pagesInBlock};
 ghost use Rattle.image.specs.Look.{pageAt, pageEmpty, formAt};
-ghost use Rattle.store.specs.Kind.{pageIn, sameFrame, wholeWith, keyBlockWhole, commitBlockWhole, kindBy, kindOf, keysEpoch, commitEpoch, coveredBy, isEventLetter, headed, isChosen, isData};
+ghost use Rattle.store.specs.Kind.{pageIn, sameFrame, wholeWith, keyBlockWhole, partWhole, kindBy, kindOf, keysEpoch, commitEpoch, coveredBy, isEventLetter, headed, isChosen, isData};
 
 const PAGES_IN_BLOCK: usize = 16;
 
@@ -67,12 +65,16 @@ fn key_block_whole(image: &[u8], b: usize, f: Frame) -> bool
     if !same_frame(f, Frame::keys(e, q, 0)) {
         return false;
     }
-    let mut i: usize = 1;
-    while i < PAGES_IN_BLOCK {
-        if !page_whole(image, b * PAGES_IN_BLOCK + i, Frame::keys(e, q, i as u32)) {
+    let mut page: usize = 1;
+    while page < PAGES_IN_BLOCK {
+        if !page_whole(
+            image,
+            b * PAGES_IN_BLOCK + page,
+            Frame::keys(e, q, page as u32),
+        ) {
             return false;
         }
-        i += 1;
+        page += 1;
     }
     true
 }
@@ -86,36 +88,45 @@ fn payload_valid(image: &[u8], g: usize, i: usize) -> bool
     entries::valid_payload(&image[start..start + Frame::PAYLOAD], i)
 }
 
-// Whether page g is a whole part i of a commit of epoch e that covers s, with a valid payload.
-fn part_whole(image: &[u8], g: usize, i: usize, e: u32, s: u32) -> bool
-    requires { ⌜ (g * pageSize + pageSize ≤ length (now image)) × (i < parts) ⌝ }
-    ensures { λ r. ⌜ r ≡ wholeWith (commitFrame e i s) (formAt (now (image .entry)) g) && validPayload i (payloadOf (pageAt (now (image .entry)) g)) ⌝ }
+// Whether page i of block b is a whole part i of a commit of epoch e that covers s, with a valid payload.
+fn part_whole(image: &[u8], b: usize, i: usize, e: u32, s: u32) -> bool
+    requires { ⌜ (b * blockSize + blockSize ≤ length (now image)) × (i < parts) ⌝ }
+    ensures { λ r. ⌜ r ≡ partWhole (now (image .entry)) b e s i ⌝ }
 {
+    let g = b * PAGES_IN_BLOCK + i;
     if !page_whole(image, g, Frame::commit(e, i as u32, s)) {
         return false;
     }
     payload_valid(image, g, i)
 }
 
+// The same of page 0, which is whole with header f.
+fn first_part_whole(image: &[u8], b: usize, f: Frame) -> bool
+    requires { ⌜ (b * blockSize + blockSize ≤ length (now image)) × (formAt (now image) (pageIn b 0) ≡ Form.Whole f) ⌝ }
+    ensures { λ r. ⌜ r ≡ partWhole (now (image .entry)) b (f .number) (f .second) 0 ⌝ }
+{
+    if !same_frame(f, Frame::commit(f.number, 0, f.second)) {
+        return false;
+    }
+    payload_valid(image, b * PAGES_IN_BLOCK, 0)
+}
+
 // Whether block b, whose page 0 is whole with header f, has the whole parts of a commit.
 fn parts_whole(image: &[u8], b: usize, f: Frame) -> bool
     requires { ⌜ (b * blockSize + blockSize ≤ length (now image)) × (formAt (now image) (pageIn b 0) ≡ Form.Whole f) ⌝ }
-    ensures { λ r. ⌜ r ≡ allFrom (λ i. wholeWith (commitFrame (f .number) i (f .second)) (formAt (now (image .entry)) (pageIn b i)) && validPayload i (payloadOf (pageAt (now (image .entry)) (pageIn b i)))) parts 0 ⌝ }
+    ensures { λ r. ⌜ r ≡ allFrom (partWhole (now (image .entry)) b (f .number) (f .second)) parts 0 ⌝ }
 {
+    if !first_part_whole(image, b, f) {
+        return false;
+    }
     let e = f.number;
     let s = f.second;
-    if !same_frame(f, Frame::commit(e, 0, s)) {
-        return false;
-    }
-    if !payload_valid(image, b * PAGES_IN_BLOCK, 0) {
-        return false;
-    }
-    let mut i: usize = 1;
-    while i < PARTS {
-        if !part_whole(image, b * PAGES_IN_BLOCK + i, i, e, s) {
+    let mut part: usize = 1;
+    while part < PARTS {
+        if !part_whole(image, b, part, e, s) {
             return false;
         }
-        i += 1;
+        part += 1;
     }
     true
 }

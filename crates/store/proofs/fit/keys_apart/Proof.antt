@@ -3,6 +3,7 @@ use borrow.Author.Needs.{needs}
 use Prim.Native.Nat.{_≤_, _+_, _-_}
 use native.Mathlib.Omega.{arith}
 use mathlib.Core.Path.{_≡_, refl, sym, ap, _∙_}
+use mathlib.Core.Bool.{true}
 use lib.ListN.{length}
 use borrow.Author.Tests.{not-true, not-false, eqb-true, eqb-false}
 use Rattle.base.proofs.Choice.{true-false}
@@ -55,7 +56,7 @@ loop-again c =
     let l = c .before .before .before .before .before .before .before .loop in
     let a = c .before .before .before .before .before .before .before .before .before .before .args in
     let n = c .before .before .before .name in
-    let t = not-false _ (c .if1 .left) in
+    let t : n .result ≡ true = not-false _ (c .if1 .left) in
     (omega arith, search needs, tallied-next (a .map .now) (l .named) (l .x) (omega arith) (l .inv .2) _ _ (getD-there (a .map .now) (places + l .x) 0 none (omega arith)) (eqb-true _ _ (sym (n .ensures .0) ∙ t)) (n .ensures .1 t))
 
 same-length-2 : tie.Need-same-length-2 Inv-loop μ-loop

@@ -2,17 +2,17 @@
 use borrow.Author.Needs.{needs}
 use Prim.Native.Nat.{ℕ, _≤_, _-_}
 use native.Mathlib.Omega.{arith}
-use mathlib.Core.Path.{_≡_, sym, ap, _∙_}
+use mathlib.Core.Path.{_≡_, sym, _∙_}
 use mathlib.Core.Bool.{Bool}
 use mathlib.Core.List.{List}
 use borrow.Author.Tests.{not-true, not-false}
 use Rattle.base.specs.Search.{allFrom}
 use Rattle.base.proofs.Searches.{all-next, all-fails, all-none}
 use Rattle.page.specs.Header.{keysFrame}
-use Rattle.page.specs.declared.Frame.{Frame}
 use Rattle.image.specs.Size.{pagesInBlock}
 use Rattle.image.specs.Look.{formAt}
-use Rattle.store.specs.Kind.{pageIn, sameFrame, wholeWith, keyBlockWhole}
+use Rattle.store.specs.Kind.{pageIn, wholeWith, keyBlockWhole}
+use Rattle.store.proofs.PageTests.{by-header, by-own-header}
 use Rattle.store.proofs.kinds.key_block_whole.Statement.{statement}
 use Rattle.store.proofs.kinds.key_block_whole.Tie as tie
 
@@ -21,10 +21,10 @@ abbrev keyPage : List ℕ → ℕ → ℕ → ℕ → ℕ → Bool
 keyPage img b q e i = wholeWith (keysFrame e q i) (formAt img (pageIn b i))
 
 abbrev Inv-loop : tie.InvT-loop
-Inv-loop image b q e i₀ i = (i ≤ pagesInBlock) × (keyBlockWhole image b q e ≡ allFrom (keyPage image b q e) (pagesInBlock - i) i)
+Inv-loop image b q e page₀ page = (page ≤ pagesInBlock) × (keyBlockWhole image b q e ≡ allFrom (keyPage image b q e) (pagesInBlock - page) page)
 
 abbrev μ-loop : tie.MeasureT-loop
-μ-loop image b q e i₀ i = pagesInBlock - i
+μ-loop image b q e page₀ page = pagesInBlock - page
 
 keys-requires : tie.Need-keys-requires Inv-loop μ-loop
 keys-requires c κs = search needs
@@ -35,14 +35,16 @@ same-frame-requires c κs = search needs
 returns : tie.Need-returns Inv-loop μ-loop
 unfolding keyBlockWhole
 returns c =
-    let a = c .before .before .before .before .args in
-    sym (all-fails (keyPage (a .image .now) (a .b) (a .f .unit) (a .f .number)) pagesInBlock 0 (omega arith) (rw (c .before .before .before .before .pre .1) (sym (c .before .same-frame .ensures ∙ ap (sameFrame (a .f)) (c .before .before .keys .ensures)) ∙ not-true _ (c .if1 .taken))))
+    let s = c .before .before .before .before in
+    let w = by-own-header _ (s .args .f) _ _ _ (s .pre .1) (c .before .same-frame .ensures) (c .before .before .keys .ensures) in
+    sym (all-fails _ pagesInBlock 0 (omega arith) (sym w ∙ not-true _ (c .if1 .taken)))
 
 loop-holds : tie.Need-loop-holds Inv-loop μ-loop
 unfolding keyBlockWhole
 loop-holds c =
-    let a = c .before .before .before .before .args in
-    (omega arith, all-next (keyPage (a .image .now) (a .b) (a .f .unit) (a .f .number)) pagesInBlock 0 (omega arith) (rw (c .before .before .before .before .pre .1) (sym (c .before .same-frame .ensures ∙ ap (sameFrame (a .f)) (c .before .before .keys .ensures)) ∙ not-false _ (c .if1 .left))))
+    let s = c .before .before .before .before in
+    let w = by-own-header _ (s .args .f) _ _ _ (s .pre .1) (c .before .same-frame .ensures) (c .before .before .keys .ensures) in
+    (omega arith, all-next _ pagesInBlock 0 (omega arith) (sym w ∙ not-false _ (c .if1 .left)))
 
 mul-page-whole : tie.Need-mul-page-whole Inv-loop μ-loop
 mul-page-whole c = search needs
@@ -63,10 +65,11 @@ returns-2 : tie.Need-returns-2 Inv-loop μ-loop
 returns-2 c =
     let l = c .before .before .before .before .loop in
     let a = c .before .before .before .before .before .before .before .before .before .args in
-    sym (l .inv .1 ∙ all-fails _ pagesInBlock (l .i) (omega arith) (sym (c .before .page-whole .ensures ∙ ap (λ (h : Frame). wholeWith h (formAt (a .image .now) (pageIn (a .b) (l .i)))) (c .before .before .keys2 .ensures)) ∙ not-true _ (c .if2 .taken)))
+    let w = by-header (formAt (a .image .now) (pageIn (a .b) (l .page))) _ _ _ (c .before .page-whole .ensures) (c .before .before .keys2 .ensures) in
+    sym (l .inv .1 ∙ all-fails _ pagesInBlock (l .page) (omega arith) (sym w ∙ not-true _ (c .if2 .taken)))
 
-add-i : tie.Need-add-i Inv-loop μ-loop
-add-i c = search needs
+add-page : tie.Need-add-page Inv-loop μ-loop
+add-page c = search needs
 
 loop-less : tie.Need-loop-less Inv-loop μ-loop
 loop-less c = search needs
@@ -75,10 +78,11 @@ loop-again : tie.Need-loop-again Inv-loop μ-loop
 loop-again c =
     let l = c .before .before .before .before .loop in
     let a = c .before .before .before .before .before .before .before .before .before .args in
-    (omega arith, l .inv .1 ∙ all-next _ pagesInBlock (l .i) (omega arith) (sym (c .before .page-whole .ensures ∙ ap (λ (h : Frame). wholeWith h (formAt (a .image .now) (pageIn (a .b) (l .i)))) (c .before .before .keys2 .ensures)) ∙ not-false _ (c .if2 .left)))
+    let w = by-header (formAt (a .image .now) (pageIn (a .b) (l .page))) _ _ _ (c .before .page-whole .ensures) (c .before .before .keys2 .ensures) in
+    (omega arith, l .inv .1 ∙ all-next _ pagesInBlock (l .page) (omega arith) (sym w ∙ not-false _ (c .if2 .left)))
 
 returns-3 : tie.Need-returns-3 Inv-loop μ-loop
-returns-3 c = sym (c .before .loop .inv .1 ∙ all-none _ pagesInBlock (c .before .loop .i) (c .loop-test .left))
+returns-3 c = sym (c .before .loop .inv .1 ∙ all-none _ pagesInBlock (c .before .loop .page) (c .loop-test .left))
 
 pub key-block-whole-spec : {M : Type 1} → statement M
 key-block-whole-spec =
@@ -96,7 +100,7 @@ key-block-whole-spec =
     keys-requires-2
     page-whole-requires
     returns-2
-    add-i
+    add-page
     loop-less
     loop-again
     returns-3)

@@ -1,14 +1,20 @@
 -- `store::kinds::part_whole` meets its contract: the header, then the payload.
-use mathlib.Core.Path.{_≡_, sym, ap, _∙_}
+use mathlib.Core.Path.{_≡_, sym, _∙_}
 use mathlib.Core.Bool.{true, false}
 use borrow.Author.Tests.{not-true, not-false}
 use Rattle.page.specs.Header.{commitFrame}
-use Rattle.page.specs.declared.Frame.{Frame}
 use Rattle.image.specs.Look.{formAt}
-use Rattle.store.specs.Kind.{wholeWith}
+use Rattle.store.specs.Kind.{pageIn, wholeWith}
+use Rattle.store.proofs.PageTests.{by-header}
 use borrow.Author.Needs.{needs}
 use Rattle.store.proofs.kinds.part_whole.Statement.{statement}
 use Rattle.store.proofs.kinds.part_whole.Tie as tie
+
+mul-g : tie.Need-mul-g
+mul-g c = search needs
+
+add-g : tie.Need-add-g
+add-g c = search needs
 
 cast-commit : tie.Need-cast-commit
 cast-commit c = search needs
@@ -22,7 +28,8 @@ page-whole-requires c κs = search needs
 returns : tie.Need-returns
 returns c =
     let a = c .before .before .before .before .args in
-    let w : wholeWith (commitFrame (a .e) (a .i) (a .s)) (formAt (a .image .now) (a .g)) ≡ false = sym (c .before .page-whole .ensures ∙ ap (λ (h : Frame). wholeWith h (formAt (a .image .now) (a .g))) (c .before .before .commit .ensures)) ∙ not-true _ (c .if1 .taken) in
+    let m = formAt (a .image .now) (pageIn (a .b) (a .i)) in
+    let w : wholeWith (commitFrame (a .e) (a .i) (a .s)) m ≡ false = sym (by-header m _ _ _ (c .before .page-whole .ensures) (c .before .before .commit .ensures)) ∙ not-true _ (c .if1 .taken) in
     rw w
 
 payload-valid-requires : tie.Need-payload-valid-requires
@@ -31,13 +38,16 @@ payload-valid-requires c κs = search needs
 returns-2 : tie.Need-returns-2
 returns-2 c =
     let a = c .before .before .before .before .before .args in
-    let w : wholeWith (commitFrame (a .e) (a .i) (a .s)) (formAt (a .image .now) (a .g)) ≡ true = sym (c .before .before .page-whole .ensures ∙ ap (λ (h : Frame). wholeWith h (formAt (a .image .now) (a .g))) (c .before .before .before .commit .ensures)) ∙ not-false _ (c .before .if1 .left) in
+    let m = formAt (a .image .now) (pageIn (a .b) (a .i)) in
+    let w : wholeWith (commitFrame (a .e) (a .i) (a .s)) m ≡ true = sym (by-header m _ _ _ (c .before .before .page-whole .ensures) (c .before .before .before .commit .ensures)) ∙ not-false _ (c .before .if1 .left) in
     rw w (c .payload-valid .ensures)
 
 pub part-whole-spec : {M : Type 1} → statement M
 part-whole-spec =
     tie.close
     (tie.spec
+    mul-g
+    add-g
     cast-commit
     commit-requires
     page-whole-requires

@@ -5,10 +5,11 @@ use mathlib.Core.List.{List, [], _∷_}
 use lib.ListN.{length}
 use lib.Dec.{T, eqb, leb, ltb}
 use Rattle.image.specs.Step.{Step, play, playAll}
-use Rattle.store.specs.Reply.{isDone, numberOf}
+use Rattle.store.specs.Reply.{isDone}
 use Rattle.store.specs.Record.{Record}
 use Rattle.store.specs.Outcome.{Outcome}
 use Rattle.store.specs.Format.{formatSteps, formatted}
+use Rattle.store.specs.Mount.{fills}
 use Rattle.guarantee.specs.Call.{Call, mount, write, read, cutOff, commit, wipe, Event, outcomeOf, isMount, Fate, replied, cut}
 use Rattle.guarantee.specs.Book.{Book, firstBook, entered}
 use Rattle.guarantee.specs.Origin.{Origin, plain, bringerIn, byteOrigin, trace}
@@ -55,7 +56,7 @@ noiseOf (wipe noise file offset) = noise
 -- the record is good after the call: not where it was cut; a mount that succeeds makes it good, one that was refused with 12 to 14 has overwritten it
 abbrev pub onAfter : Bool → Event → Outcome → Bool
 onAfter on e o =
-    cond (isCut e o) false (cond (isMount (e .call)) (isDone (o .reply) || on && ltb (numberOf (o .reply)) 12) on)
+    cond (isCut e o) false (cond (isMount (e .call)) (isDone (o .reply) || on && not (fills (o .reply))) on)
 
 unfoldable pub step : Machine → Event → Machine
 step m e =

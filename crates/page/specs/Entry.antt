@@ -30,6 +30,9 @@ abbrev pub isLetter : ℕ → Bool
 isLetter b = eqb b freeLetter || eqb b usedLetter || eqb b deletedLetter
 
 -- ---- entries: page (4 columns, 0 to 4,095), key (4, 0 to 447), or none
+abbrev pub entryWidth : ℕ
+entryWidth = 4
+
 abbrev pub entrySize : ℕ
 entrySize = 8
 
@@ -56,7 +59,7 @@ vacantEntry = 0x20 ∷ 0x20 ∷ 0x20 ∷ 0x2d ∷ 0x20 ∷ 0x20 ∷ 0x20 ∷ 0x2
 
 -- the entry of a page and a key, as a map has them
 unfoldable pub entryBytes : ℕ → ℕ → List ℕ
-entryBytes page key = cond (eqb page none) vacantEntry (spell 4 page ++ spell 4 key)
+entryBytes page key = cond (eqb page none) vacantEntry (spell entryWidth page ++ spell entryWidth key)
 
 abbrev pub andThen : Number → (ℕ → Entry) → Entry
 andThen (IsNumber n) f = f n
@@ -66,8 +69,8 @@ andThen NoNumber f = Misspelt
 unfoldable pub entryOf : List ℕ → Entry
 entryOf xs =
     cond (same xs vacantEntry) Vacant
-    (andThen (numberIn (part xs 0 4)) λ page.
-    andThen (numberIn (part xs 4 4)) λ key.
+    (andThen (numberIn (part xs 0 entryWidth)) λ page.
+    andThen (numberIn (part xs entryWidth entryWidth)) λ key.
     cond (leb page lastPage && leb key lastPosition) (At page key) Misspelt)
 
 abbrev pub isEntry : Entry → Bool

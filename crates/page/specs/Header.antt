@@ -2,7 +2,7 @@
 use Prim.Native.Nat.{ℕ}
 use mathlib.Core.Bool.{Bool, false, cond, _&&_}
 use mathlib.Core.List.{List, [], _∷_, _++_}
-use lib.ListN.{getD}
+use lib.ListN.{length, getD}
 use lib.Dec.{eqb, leb, ltb}
 use Rattle.base.specs.Part.{part}
 use Rattle.base.specs.Each.{same}
@@ -93,12 +93,53 @@ inRange f =
     (cond (eqb (f .kind) keysLetter) (keysRanges f)
     (cond (eqb (f .kind) commitLetter) (commitRanges f) false)))
 
--- ---- bytes: kind letter (1 column), number (8), unit (3), part (4), key (4), second number (8), colon and space
+-- ---- the columns of a header: kind letter (1 column), number (8), unit (3), part (4), key (4), second number (8), then colon and space
+abbrev pub numberWidth : ℕ
+numberWidth = 8
+
+abbrev pub unitWidth : ℕ
+unitWidth = 3
+
+abbrev pub partWidth : ℕ
+partWidth = 4
+
+abbrev pub keyWidth : ℕ
+keyWidth = 4
+
+abbrev pub secondWidth : ℕ
+secondWidth = 8
+
+-- where each starts
+abbrev pub kindAt : ℕ
+kindAt = 0
+
+abbrev pub numberAt : ℕ
+numberAt = 1
+
+abbrev pub unitAt : ℕ
+unitAt = 9
+
+abbrev pub partAt : ℕ
+partAt = 12
+
+abbrev pub keyAt : ℕ
+keyAt = 16
+
+abbrev pub secondAt : ℕ
+secondAt = 20
+
+abbrev pub colonAt : ℕ
+colonAt = 28
+
+-- the 30 bytes of a header
 unfoldable pub headerBytes : Frame → List ℕ
 headerBytes f =
-    f .kind ∷ (spell 8 (f .number) ++ (spell 3 (f .unit) ++ (spell 4 (f .part) ++ (spell 4 (f .key) ++ (spell 8 (f .second) ++ colonSpace)))))
+    f .kind
+    ∷ (spell numberWidth (f .number)
+    ++ (spell unitWidth (f .unit)
+    ++ (spell partWidth (f .part)
+    ++ (spell keyWidth (f .key) ++ (spell secondWidth (f .second) ++ colonSpace)))))
 
--- what follows a number that is spelt right; where it is misspelt there is no header
 abbrev pub andThen : Number → (ℕ → Header) → Header
 andThen (IsNumber n) f = f n
 andThen Misspelt f = Invalid
@@ -106,10 +147,10 @@ andThen Misspelt f = Invalid
 -- the header that 30 bytes are: every field spelt right and in its range
 unfoldable pub headerOf : List ℕ → Header
 headerOf xs =
-    andThen (numberIn (part xs 1 8)) λ number.
-    andThen (numberIn (part xs 9 3)) λ unit.
-    andThen (numberIn (part xs 12 4)) λ part'.
-    andThen (numberIn (part xs 16 4)) λ key.
-    andThen (numberIn (part xs 20 8)) λ second.
-    let f : Frame = record { kind = getD xs 0 0; number = number; unit = unit; part = part'; key = key; second = second } in
-    cond (same (part xs 28 2) colonSpace && inRange f) (Is f) Invalid
+    andThen (numberIn (part xs numberAt numberWidth)) λ number.
+    andThen (numberIn (part xs unitAt unitWidth)) λ unit.
+    andThen (numberIn (part xs partAt partWidth)) λ part'.
+    andThen (numberIn (part xs keyAt keyWidth)) λ key.
+    andThen (numberIn (part xs secondAt secondWidth)) λ second.
+    let f : Frame = record { kind = getD xs kindAt 0; number = number; unit = unit; part = part'; key = key; second = second } in
+    cond (same (part xs colonAt (length colonSpace)) colonSpace && inRange f) (Is f) Invalid

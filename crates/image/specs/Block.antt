@@ -1,4 +1,4 @@
--- The steps that program a block page by page from its page 0 (document 01, "Calls and their refusals"): a key block from its keys, a commit block from map and letters.
+-- Steps in a row (document 01, "Calls and their refusals"): blocks erased in order, and a block programmed page by page from its page 0, a key block from its keys, a commit block from map and letters.
 use Prim.Native.Nat.{ℕ, zero, suc, _+_, _*_}
 use mathlib.Core.Bool.{cond}
 use mathlib.Core.List.{List, [], _++_}

@@ -32,7 +32,7 @@ unfoldable pub run : List Step → Device → Device
 run [] d = d
 run (s ∷ ss) d = run ss (act s d)
 
--- ---- the same step by step, as code has it: of how many bytes the power does the next step, and what is left of it then
+-- ---- power that is on: how many bytes of the next step it lasts for (no step has more than a block's), and what is left of it then
 abbrev pub reach : Power → ℕ
 reach p = cond (eqb (p .steps) 0) (p .bytes) blockSize
 

@@ -162,9 +162,9 @@ impl RandomList {
     }
 
     fn wrong_lengths(&mut self) -> Lent {
-        let by = [-1, 1, -(BLOCK as isize), BLOCK as isize / 2, 100][self.rng.below(5)];
+        let by = [-448, -100, -1, 1, 2_048][self.rng.below(5)];
         match self.rng.below(3) {
-            0 => Lent { image: if by % BLOCK as isize == 0 { -1 } else { by }, ..Lent::RIGHT },
+            0 => Lent { image: by, ..Lent::RIGHT },
             1 => Lent { map: by, ..Lent::RIGHT },
             _ => Lent { letters: by, ..Lent::RIGHT },
         }

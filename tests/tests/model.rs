@@ -301,8 +301,7 @@ fn a_first_page_cut_within_its_header() {
     assert_eq!(store.cut(write(0, 0, 1), 0, 29), CUT);
     assert_eq!(store.steps(Call::MOUNT).len(), 1);
     assert_eq!(store.call(Call::MOUNT), DONE);
-    assert_eq!(store.image, formatted(8).image);
-    assert_eq!(store.record, formatted(8).record);
+    assert!(store == formatted(8));
 }
 
 // ---- Number of steps
@@ -319,7 +318,7 @@ fn check_steps(store: &Store, call: Call, steps: usize) {
     for bytes in [0, 1, usize::MAX] {
         let mut enough = store.clone();
         assert_eq!(enough.cut(call, steps, bytes), reply, "{call:?}");
-        assert_eq!(enough, plain, "{call:?}");
+        assert!(enough == plain, "{call:?}");
     }
 }
 

@@ -79,22 +79,22 @@ fn check_random_list(
 
 #[test]
 fn random_lists_on_8_blocks() {
-    check_random_lists(8, 0..2000);
+    check_random_lists(8, 0..1600);
 }
 
 #[test]
 fn random_lists_on_9_blocks() {
-    check_random_lists(9, 10_000..11_000);
+    check_random_lists(9, 10_000..10_800);
 }
 
 #[test]
 fn random_lists_on_12_blocks() {
-    check_random_lists(12, 20_000..20_800);
+    check_random_lists(12, 20_000..20_600);
 }
 
 #[test]
 fn random_lists_on_16_blocks() {
-    check_random_lists(16, 30_000..30_700);
+    check_random_lists(16, 30_000..30_500);
 }
 
 // ---- Chosen lists
@@ -125,20 +125,42 @@ fn check_replies(blocks: usize, list: &[(Event, u32)]) {
     assert_eq!(state.check_all_reads(), Ok(()));
 }
 
-/// One list with a cut in each kind of call that changes the flash, mount included.
+/// One list with a cut write, a cut commit and a cut mount, all of them really cut, and every other call
+/// accepted.
 #[test]
 fn cut_write_cut_commit_and_cut_mount() {
+    for blocks in [8, 9, 12, 16] {
+        check_replies(
+            blocks,
+            &[
+                (Event::cut(write(0, 0, 1), 0, 100), CUT),
+                (Call::MOUNT.into(), DONE),
+                (Event::cut(commit(2), 3, 7), CUT),
+                (Event::cut(Call::MOUNT, 0, 300), CUT),
+                (Call::MOUNT.into(), DONE),
+                (commit(3).into(), DONE),
+                (wipe(0, 0, 4).into(), DONE),
+            ],
+        );
+    }
+}
+
+/// The same over a node that is there, which the cut write leaves and the wipe removes.
+#[test]
+fn cut_write_cut_commit_and_cut_mount_over_a_node() {
     check_replies(
         8,
         &[
             (write(0, 0, 1).into(), DONE),
             (Event::cut(write(0, 0, 2), 0, 100), CUT),
             (Call::MOUNT.into(), DONE),
+            (Call::Read { file: 0, offset: 0, output: 224 }.into(), DONE),
             (Event::cut(commit(3), 3, 7), CUT),
-            (Event::cut(Call::MOUNT, 0, 50), CUT),
+            (Event::cut(Call::MOUNT, 0, 300), CUT),
             (Call::MOUNT.into(), DONE),
             (commit(4).into(), DONE),
             (wipe(0, 0, 5).into(), DONE),
+            (Call::Read { file: 0, offset: 0, output: 224 }.into(), 8),
         ],
     );
 }

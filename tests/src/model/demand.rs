@@ -224,7 +224,8 @@ impl Run {
         let reply = store.cut(Call::MOUNT, 0, 0);
         ensure!(reply == DONE, "a mount replies {reply}");
         ensure!(store.image == self.store.image, "a mount changes the image");
-        ensure!(store.record == self.store.record, "a mount gives another record");
+        let (found, own) = (&store.record, &self.store.record);
+        ensure!(found == own, "a mount gives {found:?}, the record is {own:?}");
         Ok(())
     }
 
@@ -285,7 +286,8 @@ impl Run {
             Some(content) => Ok(&content.payload),
             None => Err(&Refusal::NoNode.number()),
         };
-        ensure!(read.as_ref() == expected, "place {place}: {read:?}, in the book {expected:?}");
+        let lengths = (read.as_ref().map(Vec::len), expected.map(Vec::len));
+        ensure!(read.as_ref() == expected, "a read at place {place} differs: lengths {lengths:?}");
         Ok(())
     }
 

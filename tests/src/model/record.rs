@@ -5,6 +5,7 @@ use super::files::{self, PLACES};
 use super::image::{block, pages};
 use super::keys::{Slot, KEY, POSITIONS};
 use super::pages::{is_letter, Entry, Form, Header, LAST, USED};
+use std::fmt;
 
 /// Length of the map: a page for each place, then a key for each place.
 pub const MAP: usize = 2 * PLACES;
@@ -38,7 +39,7 @@ impl Numbers {
 }
 
 /// The working record. Its fields are public: nothing is assumed of lengths or contents.
-#[derive(Clone, Debug, Default, PartialEq, Eq)]
+#[derive(Clone, Default, PartialEq, Eq)]
 pub struct Record {
     /// For each place its page, then for each place its key position.
     pub map: Vec<u16>,
@@ -122,6 +123,23 @@ impl Record {
         let fits = |(&letter, named)| is_letter(letter) && (letter == USED) == named;
         self.letters.iter().zip(named).all(fits)
     }
+}
+
+/// A record printed small: equal neighbours of map and letters as one.
+impl fmt::Debug for Record {
+    fn fmt(&self, f: &mut fmt::Formatter) -> fmt::Result {
+        let letters: Vec<char> = self.letters.iter().map(|&letter| char::from(letter)).collect();
+        f.debug_struct("Record")
+            .field("map", &runs(&self.map))
+            .field("letters", &runs(&letters))
+            .field("numbers", &self.numbers)
+            .finish()
+    }
+}
+
+/// Values with how often each stands there in a row.
+fn runs<T: Copy + PartialEq>(values: &[T]) -> Vec<(T, usize)> {
+    values.chunk_by(|a, b| a == b).map(|run| (run[0], run.len())).collect()
 }
 
 /// Whether this is the form of a whole N page of a place's file and offset, and of this key.

@@ -7,7 +7,7 @@ use super::pages::{ERASED, PAYLOAD};
 use super::record::{Record, SCRATCH};
 
 /// An image with its working record.
-#[derive(Clone, Debug, PartialEq, Eq)]
+#[derive(Clone, PartialEq, Eq)]
 pub struct Store {
     /// The image.
     pub image: Vec<u8>,

@@ -17,7 +17,7 @@ pub fn outcome(image: &[u8], record: &Record, noise: &[u8]) -> Result<Outcome, R
 
     let mut work = Work::new(image, record);
     work.commit(noise)?;
-    Ok(work.outcome)
+    Ok(work.finish())
 }
 
 /// The steps of a commit or wipe so far, the record after them, and which blocks are then empty.

@@ -14,6 +14,7 @@ use Rattle.base.specs.Part.{part}
 use Rattle.base.specs.Each.{same, allAre}
 use Rattle.base.specs.Search.{allFrom, anyFrom}
 use Rattle.base.proofs.Choice.{cond-ap, cond-same, and-true, and-intro, true-false}
+use Rattle.base.proofs.Parts.{part-at}
 use Rattle.base.proofs.Searches.{all-holds, all-intro, all-agree, any-agree, any-all-fail}
 use Rattle.base.proofs.Eachs.{same-true}
 use Rattle.page.specs.Frame.{pageSize, headerSize, closingAt, closingSize, closing, erased, colonSpace}
@@ -31,7 +32,7 @@ use Rattle.page.specs.declared.Form.{Form}
 use Rattle.page.specs.declared.Form.the-variants.{Empty, Whole, Torn, Spoilt}
 use Rattle.image.specs.Size.{blockSize, pagesInBlock, blocks}
 use Rattle.image.specs.Look.{pageAt, formAt, pageEmpty}
-use Rattle.store.specs.Kind.{pageIn, sameFrame, wholeWith, keyBlockWhole, commitBlockWhole, kindOfFirst, kindOf, headed, isChosen, isData}
+use Rattle.store.specs.Kind.{pageIn, sameFrame, wholeWith, keyBlockWhole, commitBlockWhole, kindOfFirst, kindOf, isEventLetter, headed, isChosen, isData}
 use Rattle.store.specs.Find.{isOpen}
 use Rattle.store.specs.declared.Numbers.{Numbers}
 use Rattle.store.specs.declared.Kind.{Kind}
@@ -73,6 +74,33 @@ header-in Invalid page = cond-ap headerIn (isEmpty page) Empty Spoilt ∙ cond-s
 form-in-range : (img : List ℕ) (g : ℕ) (f : Frame) → headerIn (formAt img g) ≡ Is f → inRange f ≡ true
 unfolding formAt formOf
 form-in-range img g f e = header-is (part (pageAt img g) 0 headerSize) f (sym (header-in _ (pageAt img g)) ∙ e) .1
+
+-- the letter of a whole or torn N or D page is its first byte
+pub headed-letter : (img : List ℕ) (g : ℕ) → headed (formAt img g) ≡ true → isEventLetter (getD img (g * pageSize) 0) ≡ true
+unfolding formAt formOf pageAt
+headed-letter img g = go (headerOf (part (pageAt img g) 0 headerSize)) refl
+  where
+    first : getD (part (pageAt img g) 0 headerSize) 0 0 ≡ getD img (g * pageSize) 0
+    first =
+        part-at (pageAt img g) 0 headerSize 0 0 (omega arith)
+        ∙ part-at img (g * pageSize) pageSize 0 0 (omega arith)
+        ∙ ap (λ (a : ℕ). getD img a 0) (omega arith)
+
+    go : (h : Header) → headerOf (part (pageAt img g) 0 headerSize) ≡ h → headed (formBy h (pageAt img g)) ≡ true → isEventLetter (getD img (g * pageSize) 0) ≡ true
+    go (Is f) q e =
+        let k = header-is (part (pageAt img g) 0 headerSize) f q .0 ∙ first in
+        let both = cond-ap headed (closed (pageAt img g)) (Whole f) (Torn f) ∙ cond-same (closed (pageAt img g)) (isEventLetter (f .kind)) in
+        rw (← k) (sym both ∙ e)
+    go Invalid q e =
+        absurd (true-false e (cond-ap headed (isEmpty (pageAt img g)) Empty Spoilt ∙ cond-same (isEmpty (pageAt img g)) false))
+
+-- so a page that begins with another byte is none
+pub unheaded : (img : List ℕ) (g : ℕ) → isEventLetter (getD img (g * pageSize) 0) ≡ false → headed (formAt img g) ≡ false
+unheaded img g e = go (headed (formAt img g)) refl
+  where
+    go : (t : Bool) → headed (formAt img g) ≡ t → t ≡ false
+    go true h = absurd (true-false (headed-letter img g h) e)
+    go false h = refl
 
 -- the fields of a whole or torn page are in range
 pub whole-in-range : (img : List ℕ) (g : ℕ) (f : Frame) → formAt img g ≡ Whole f → inRange f ≡ true

@@ -9,14 +9,14 @@ use mathlib.Core.List.{List, _++_}
 use lib.Dec.{eqb, leb, ltb}
 use lib.ListN.{length, getD, length-append, List·getD-append}
 use lib.Seq.{getD-append-add}
-use borrow.Author.Tests.{ltb-true, ltb-false, leb-true, leb-false, eqb-true, eqb-false, eq-eqb}
+use borrow.Author.Tests.{ltb-true, ltb-false, leb-true, leb-false, eqb-true, eqb-false}
 use Rattle.base.specs.Search.{allFrom}
 use Rattle.base.specs.Fold.{listFrom}
 use Rattle.base.proofs.Choice.{and-true, cond-ap, cond-same, true-false}
 use Rattle.base.proofs.Searches.{below-suc, all-agree}
 use Rattle.base.proofs.Folds.{fold-agree, fold-up, length-listFrom, listFrom-at, listFrom-agree}
 use Rattle.page.specs.Plan.{filePlan, places, placeOf}
-use Rattle.page.specs.Header.{nodeLetter, cutOffLetter, lastNumber}
+use Rattle.page.specs.Header.{nodeLetter, cutOffLetter}
 use Rattle.page.specs.Entry.{none}
 use Rattle.page.specs.declared.Frame.{Frame}
 use Rattle.page.specs.declared.Form.{Form}

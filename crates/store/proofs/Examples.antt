@@ -1,11 +1,10 @@
 -- Small instances of the definitions, by computation alone: headers, entries, places, a block's kind, the deciding event among three pages.
 use Prim.Native.Nat.{ℕ, _*_}
 use mathlib.Core.Path.{_≡_, refl}
-use mathlib.Core.Bool.{Bool, true, false}
 use mathlib.Core.List.{List, [], _∷_, _++_}
 use lib.ListN.{replicate}
 use Rattle.base.specs.Part.{part}
-use Rattle.base.specs.Search.{allFrom, anyFrom}
+use Rattle.base.specs.Search.{allFrom}
 use Rattle.base.specs.Fold.{foldFrom, listFrom}
 use Rattle.base.specs.Each.{same, allAre}
 use Rattle.page.specs.Column.{columns, spell, valueAfter, numberIn}
@@ -13,19 +12,14 @@ use Rattle.page.specs.Plan.{filePlan, countOf, startOf, placeOf}
 use Rattle.page.specs.Header.{inRange, headerBytes, headerOf, nodeFrame, cutOffFrame}
 use Rattle.page.specs.Form.{isEmpty, closed, formOf}
 use Rattle.page.specs.Entry.{none, entryBytes, entryOf, entriesFrom, commitPayload, validPayload, freeLetter}
-use Rattle.page.specs.Page.{pageBytes, keysPage, commitPage, cutOffPage, payloadOf, cutPage}
-use Rattle.page.specs.declared.Header.{Header}
+use Rattle.page.specs.Page.{pageBytes, keysPage, commitPage, cutOffPage, payloadOf}
 use Rattle.page.specs.declared.Header.the-variants.{Is, Invalid}
-use Rattle.page.specs.declared.Entry.{Entry}
 use Rattle.page.specs.declared.Entry.the-variants.{At, Vacant, Misspelt}
-use Rattle.page.specs.declared.Place.{Place}
-use Rattle.page.specs.declared.Place.the-variants.{At as PlaceAt, Outside}
+use Rattle.page.specs.declared.Place.the-variants.{At as PlaceAt}
 use Rattle.image.specs.Look.{pageAt, pageEmpty, formAt}
-use Rattle.store.specs.Kind.{keyBlockWhole, commitBlockWhole, kindOf, isData}
-use Rattle.store.specs.Mount.{coveredIn, entryIn, Decision, removes, sets, cuts, decision}
-use Rattle.store.specs.Format.{formatNumbers}
-use Rattle.store.specs.declared.Kind.{Kind}
-use Rattle.store.specs.declared.Kind.the-variants.{Keys, Commit, Other}
+use Rattle.store.specs.Kind.{keyBlockWhole, commitBlockWhole, kindOf}
+use Rattle.store.specs.Mount.{coveredIn, entryIn, removes, sets, cuts, decision}
+use Rattle.store.specs.declared.Kind.the-variants.{Keys, Commit}
 
 -- ---- headers, entries, places
 pub header-example : headerOf (headerBytes (cutOffFrame 12 3 23)) ≡ Is (cutOffFrame 12 3 23)

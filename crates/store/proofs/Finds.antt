@@ -2,19 +2,19 @@
 use Prim.Native.Nat.{ℕ, zero, suc, _+_, _-_, _*_, _/_, _%_, _<_, _≤_}
 use native.Mathlib.Omega.{arith}
 use native.Mathlib.Decide.{decLt}
-use mathlib.Core.Path.{_≡_, refl, sym, ap, subst, _∙_}
-use mathlib.Core.Logic.{_⊎_, inl, inr, ⊎-elim}
-use mathlib.Core.Bool.{Bool, true, false, cond, _&&_}
+use mathlib.Core.Path.{_≡_, refl, sym, subst, _∙_}
+use mathlib.Core.Logic.{_⊎_, inl, inr}
+use mathlib.Core.Bool.{Bool, true, false, cond}
 use mathlib.Core.List.{List, [], _∷_}
 use lib.Dec.{eqb, leb, ltb}
 use lib.ListN.{length, getD, take, drop}
 use borrow.Author.Tests.{ltb-true, ltb-false, lt-ltb, le-ltb, leb-true, leb-false, le-leb, lt-leb, eqb-true, eqb-false, eq-eqb, ne-eqb}
 use Rattle.base.specs.Part.{part}
 use Rattle.base.specs.Each.{allAre}
-use Rattle.base.specs.Search.{firstFrom, countFrom, allFrom}
+use Rattle.base.specs.Search.{firstFrom}
 use Rattle.base.proofs.Choice.{and-true, and-intro, true-false}
 use Rattle.base.proofs.Parts.{part-part}
-use Rattle.base.proofs.Searches.{first-agree, count-agree, first-bounds, first-holds, first-least, first-all, all-holds, all-intro, count-first}
+use Rattle.base.proofs.Searches.{first-agree, count-agree, first-holds, first-least, first-all, all-holds, all-intro, count-first}
 use Rattle.page.specs.Frame.{pageSize, erased}
 use Rattle.page.specs.Form.{isEmpty}
 use Rattle.page.specs.Key.{positions}

@@ -1,16 +1,16 @@
 -- What it says that a record fits, fact by fact; and what follows of a live place.
-use Prim.Native.Nat.{ℕ, _+_, _*_, _/_, _%_, _<_, _≤_}
+use Prim.Native.Nat.{ℕ, _+_, _/_, _%_, _<_, _≤_}
 use native.Mathlib.Omega.{arith}
-use mathlib.Core.Path.{_≡_, refl, sym, ap, subst, _∙_}
+use mathlib.Core.Path.{_≡_, refl, sym, ap, _∙_}
 use mathlib.Core.Logic.{_⊎_, inl, inr, ⊎-elim}
 use mathlib.Core.Bool.{Bool, true, false, cond, Bool·beq, _&&_, _||_}
 use mathlib.Core.List.{List}
 use lib.Dec.{eqb, leb, ltb}
 use lib.ListN.{length, getD}
-use borrow.Author.Tests.{ltb-true, ltb-false, lt-ltb, le-ltb, leb-true, leb-false, le-leb, lt-leb, eqb-true, eqb-false, eq-eqb, ne-eqb}
-use Rattle.base.specs.Search.{allFrom, countFrom, anyFrom}
+use borrow.Author.Tests.{ltb-true, lt-ltb, leb-true, le-leb, eqb-true, eq-eqb}
+use Rattle.base.specs.Search.{allFrom}
 use Rattle.base.proofs.Choice.{cond-same, and-true, and-intro, true-false}
-use Rattle.base.proofs.Searches.{all-agree, all-holds, all-intro, any-holds, any-intro, any-all-fail, count-any, count-some, count-unique, unique-count}
+use Rattle.base.proofs.Searches.{all-agree, all-holds, all-intro, any-holds, count-any, count-some, count-unique, unique-count}
 use Rattle.page.specs.Plan.{filePlan, places, placeOf}
 use Rattle.page.specs.Header.{nodeLetter, lastNumber, lastPosition, within, inPlan, nodeRanges, inRange}
 use Rattle.page.specs.Key.{positions}
@@ -24,11 +24,9 @@ use Rattle.image.specs.Size.{blockSize, fewestBlocks, mostBlocks, blocks, pages
 use Rattle.image.specs.Look.{formAt}
 use Rattle.store.specs.Kind.{kindOf, keysEpoch, commitEpoch, isData}
 use Rattle.store.specs.Record.{Record, pageOf, keyOf, live, isAt, nodeAt, placeFits, namedTimes, keysApart, lettersFit, numbersFit, blocksFit, fits}
-use Rattle.store.specs.declared.Numbers.{Numbers}
-use Rattle.store.specs.declared.Kind.{Kind}
-use Rattle.store.specs.declared.Kind.the-variants.{Keys, Commit, Other}
+use Rattle.store.specs.declared.Kind.the-variants.{Keys, Commit}
 use Rattle.store.proofs.BlockKinds.{whole-in-range, whole-inside, keys-range, commit-range, keys-inside, commit-inside, hasEvents, data-has-events}
-use Rattle.store.proofs.Choices.{commit-epoch, keys-epoch, keys-own-epoch}
+use Rattle.store.proofs.Choices.{commit-epoch, keys-epoch}
 
 -- ---- places
 -- place x is none in both halves

@@ -1,5 +1,5 @@
 -- A mount that passes its tests makes a record that fits the image.
-use Prim.Native.Nat.{ℕ, _+_, _<_, _≤_}
+use Prim.Native.Nat.{ℕ, _<_, _≤_}
 use native.Mathlib.Omega.{arith}
 use native.Mathlib.Nat.{zero-add}
 use mathlib.Core.Path.{_≡_, refl, sym, ap, _∙_}
@@ -8,22 +8,18 @@ use mathlib.Core.Bool.{Bool, true, false, cond, not, _||_}
 use mathlib.Core.List.{List}
 use lib.Dec.{eqb, leb}
 use lib.ListN.{getD, length}
-use borrow.Author.Tests.{leb-true}
-use Rattle.base.specs.Search.{allFrom, highestFrom}
-use Rattle.base.specs.Fold.{listFrom}
 use Rattle.base.proofs.Searches.{all-holds, highest-least}
 use Rattle.base.proofs.Folds.{listFrom-at, length-listFrom}
 use Rattle.page.specs.Plan.{places}
 use Rattle.page.specs.Header.{lastNumber}
 use Rattle.page.specs.Key.{positions}
 use Rattle.page.specs.Entry.{freeLetter, usedLetter, deletedLetter}
-use Rattle.page.specs.declared.Frame.{Frame}
 use Rattle.page.specs.declared.Form.{Form}
 use Rattle.page.specs.declared.Form.the-variants.{Empty, Whole, Torn, Spoilt}
 use Rattle.image.specs.Size.{blocks, pages}
 use Rattle.image.specs.Look.{formAt}
 use Rattle.store.specs.Kind.{kindOf, coveredBy, isEventLetter}
-use Rattle.store.specs.Record.{keyOf, placeFits, namedTimes, keysApart, fits}
+use Rattle.store.specs.Record.{placeFits, namedTimes, keysApart, fits}
 use Rattle.store.specs.Find.{isFound, foundAt}
 use Rattle.store.specs.Mount.{chosenCommit, chosenKeys, coveredIn, letterIn, mountMap, entriesFit, isSpent, mountLetter, sequenceOf, epochOf, mountNumbers, mounted}
 use Rattle.store.proofs.BlockKinds.{whole-in-range, torn-in-range, number-range, keys-range, commit-range}

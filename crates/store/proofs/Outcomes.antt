@@ -1,9 +1,9 @@
 -- What each call leaves where it is taken and where it is refused, whole and with the power failing; and that lent buffers keep their lengths.
-use Prim.Native.Nat.{ℕ, zero, suc, _+_, _<_, _≤_}
+use Prim.Native.Nat.{ℕ, _+_, _<_, _≤_}
 use native.Mathlib.Omega.{arith}
 use mathlib.Core.Path.{_≡_, refl, ap, _∙_}
 use mathlib.Core.Bool.{Bool, true, false, cond}
-use mathlib.Core.List.{List, [], _∷_, map}
+use mathlib.Core.List.{List, [], map}
 use lib.ListN.{length, set, replicate, length-append, length-map, length-set, length-replicate}
 use lib.Dec.{ltb}
 use borrow.Author.Tests.{le-leb, lt-leb, lt-ltb, le-ltb}
@@ -14,7 +14,7 @@ use Rattle.page.specs.Plan.{places}
 use Rattle.page.specs.Key.{positions}
 use Rattle.page.specs.Entry.{none, freeLetter, usedLetter, deletedLetter}
 use Rattle.image.proofs.Plays.{play-all}
-use Rattle.image.specs.Step.{Step, whole, play, playAll}
+use Rattle.image.specs.Step.{Step, play, playAll}
 use Rattle.store.specs.Reply.{verdict, isDone, numberOf}
 use Rattle.store.specs.Record.{Record, withNumbers, mapSize, keyOf, live}
 use Rattle.store.specs.Outcome.{Outcome, decided, Left, left}

@@ -181,7 +181,7 @@ passed : (ts : List Test) → allRefusals isRefusal ts ≡ true → verdict ts �
 passed ts q e i = each-at Passes ts i (true else Done) refl (verdict-done ts (refuse-each ts q) e)
 
 -- ---- what several calls test
-buffers-true : (map letters : List ℕ) → buffersRight map letters ≡ true → Buffers map letters
+pub buffers-true : (map letters : List ℕ) → buffersRight map letters ≡ true → Buffers map letters
 buffers-true map letters e =
     let b = and-true (eqb (length map) mapSize) (eqb (length letters) positions) e in
     record { mapFull = eqb-true _ _ (b .0); lettersFull = eqb-true _ _ (b .1) }
@@ -190,10 +190,10 @@ pub buffers-right : (map letters : List ℕ) → Buffers map letters → buffers
 buffers-right map letters b =
     and-intro (eqb (length map) mapSize) (eqb (length letters) positions) (eq-eqb _ _ (b .mapFull)) (eq-eqb _ _ (b .lettersFull))
 
-ready-true : (img : List ℕ) (r : Record) → sizeRight img ≡ true → buffersRight (r .map) (r .letters) ≡ true → fits img r ≡ true → Ready img r
+pub ready-true : (img : List ℕ) (r : Record) → sizeRight img ≡ true → buffersRight (r .map) (r .letters) ≡ true → fits img r ≡ true → Ready img r
 ready-true img r s b f = record { size = s; buffers = buffers-true (r .map) (r .letters) b; fit = f }
 
-planned-true : (file offset : ℕ) → fileRight file ≡ true → offsetRight file offset ≡ true → Planned file offset
+pub planned-true : (file offset : ℕ) → fileRight file ≡ true → offsetRight file offset ≡ true → Planned file offset
 planned-true file offset f o = record { fileRight = leb-true _ _ f; offsetRight = ltb-true _ _ o }
 
 -- ---- format

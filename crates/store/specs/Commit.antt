@@ -19,7 +19,6 @@ use Rattle.store.specs.Outcome.{Outcome, decided}
 use Rattle.store.specs.Format.{noiseSize, buffersRight}
 use Rattle.store.specs.Write.{keysBlock}
 use Rattle.store.specs.declared.Numbers.{Numbers}
-use Rattle.store.specs.declared.Reply.{Reply}
 use Rattle.store.specs.declared.Reply.the-variants.{ImageSize, BufferLength, NoiseLength, RecordUnfit, NoRoom, NumbersSpent}
 
 abbrev pub commitTests : List ℕ → Record → List ℕ → List Test

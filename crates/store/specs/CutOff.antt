@@ -1,6 +1,6 @@
 -- Document 01, "Calls and their refusals": Cut-off from an offset.
-use Prim.Native.Nat.{ℕ, zero, suc, _+_, _-_}
-use mathlib.Core.Bool.{Bool, cond, _&&_}
+use Prim.Native.Nat.{ℕ, _+_, _-_}
+use mathlib.Core.Bool.{Bool}
 use mathlib.Core.List.{List, [], _∷_}
 use lib.ListN.{set}
 use lib.Dec.{leb}
@@ -18,7 +18,6 @@ use Rattle.store.specs.Outcome.{Outcome, decided}
 use Rattle.store.specs.Find.{newPage, isFound, foundAt}
 use Rattle.store.specs.Format.{buffersRight}
 use Rattle.store.specs.Write.{fileRight, offsetRight, placeAt, nextSequence, released}
-use Rattle.store.specs.declared.Reply.{Reply}
 use Rattle.store.specs.declared.Reply.the-variants.{ImageSize, BufferLength, NoSuchFile, OffsetOutside, RecordUnfit, NothingThere, NoRoom, NumbersSpent}
 
 -- the number of places of a file from an offset on

@@ -14,7 +14,6 @@ use Rattle.store.specs.Reply.{Test, _else_, verdict}
 use Rattle.store.specs.Record.{Record, mapSize}
 use Rattle.store.specs.Outcome.{Outcome, decided}
 use Rattle.store.specs.declared.Numbers.{Numbers}
-use Rattle.store.specs.declared.Reply.{Reply}
 use Rattle.store.specs.declared.Reply.the-variants.{ImageSize, BufferLength, NoiseLength}
 
 -- a key's worth of noise for each position: 7,168 bytes

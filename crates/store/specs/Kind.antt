@@ -1,6 +1,6 @@
 -- Document 01, "Page forms": whole key blocks, whole commit blocks, data blocks.
 use Prim.Native.Nat.{ℕ, _+_, _*_, _-_}
-use mathlib.Core.Bool.{Bool, true, false, cond, not, _&&_, _||_}
+use mathlib.Core.Bool.{Bool, false, cond, not, _&&_, _||_}
 use mathlib.Core.List.{List}
 use lib.Dec.{eqb}
 use Rattle.base.specs.Search.{allFrom, anyFrom}
@@ -11,7 +11,7 @@ use Rattle.page.specs.declared.Frame.{Frame}
 use Rattle.page.specs.declared.Form.{Form}
 use Rattle.page.specs.declared.Form.the-variants.{Empty, Whole, Torn, Spoilt}
 use Rattle.image.specs.Size.{pagesInBlock}
-use Rattle.image.specs.Look.{pageAt, pageEmpty, blockEmpty, formAt}
+use Rattle.image.specs.Look.{pageAt, pageEmpty, formAt}
 use Rattle.store.specs.declared.Numbers.{Numbers}
 use Rattle.store.specs.declared.Kind.{Kind}
 use Rattle.store.specs.declared.Kind.the-variants.{Keys, Commit, Other}

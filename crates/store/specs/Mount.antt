@@ -1,6 +1,6 @@
 -- Document 01, "Calls and their refusals": Mount. A decision for each place and each position, then the blocks to erase.
-use Prim.Native.Nat.{ℕ, _+_, _*_, _/_, _%_, max}
-use mathlib.Core.Bool.{Bool, true, false, cond, not, _&&_, _||_}
+use Prim.Native.Nat.{ℕ, _+_, _/_, _%_, max}
+use mathlib.Core.Bool.{Bool, false, cond, not, _&&_, _||_}
 use mathlib.Core.List.{List, [], _∷_, _++_, map}
 use lib.ListN.{length, getD, replicate}
 use lib.Dec.{eqb, leb, ltb}
@@ -23,7 +23,7 @@ use Rattle.image.specs.Look.{pageAt, blockEmpty, formAt}
 use Rattle.image.specs.Step.{Step, erase}
 use Rattle.store.specs.Reply.{Test, _else_, verdict, numberOf}
 use Rattle.store.specs.Kind.{pageIn, kindOf, keysEpoch, commitEpoch, coveredBy, isEventLetter, isData, isChosen}
-use Rattle.store.specs.Record.{Record, mapSize, pageOf, keyOf, isAt, placeFits, namedTimes, keysApart}
+use Rattle.store.specs.Record.{Record, mapSize, isAt, placeFits, namedTimes, keysApart}
 use Rattle.store.specs.Outcome.{Outcome, decided}
 use Rattle.store.specs.Find.{isFound, foundAt}
 use Rattle.store.specs.Format.{buffersRight, noNumbers}

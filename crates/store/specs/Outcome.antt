@@ -4,10 +4,11 @@ use mathlib.Core.Bool.{cond}
 use mathlib.Core.List.{List, []}
 use lib.ListN.{length}
 use lib.Dec.{ltb}
-use Rattle.image.specs.Step.{Step, play}
+use Rattle.image.specs.Step.{Step, play, playAll}
 use Rattle.store.specs.Reply.{isDone}
 use Rattle.store.specs.Record.{Record, recordOf}
 use Rattle.store.specs.declared.Answer.{Answer}
+use Rattle.store.specs.declared.Numbers.{Numbers}
 use Rattle.store.specs.declared.Reply.{Reply}
 use Rattle.store.specs.declared.Reply.the-variants.{PowerCut}
 
@@ -45,7 +46,15 @@ left n k o img =
       lent = o .lent;
     }
 
+-- the whole call: all its steps
+unfoldable pub leftWhole : Outcome → List ℕ → Left
+leftWhole o img = record { reply = o .reply; image = playAll (o .steps) img; after = o .after; lent = o .lent }
+
 -- what stands, in the terms of the code: an answer, and what is in every lent buffer
 abbrev pub standing : Answer → List ℕ → List ℕ → List ℕ → List ℕ → Left
 standing a img map letters lent =
     record { reply = a .reply; image = img; after = recordOf map letters (a .numbers); lent = lent }
+
+-- the answer of a call that leaves the numbers
+abbrev pub answered : Reply → Numbers → Answer
+answered v n = record { reply = v; numbers = n }

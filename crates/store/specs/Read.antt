@@ -12,7 +12,6 @@ use Rattle.store.specs.Record.{Record, pageOf, keyOf, live, fits}
 use Rattle.store.specs.Outcome.{Outcome, decided}
 use Rattle.store.specs.Format.{buffersRight}
 use Rattle.store.specs.Write.{fileRight, offsetRight, placeAt, keyHeld}
-use Rattle.store.specs.declared.Reply.{Reply}
 use Rattle.store.specs.declared.Reply.the-variants.{ImageSize, BufferLength, NoSuchFile, OffsetOutside, PayloadLength, RecordUnfit, NothingThere}
 
 abbrev pub readTests : List ℕ → Record → ℕ → ℕ → List ℕ → List Test

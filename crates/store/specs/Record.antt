@@ -2,14 +2,13 @@
 use Prim.Native.Nat.{ℕ, _+_}
 use mathlib.Core.Bool.{Bool, true, false, cond, Bool·beq, _&&_}
 use mathlib.Core.List.{List}
-use lib.ListN.{getD, length}
+use lib.ListN.{getD}
 use lib.Dec.{eqb, leb, ltb}
 use Rattle.base.specs.Search.{allFrom, countFrom}
 use Rattle.page.specs.Plan.{filePlan, places, placeOf}
 use Rattle.page.specs.Header.{nodeLetter, within, lastNumber}
 use Rattle.page.specs.Key.{positions}
 use Rattle.page.specs.Entry.{none, isLetter, usedLetter}
-use Rattle.page.specs.declared.Frame.{Frame}
 use Rattle.page.specs.declared.Form.{Form}
 use Rattle.page.specs.declared.Form.the-variants.{Empty, Whole, Torn, Spoilt}
 use Rattle.page.specs.declared.Place.{Place}

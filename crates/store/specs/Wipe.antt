@@ -13,7 +13,6 @@ use Rattle.store.specs.Format.{noiseSize, buffersRight}
 use Rattle.store.specs.Write.{fileRight, offsetRight}
 use Rattle.store.specs.CutOff.{removed}
 use Rattle.store.specs.Commit.{Stage, begin, commitReplaced, commitStages, cleaned, nextEpoch}
-use Rattle.store.specs.declared.Reply.{Reply}
 use Rattle.store.specs.declared.Reply.the-variants.{ImageSize, BufferLength, NoiseLength, NoSuchFile, OffsetOutside, RecordUnfit, NoRoom, NumbersSpent}
 
 abbrev pub wipeTests : List ℕ → Record → List ℕ → ℕ → ℕ → List Test

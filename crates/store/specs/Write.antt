@@ -2,25 +2,27 @@
 use Prim.Native.Nat.{ℕ, _+_}
 use mathlib.Core.Bool.{Bool, cond}
 use mathlib.Core.List.{List, [], _∷_}
-use lib.ListN.{length, getD, set}
+use lib.ListN.{length, set}
 use lib.Dec.{eqb, leb, ltb}
 use Rattle.page.specs.Frame.{payloadSize}
 use Rattle.page.specs.Plan.{filePlan, lastFile, places, countOf, startOf}
 use Rattle.page.specs.Header.{lastNumber}
 use Rattle.page.specs.Key.{keyBlock}
-use Rattle.page.specs.Entry.{none, usedLetter, deletedLetter}
+use Rattle.page.specs.Entry.{usedLetter, deletedLetter}
 use Rattle.page.specs.Page.{nodePage}
 use Rattle.image.specs.Size.{sizeRight}
 use Rattle.image.specs.Look.{blockAt}
 use Rattle.image.specs.Step.{Step, program}
 use Rattle.image.specs.Block.{keyInBlock}
-use Rattle.store.specs.Reply.{Test, _else_, verdict}
-use Rattle.store.specs.Record.{Record, pageOf, keyOf, live, fits}
+use Rattle.store.specs.Reply.{Test, _else_, verdict, isDone}
+use Rattle.store.specs.Record.{Record, keyOf, live, fits}
 use Rattle.store.specs.Outcome.{Outcome, decided}
 use Rattle.store.specs.Find.{lowestFree, newPage, isFound, foundAt}
 use Rattle.store.specs.Format.{buffersRight}
 use Rattle.store.specs.declared.Numbers.{Numbers}
 use Rattle.store.specs.declared.Reply.{Reply}
+use Rattle.store.specs.declared.write.Taking.{Taking}
+use Rattle.store.specs.declared.write.Taking.the-variants.{Take, Refuse}
 use Rattle.store.specs.declared.Reply.the-variants.{ImageSize, BufferLength, NoSuchFile, OffsetOutside, PayloadLength, RecordUnfit, NoFreeKey, NoRoom, NumbersSpent}
 
 -- refusals 4 and 5: file above 13; offset not below the count
@@ -29,6 +31,26 @@ fileRight file = leb file lastFile
 
 abbrev pub offsetRight : ℕ → ℕ → Bool
 offsetRight file offset = ltb offset (countOf filePlan file)
+
+-- the tests that write, read and cut-off begin with
+abbrev pub placeTests : List ℕ → List ℕ → List ℕ → ℕ → ℕ → List Test
+placeTests img map letters file offset =
+    (sizeRight img else ImageSize)
+    ∷ (buffersRight map letters else BufferLength)
+    ∷ (fileRight file else NoSuchFile)
+    ∷ (offsetRight file offset else OffsetOutside)
+    ∷ []
+
+-- the tests that write and read begin with; the buffer is the payload or the output
+abbrev pub nodeTests : List ℕ → Record → ℕ → ℕ → List ℕ → List Test
+nodeTests img r file offset buffer =
+    (sizeRight img else ImageSize)
+    ∷ (buffersRight (r .map) (r .letters) else BufferLength)
+    ∷ (fileRight file else NoSuchFile)
+    ∷ (offsetRight file offset else OffsetOutside)
+    ∷ (eqb (length buffer) payloadSize else PayloadLength)
+    ∷ (fits img r else RecordUnfit)
+    ∷ []
 
 abbrev pub writeTests : List ℕ → Record → ℕ → ℕ → List ℕ → List Test
 writeTests img r file offset payload =
@@ -42,6 +64,10 @@ writeTests img r file offset payload =
     ∷ (isFound (lowestFree (r .letters)) else NoFreeKey)
     ∷ (isFound (newPage img (r .numbers)) else NoRoom)
     ∷ []
+
+-- what the tests of a write hand on: the key position and the page that it takes, or the refusal
+abbrev pub takingOf : Reply → ℕ → ℕ → Taking
+takingOf v p g = cond (isDone v) (Take p g) (Refuse v)
 
 -- the place of a file and an offset below its count
 abbrev pub placeAt : ℕ → ℕ → ℕ

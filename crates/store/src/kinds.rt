@@ -245,6 +245,17 @@ pub fn is_chosen(numbers: Numbers, b: usize) -> bool
     (b == numbers.keys0 as usize) | (b == numbers.keys1 as usize) | (b == numbers.commit as usize)
 }
 
+// Whether page g is a whole or torn N or D page. What is none is mostly told by its first byte.
+fn event_at(image: &[u8], g: usize) -> bool
+    requires { ⌜ g * pageSize + pageSize ≤ length (now image) ⌝ }
+    ensures { λ r. ⌜ r ≡ headed (formAt (now (image .entry)) g) ⌝ }
+{
+    if !is_event_letter(image[g * Frame::PAGE]) {
+        return false;
+    }
+    is_headed(look::form_at(image, g))
+}
+
 // Whether block b has a whole or torn N or D page.
 pub fn has_event(image: &[u8], b: usize) -> bool
     requires { ⌜ b * blockSize + blockSize ≤ length (now image) ⌝ }
@@ -252,7 +263,7 @@ pub fn has_event(image: &[u8], b: usize) -> bool
 {
     let mut i: usize = 0;
     while i < PAGES_IN_BLOCK {
-        if is_headed(look::form_at(image, b * PAGES_IN_BLOCK + i)) {
+        if event_at(image, b * PAGES_IN_BLOCK + i) {
             return true;
         }
         i += 1;

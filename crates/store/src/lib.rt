@@ -1,7 +1,13 @@
 // The store: block kinds, the working record and its fit, and the calls of document 01.
-pub mod fit;
-pub mod kinds;
+mod find;
+mod fit;
+pub mod format;
+mod kinds;
+pub mod read;
+mod record;
 pub mod replies;
+mod tests;
+pub mod write;
 
 // The numbers of the working record: the next sequence and epoch, and the blocks of key block 0, key block 1 and the commit.
 pub struct Numbers {

@@ -1,5 +1,4 @@
 -- `store::fit::letters_match` meets its contract: the table of named positions, then the letters by it.
-use native.Mathlib.Omega.{arith}
 use mathlib.Core.Path.{_≡_, sym, _∙_}
 use mathlib.Core.Bool.{true, false}
 use borrow.Author.Tests.{not-true, not-false}

@@ -2,7 +2,7 @@
 use borrow.Author.Needs.{needs}
 use Prim.Native.Nat.{ℕ, _≤_, _-_}
 use native.Mathlib.Omega.{arith}
-use mathlib.Core.Path.{_≡_, refl, sym, ap, _∙_}
+use mathlib.Core.Path.{_≡_, refl, sym, _∙_}
 use mathlib.Core.Bool.{Bool}
 use mathlib.Core.List.{List}
 use Rattle.base.specs.Search.{anyFrom}
@@ -26,22 +26,19 @@ abbrev μ-loop : tie.MeasureT-loop
 loop-holds : tie.Need-loop-holds Inv-loop μ-loop
 loop-holds c = (omega arith, refl)
 
-mul-form-at : tie.Need-mul-form-at Inv-loop μ-loop
-mul-form-at c = search needs
+mul-event-at : tie.Need-mul-event-at Inv-loop μ-loop
+mul-event-at c = search needs
 
-add-form-at : tie.Need-add-form-at Inv-loop μ-loop
-add-form-at c = search needs
+add-event-at : tie.Need-add-event-at Inv-loop μ-loop
+add-event-at c = search needs
 
-form-at-requires : tie.Need-form-at-requires Inv-loop μ-loop
-form-at-requires c κs = search needs
-
-is-headed-requires : tie.Need-is-headed-requires Inv-loop μ-loop
-is-headed-requires c κs = search needs
+event-at-requires : tie.Need-event-at-requires Inv-loop μ-loop
+event-at-requires c κs = search needs
 
 returns : tie.Need-returns Inv-loop μ-loop
 returns c =
-    let l = c .before .before .before .before .loop in
-    sym (l .inv .1 ∙ any-here _ pagesInBlock (l .i) (omega arith) (sym (c .before .is-headed .ensures ∙ ap headed (c .before .before .form-at .ensures)) ∙ c .if1 .taken))
+    let l = c .before .before .before .loop in
+    sym (l .inv .1 ∙ any-here _ pagesInBlock (l .i) (omega arith) (sym (c .before .event-at .ensures) ∙ c .if1 .taken))
 
 add-i : tie.Need-add-i Inv-loop μ-loop
 add-i c = search needs
@@ -51,8 +48,8 @@ loop-less c = search needs
 
 loop-again : tie.Need-loop-again Inv-loop μ-loop
 loop-again c =
-    let l = c .before .before .before .before .loop in
-    (omega arith, l .inv .1 ∙ any-next _ pagesInBlock (l .i) (omega arith) (sym (c .before .is-headed .ensures ∙ ap headed (c .before .before .form-at .ensures)) ∙ c .if1 .left))
+    let l = c .before .before .before .loop in
+    (omega arith, l .inv .1 ∙ any-next _ pagesInBlock (l .i) (omega arith) (sym (c .before .event-at .ensures) ∙ c .if1 .left))
 
 returns-2 : tie.Need-returns-2 Inv-loop μ-loop
 returns-2 c = sym (c .before .loop .inv .1 ∙ any-none _ pagesInBlock (c .before .loop .i) (c .loop-test .left))
@@ -64,10 +61,9 @@ has-event-spec =
     Inv-loop
     μ-loop
     loop-holds
-    mul-form-at
-    add-form-at
-    form-at-requires
-    is-headed-requires
+    mul-event-at
+    add-event-at
+    event-at-requires
     returns
     add-i
     loop-less

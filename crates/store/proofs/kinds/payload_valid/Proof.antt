@@ -1,9 +1,7 @@
 -- `store::kinds::payload_valid` meets its contract: the payload is a part of the page, which is a part of the image.
-use Prim.Native.Nat.{ℕ, _+_, _*_}
+use Prim.Native.Nat.{_+_, _*_}
 use native.Mathlib.Omega.{arith}
-use mathlib.Core.Path.{_≡_, sym, ap, _∙_}
-use mathlib.Core.List.{List}
-use Rattle.base.specs.Part.{part}
+use mathlib.Core.Path.{sym, ap, _∙_}
 use Rattle.base.proofs.Parts.{part-part}
 use Rattle.page.specs.Frame.{pageSize, headerSize, payloadSize}
 use Rattle.page.specs.Entry.{validPayload}

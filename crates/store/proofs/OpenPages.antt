@@ -1,0 +1,145 @@
+-- The lowest open page, found block by block, and a second empty block, found after the lowest.
+use Prim.Native.Nat.{ℕ, zero, suc, _+_, _-_, _*_, _<_, _≤_}
+use native.Mathlib.Omega.{arith}
+use native.Mathlib.Nat.{zero-add}
+use native.Mathlib.Numerals.{add-one}
+use native.Mathlib.Decide.{decLt}
+use mathlib.Core.Path.{_≡_, refl, sym, ap, _∙_}
+use mathlib.Core.Bool.{Bool, true, false, cond, _&&_, and-false}
+use mathlib.Core.List.{List}
+use lib.Dec.{leb}
+use lib.ListN.{length, getD, getD-replicate}
+use borrow.Author.Tests.{le-leb, lt-leb}
+use Rattle.base.specs.Search.{firstFrom, countFrom, allFrom, anyFrom}
+use Rattle.base.proofs.Choice.{true-false}
+use Rattle.base.proofs.Searches.{first-bounds, first-holds, first-least, first-all, first-agree, all-holds, all-intro, count-any}
+use Rattle.base.proofs.Parts.{part-at}
+use Rattle.page.specs.Frame.{pageSize, erased}
+use Rattle.image.specs.Size.{blockSize, pagesInBlock, blocks}
+use Rattle.image.specs.Look.{pageAt, pageEmpty, blockEmpty, lowestEmpty, emptyBlocks}
+use Rattle.image.proofs.Empties.{empty-page}
+use Rattle.store.specs.Kind.{pageIn, isData}
+use Rattle.store.specs.Find.{isOpen, freshPage}
+use Rattle.store.specs.declared.Numbers.{Numbers}
+use Rattle.store.specs.declared.Found.the-variants.{At, Nothing}
+use Rattle.store.proofs.BlockKinds.{page-block}
+
+-- ---- where a search ends
+pub first-is : (p : ℕ → Bool) (n i b : ℕ) → i ≤ b → b ≤ i + n → (b < i + n → p b ≡ true) → ((a : ℕ) → i ≤ a → a < b → p a ≡ false) → firstFrom p n i ≡ b
+first-is p n i b h k holds below =
+    let f = first-bounds p n i in
+    elim (decLt (firstFrom p n i) b) [
+      | yes l ↦ absurd (true-false (first-holds p n i (omega arith)) (below (firstFrom p n i) (f .0) l))
+      | no l ↦ elim (decLt b (firstFrom p n i)) [
+        | yes m ↦ absurd (true-false (holds (omega arith)) (first-least p n i b h m))
+        | no m ↦ omega arith
+      ]
+    ]
+
+-- a search from a on ends in the next w numbers where one of them passes, and goes on after them where none does
+module _ (p : ℕ → Bool) (n a w : ℕ) (fits : a + w ≤ n) where
+  row-least : (j : ℕ) → a ≤ j → j < a + firstFrom (λ i. p (a + i)) w 0 → p j ≡ false
+  row-least j h k =
+      let e : a + (j - a) ≡ j = omega arith in
+      rw e at (first-least (λ i. p (a + i)) w 0 (j - a) (omega arith) (omega arith))
+
+  pub first-in-row : firstFrom (λ i. p (a + i)) w 0 < w → firstFrom p (n - a) a ≡ a + firstFrom (λ i. p (a + i)) w 0
+  first-in-row h =
+      first-is p (n - a) a (a + firstFrom (λ i. p (a + i)) w 0) (omega arith) (omega arith) (λ l. first-holds (λ i. p (a + i)) w 0 (omega arith)) row-least
+
+  pub first-past-row : firstFrom (λ i. p (a + i)) w 0 ≡ w → firstFrom p (n - a) a ≡ firstFrom p (n - (a + w)) (a + w)
+  first-past-row e =
+      let r = firstFrom p (n - (a + w)) (a + w) in
+      let f = first-bounds p (n - (a + w)) (a + w) in
+      first-is p (n - a) a r (omega arith) (omega arith) (λ l. first-holds p (n - (a + w)) (a + w) (omega arith))
+      (λ j h k. elim (decLt j (a + w)) [
+        | yes l ↦ row-least j h (omega arith)
+        | no l ↦ first-least p (n - (a + w)) (a + w) j (omega arith) k
+      ])
+
+-- ---- the open pages of a block
+-- the first byte of an empty page
+first-erased : (img : List ℕ) (g : ℕ) → g * pageSize + pageSize ≤ length img → pageEmpty img g ≡ true → getD img (g * pageSize) 0 ≡ erased
+unfolding pageAt
+first-erased img g h e =
+    let z : g * pageSize + 0 ≡ g * pageSize = omega arith in
+    ap (λ (a : ℕ). getD img a 0) (sym z) ∙ sym (part-at img (g * pageSize) pageSize 0 0 (omega arith))
+    ∙ ap (λ (page : List ℕ). getD page 0 0) (empty-page img g h e) ∙ getD-replicate pageSize 0 erased 0 (omega arith)
+
+-- page i of block b is empty, and so is each after it
+abbrev pub emptyFrom : List ℕ → ℕ → ℕ → Bool
+emptyFrom img b i = allFrom (pageEmpty img) (pagesInBlock - i) (pageIn b i)
+
+module _ (img : List ℕ) (b : ℕ) where
+  -- one page more, from the end
+  pub empty-back : (i : ℕ) → 0 < i → i ≤ pagesInBlock → pageEmpty img (pageIn b (i - 1)) ≡ true → emptyFrom img b i ≡ true → emptyFrom img b (i - 1) ≡ true
+  empty-back i h k e f =
+      all-intro (pageEmpty img) (pagesInBlock - (i - 1)) (pageIn b (i - 1)) λ j l m.
+      elim (decLt j (pageIn b i)) [
+        | yes n ↦ let q : j ≡ pageIn b (i - 1) = omega arith in rw q e
+        | no n ↦ all-holds (pageEmpty img) (pagesInBlock - i) (pageIn b i) j f (omega arith) (omega arith)
+      ]
+
+  pub empty-none : emptyFrom img b pagesInBlock ≡ true
+  empty-none = all-intro (pageEmpty img) (pagesInBlock - pagesInBlock) (pageIn b pagesInBlock) λ j l m. absurd (omega arith)
+
+  -- the pages at the end of a block that are empty start after the last that is not
+  pub empty-start : (i : ℕ) → i ≤ pagesInBlock → emptyFrom img b i ≡ true → (0 < i → pageEmpty img (pageIn b (i - 1)) ≡ false) → firstFrom (emptyFrom img b) pagesInBlock 0 ≡ i
+  empty-start i h e f =
+      first-is (emptyFrom img b) pagesInBlock 0 i (omega arith) (omega arith) (λ l. e) (λ a k l. go (emptyFrom img b a) a refl l)
+    where
+      go : (t : Bool) (a : ℕ) → emptyFrom img b a ≡ t → a < i → t ≡ false
+      go true a q l =
+          absurd (true-false (all-holds (pageEmpty img) (pagesInBlock - a) (pageIn b a) (pageIn b (i - 1)) q (omega arith) (omega arith)) (f (omega arith)))
+      go false a q l = refl
+
+  module _ (r : Numbers) where
+    open-in : (i : ℕ) → i < pagesInBlock → isOpen img r (pageIn b i) ≡ (isData img r b && emptyFrom img b i)
+    unfolding isOpen
+    open-in i h = let k = page-block b i h in rw (k .0, k .1)
+
+    -- in a data block the open pages are those at its end that are empty
+    pub open-data : isData img r b ≡ true → firstFrom (λ i. isOpen img r (pageIn b i)) pagesInBlock 0 ≡ firstFrom (emptyFrom img b) pagesInBlock 0
+    open-data d = first-agree _ _ pagesInBlock 0 (λ i h k. rw (open-in i (omega arith), d))
+
+    -- no other block has one
+    pub open-other : isData img r b ≡ false → firstFrom (λ i. isOpen img r (pageIn b i)) pagesInBlock 0 ≡ pagesInBlock
+    open-other d = first-all _ pagesInBlock 0 (λ i h k. rw (open-in i (omega arith), d))
+
+  -- nor has one whose last page is not empty, as its first byte may tell
+  pub last-full : (r : Numbers) → b * blockSize + blockSize ≤ length img → (getD img (pageIn b (pagesInBlock - 1) * pageSize) 0 ≡ erased → ⊥)
+      → firstFrom (λ i. isOpen img r (pageIn b i)) pagesInBlock 0 ≡ pagesInBlock
+  last-full r h n = first-all _ pagesInBlock 0 (λ i l m. rw (open-in r i (omega arith)) (go (emptyFrom img b i) i refl (omega arith)))
+    where
+      go : (t : Bool) (i : ℕ) → emptyFrom img b i ≡ t → i < pagesInBlock → isData img r b && t ≡ false
+      go true i e k = absurd (n (first-erased img (pageIn b (pagesInBlock - 1)) (omega arith) (all-holds (pageEmpty img) (pagesInBlock - i) (pageIn b i) (pageIn b (pagesInBlock - 1)) e (omega arith) (omega arith))))
+      go false i e k = and-false (isData img r b)
+
+-- ---- two empty blocks
+-- two pass exactly if another passes after the first
+second : (c : ℕ) → leb 2 (1 + c) ≡ leb 1 c
+second c =
+    elim (decLt c 1) [
+      | yes h ↦ rw (lt-leb 1 c h) (lt-leb 2 (1 + c) (omega arith))
+      | no h ↦ rw (le-leb 1 c (omega arith)) (le-leb 2 (1 + c) (omega arith))
+    ]
+
+two-from : (p : ℕ → Bool) (n i : ℕ) → leb 2 (countFrom p n i) ≡ anyFrom p (i + n - (firstFrom p n i + 1)) (firstFrom p n i + 1)
+unfolding countFrom firstFrom anyFrom
+two-from p zero i = let e : i + 0 - (i + 1) ≡ 0 = omega arith in rw e
+two-from p (suc n) i = go (p i) (two-from p n (suc i))
+  where
+    go : (t : Bool) → leb 2 (countFrom p n (suc i)) ≡ anyFrom p (suc i + n - (firstFrom p n (suc i) + 1)) (firstFrom p n (suc i) + 1)
+        → leb 2 (cond t 1 0 + countFrom p n (suc i)) ≡ anyFrom p (i + suc n - (cond t i (firstFrom p n (suc i)) + 1)) (cond t i (firstFrom p n (suc i)) + 1)
+    go true r =
+        let e : i + suc n - (i + 1) ≡ n = omega arith in
+        rw (e, add-one i, ← count-any p n (suc i)) (second (countFrom p n (suc i)))
+    go false r =
+        let e : i + suc n ≡ suc i + n = omega arith in
+        rw (zero-add, e) r
+
+pub two-empty : (img : List ℕ) → freshPage img ≡ cond (anyFrom (blockEmpty img) (blocks img - (lowestEmpty img + 1)) (lowestEmpty img + 1)) (At (lowestEmpty img * pagesInBlock)) Nothing
+unfolding freshPage emptyBlocks lowestEmpty
+two-empty img =
+    let e : 0 + blocks img ≡ blocks img = omega arith in
+    rw (two-from (blockEmpty img) (blocks img) 0, e)

@@ -1,0 +1,115 @@
+// The searches of a write and a cut-off: the lowest free key position, and the page to take.
+use crate::Found;
+use crate::Numbers;
+use crate::kinds;
+use image::look;
+use image::look::BLOCK_SIZE;
+use image::look::PAGES_IN_BLOCK;
+use page::Frame;
+use page::entries;
+ghost use mathlib.Core.Path.{_≡_};
+ghost use mathlib.Core.Bool.{true};
+ghost use Prim.Native.Nat.{_≤_, _+_, _*_, _-_};
+ghost use lib.ListN.{length};
+ghost use Rattle.base.specs.Search.{firstFrom, allFrom};
+ghost use Rattle.page.specs.Key.{positions};
+ghost use Rattle.image.specs.Size.{blockSize, pagesInBlock, pages, sizeRight};
+ghost use Rattle.image.specs.Look.{pageEmpty};
+ghost use Rattle.store.specs.Kind.{pageIn};
+ghost use Rattle.store.specs.Find.{found, lowestFree, isOpen, freshPage, newPage};
+
+const POSITIONS: usize = 448;
+
+// An erased byte.
+const ERASED: u8 = 0xff;
+
+// The lowest position whose letter is f.
+pub fn lowest_free(letters: &[u8]) -> Found
+    requires { ⌜ length (now letters) ≡ positions ⌝ }
+    ensures { λ r. ⌜ r ≡ lowestFree (now (letters .entry)) ⌝ }
+{
+    let mut p: usize = 0;
+    while p < POSITIONS {
+        if letters[p] == entries::FREE {
+            return Found::At(p);
+        }
+        p += 1;
+    }
+    Found::Nothing
+}
+
+// The first page of block b that is empty and has only empty pages after it, counted in the block; its number of pages where there is none.
+fn empty_from(image: &[u8], b: usize) -> usize
+    requires { ⌜ b * blockSize + blockSize ≤ length (now image) ⌝ }
+    ensures { λ r. ⌜ (r ≡ firstFrom (λ i. allFrom (pageEmpty (now (image .entry))) (pagesInBlock - i) (pageIn b i)) pagesInBlock 0) × (r ≤ pagesInBlock) ⌝ }
+{
+    let mut i = PAGES_IN_BLOCK;
+    while 0 < i {
+        let j = i - 1;
+        if !look::page_empty(image, b * PAGES_IN_BLOCK + j) {
+            return i;
+        }
+        i = j;
+    }
+    0
+}
+
+// The lowest open page of block b, counted in the block; its number of pages where there is none. A block whose last page is taken has none, and
+// most blocks are told by that page's first byte.
+fn open_from(image: &[u8], numbers: Numbers, b: usize) -> usize
+    requires { ⌜ b * blockSize + blockSize ≤ length (now image) ⌝ }
+    ensures { λ r. ⌜ (r ≡ firstFrom (λ i. isOpen (now (image .entry)) numbers (pageIn b i)) pagesInBlock 0) × (r ≤ pagesInBlock) ⌝ }
+{
+    let last = b * PAGES_IN_BLOCK + (PAGES_IN_BLOCK - 1);
+    if image[last * Frame::PAGE] != ERASED {
+        return PAGES_IN_BLOCK;
+    }
+    if !kinds::is_data(image, numbers, b) {
+        return PAGES_IN_BLOCK;
+    }
+    empty_from(image, b)
+}
+
+// The lowest empty page of a data block with only empty pages after it, block by block.
+fn open_page(image: &[u8], numbers: Numbers) -> Found
+    requires { ⌜ sizeRight (now image) ≡ true ⌝ }
+    ensures { λ r. ⌜ r ≡ found (pages (now (image .entry))) (firstFrom (isOpen (now (image .entry)) numbers) (pages (now (image .entry))) 0) ⌝ }
+{
+    let n = image.len() / BLOCK_SIZE;
+    let mut b = 0;
+    while b < n {
+        let i = open_from(image, numbers, b);
+        if i < PAGES_IN_BLOCK {
+            return Found::At(b * PAGES_IN_BLOCK + i);
+        }
+        b += 1;
+    }
+    Found::Nothing
+}
+
+// The first page of the lowest empty block, if another is empty.
+fn fresh_page(image: &[u8]) -> Found
+    ensures { λ r. ⌜ r ≡ freshPage (now (image .entry)) ⌝ }
+{
+    let n = image.len() / BLOCK_SIZE;
+    let lowest = look::lowest_empty(image);
+    let mut b = lowest + 1;
+    while b < n {
+        if look::block_empty(image, b) {
+            return Found::At(lowest * PAGES_IN_BLOCK);
+        }
+        b += 1;
+    }
+    Found::Nothing
+}
+
+// The page that a write or a cut-off takes.
+pub fn new_page(image: &[u8], numbers: Numbers) -> Found
+    requires { ⌜ sizeRight (now image) ≡ true ⌝ }
+    ensures { λ r. ⌜ r ≡ newPage (now (image .entry)) numbers ⌝ }
+{
+    match open_page(image, numbers) {
+        Found::At(g) => Found::At(g),
+        Found::Nothing => fresh_page(image),
+    }
+}

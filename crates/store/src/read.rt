@@ -1,0 +1,108 @@
+// Read: the content of a place.
+use crate::Numbers;
+use crate::Reply;
+use crate::record;
+use crate::replies;
+use crate::tests;
+use page::Frame;
+use page::entries;
+use page::writers;
+ghost use mathlib.Core.Path.{_≡_};
+ghost use Prim.Native.Nat.{_≤_, _<_, _+_, _*_};
+ghost use lib.ListN.{length};
+ghost use Rattle.page.specs.Frame.{pageSize, payloadSize};
+ghost use Rattle.page.specs.Page.{enciphered, payloadOf};
+ghost use Rattle.page.specs.Plan.{places};
+ghost use Rattle.page.specs.Entry.{none};
+ghost use Rattle.image.specs.Size.{blockSize};
+ghost use Rattle.image.specs.Look.{pageAt};
+ghost use Rattle.store.specs.Reply.{verdict};
+ghost use Rattle.store.specs.Record.{recordOf, pageOf};
+ghost use Rattle.store.specs.Outcome.{answered, leftWhole, standing};
+ghost use Rattle.store.specs.Write.{keyHeld};
+ghost use Rattle.store.specs.Read.{contentOf, readTests, readOf};
+ghost use Rattle.store.specs.Taken.{Ready};
+
+const PLACES: usize = 224;
+
+// The tests of a read, in order.
+fn refuse_read(
+    image: &[u8],
+    map: &[u16],
+    letters: &[u8],
+    numbers: Numbers,
+    file: u32,
+    offset: u32,
+    output: &[u8],
+) -> Reply
+    ensures { λ r. ⌜ r ≡ verdict (readTests (now (image .entry)) (recordOf (now (map .entry)) (now (letters .entry)) numbers) file offset (now (output .entry))) ⌝ }
+{
+    let reply = tests::refuse_node(image, map, letters, numbers, file, offset, output);
+    if !replies::is_done(reply) {
+        return reply;
+    }
+    if map[record::place_at(file, offset)] == entries::NONE {
+        return Reply::NothingThere;
+    }
+    Reply::Done
+}
+
+// Reads the payload of page g under the key of position p.
+fn read_node(image: &[u8], numbers: Numbers, g: usize, p: usize, output: &mut [u8])
+    requires { ⌜ (g * pageSize + pageSize ≤ length (now image)) × (length (now output) ≡ payloadSize) ⌝ }
+    requires { ⌜ (numbers .keys0 * blockSize + blockSize ≤ length (now image)) × (numbers .keys1 * blockSize + blockSize ≤ length (now image)) ⌝ }
+    ensures { λ _. ⌜ now (output .exit) ≡ enciphered (keyHeld (now (image .entry)) numbers p) (payloadOf (pageAt (now (image .entry)) g)) ⌝ }
+{
+    let key = record::key_held(image, numbers, p);
+    let start = g * Frame::PAGE;
+    writers::read_payload(&image[start..start + Frame::PAGE], key, output);
+}
+
+// Reads the content of place x.
+fn read_place(
+    image: &[u8],
+    map: &[u16],
+    letters: &[u8],
+    numbers: Numbers,
+    x: usize,
+    output: &mut [u8],
+)
+    requires { ⌜ Ready (now image) (recordOf (now map) (now letters) numbers) ⌝ }
+    requires { ⌜ (x < places) × (pageOf (now map) x < none) × (length (now output) ≡ payloadSize) ⌝ }
+    ensures { λ _. ⌜ now (output .exit) ≡ contentOf (now (image .entry)) (recordOf (now (map .entry)) (now (letters .entry)) numbers) x ⌝ }
+{
+    read_node(
+        image,
+        numbers,
+        map[x] as usize,
+        map[PLACES + x] as usize,
+        output,
+    )
+}
+
+// Reads the content of a file's offset.
+pub fn read(
+    image: &[u8],
+    map: &[u16],
+    letters: &[u8],
+    numbers: Numbers,
+    file: u32,
+    offset: u32,
+    output: &mut [u8],
+) -> Reply
+    ensures { λ r. ⌜ standing (answered r numbers) (now (image .entry)) (now (map .entry)) (now (letters .entry)) (now (output .exit)) ≡ leftWhole (readOf (now (image .entry)) (recordOf (now (map .entry)) (now (letters .entry)) numbers) file offset (now (output .entry))) (now (image .entry)) ⌝ }
+{
+    let reply = refuse_read(image, map, letters, numbers, file, offset, output);
+    if !replies::is_done(reply) {
+        return reply;
+    }
+    read_place(
+        image,
+        map,
+        letters,
+        numbers,
+        record::place_at(file, offset),
+        output,
+    );
+    reply
+}

@@ -1,0 +1,88 @@
+// The working record: the place of a node, the key of a position, and what a write changes.
+use crate::Numbers;
+use image::keys;
+use page::entries;
+use page::keys as positions;
+use page::plan;
+ghost use mathlib.Core.Path.{_≡_};
+ghost use mathlib.Core.Bool.{true};
+ghost use Prim.Native.Nat.{_≤_, _<_, _+_, _*_};
+ghost use lib.ListN.{length, set};
+ghost use Rattle.page.specs.Plan.{places};
+ghost use Rattle.page.specs.Key.{positions};
+ghost use Rattle.page.specs.Header.{lastNumber};
+ghost use Rattle.page.specs.Entry.{none, usedLetter};
+ghost use Rattle.image.specs.Size.{blockSize};
+ghost use Rattle.store.specs.Record.{mapSize, keyOf, live};
+ghost use Rattle.store.specs.Write.{placeAt, keysBlock, keyHeld, nextSequence, released};
+ghost use Rattle.store.specs.Taken.{Planned};
+
+const PLACES: usize = 224;
+
+// The place of a file and an offset below its count.
+pub fn place_at(file: u32, offset: u32) -> usize
+    requires { ⌜ Planned file offset ⌝ }
+    ensures { λ r. ⌜ (r ≡ placeAt file offset) × (r < places) ⌝ }
+{
+    (plan::start(file) + offset) as usize
+}
+
+// The block of key block 0 or 1.
+fn keys_block(numbers: Numbers, q: usize) -> u32
+    ensures { λ r. ⌜ r ≡ keysBlock numbers q ⌝ }
+{
+    if q == 0 {
+        return numbers.keys0;
+    }
+    numbers.keys1
+}
+
+// The key of position p, from its slot of the chosen key block.
+pub fn key_held(image: &[u8], numbers: Numbers, p: usize) -> [u8; 16]
+    requires { ⌜ (numbers .keys0 * blockSize + blockSize ≤ length (now image)) × (numbers .keys1 * blockSize + blockSize ≤ length (now image)) ⌝ }
+    ensures { λ r. ⌜ r ≡ keyHeld (now (image .entry)) numbers p ⌝ }
+{
+    keys::key_in_block(
+        image,
+        keys_block(numbers, positions::block_of(p)) as usize,
+        p,
+    )
+}
+
+// Makes the key of place x deleted, where the place has a node.
+pub fn release(map: &[u16], letters: &mut [u8], x: usize)
+    requires { ⌜ (length (now map) ≡ mapSize) × (length (now letters) ≡ positions) × (x < places) × (live (now map) x ≡ true → keyOf (now map) x < positions) ⌝ }
+    ensures { λ _. ⌜ now (letters .exit) ≡ released (now (map .entry)) (now (letters .entry)) x ⌝ }
+{
+    if map[x] == entries::NONE {
+        return;
+    }
+    let p = map[PLACES + x] as usize;
+    letters[p] = entries::DELETED;
+}
+
+// Puts place x at page g and key position p.
+pub fn set_place(map: &mut [u16], letters: &mut [u8], x: usize, g: usize, p: usize)
+    requires { ⌜ (length (now map) ≡ mapSize) × (length (now letters) ≡ positions) × (x < places) × (live (now map) x ≡ true → keyOf (now map) x < positions) ⌝ }
+    requires { ⌜ (g < none) × (p < positions) ⌝ }
+    ensures { λ _. ⌜ (now (map .exit) ≡ set (set (now (map .entry)) x g) (places + x) p) × (now (letters .exit) ≡ set (released (now (map .entry)) (now (letters .entry)) x) p usedLetter) ⌝ }
+{
+    release(map, letters, x);
+    map[x] = g as u16;
+    map[PLACES + x] = p as u16;
+    letters[p] = entries::USED;
+}
+
+// The numbers after a sequence was used.
+pub fn next_sequence(numbers: Numbers) -> Numbers
+    requires { ⌜ numbers .sequence ≤ lastNumber ⌝ }
+    ensures { λ r. ⌜ r ≡ nextSequence numbers ⌝ }
+{
+    Numbers {
+        sequence: numbers.sequence + 1,
+        epoch: numbers.epoch,
+        keys0: numbers.keys0,
+        keys1: numbers.keys1,
+        commit: numbers.commit,
+    }
+}

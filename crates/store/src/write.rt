@@ -1,0 +1,160 @@
+// Write: a node at a place, with the lowest free key and the page that the searches find.
+use crate::Answer;
+use crate::Found;
+use crate::Numbers;
+use crate::Reply;
+use crate::find;
+use crate::record;
+use crate::replies;
+use crate::tests;
+use image::Power;
+use image::steps;
+ghost use mathlib.Core.Path.{_≡_};
+ghost use mathlib.Core.List.{[]};
+ghost use Rattle.store.specs.Reply.{verdict};
+ghost use Rattle.store.specs.Record.{recordOf};
+ghost use Rattle.store.specs.Outcome.{left, leftWhole, standing};
+ghost use Rattle.store.specs.Find.{lowestFree, newPage, foundAt};
+ghost use Rattle.store.specs.Write.{writeTests, takingOf, writeOf};
+ghost use Rattle.store.specs.Taken.{WriteTaken};
+
+// The last sequence.
+const LAST_NUMBER: u32 = 99_999_999;
+
+// More steps than any call has.
+const ENOUGH: u64 = 1000;
+
+// What the tests of a write find: the key position and the page that it takes, or the refusal.
+pub enum Taking {
+    Take(usize, usize),
+    Refuse(Reply),
+}
+
+// The tests of a write, in order.
+fn test_write(
+    image: &[u8],
+    map: &[u16],
+    letters: &[u8],
+    numbers: Numbers,
+    file: u32,
+    offset: u32,
+    payload: &[u8],
+) -> Taking
+    ensures { λ r. ⌜ r ≡ takingOf (verdict (writeTests (now (image .entry)) (recordOf (now (map .entry)) (now (letters .entry)) numbers) file offset (now (payload .entry)))) (foundAt (lowestFree (now (letters .entry)))) (foundAt (newPage (now (image .entry)) numbers)) ⌝ }
+{
+    let reply = tests::refuse_node(image, map, letters, numbers, file, offset, payload);
+    if !replies::is_done(reply) {
+        return Taking::Refuse(reply);
+    }
+    if LAST_NUMBER < numbers.sequence {
+        return Taking::Refuse(Reply::NumbersSpent);
+    }
+    let Found::At(p) = find::lowest_free(letters) else {
+        return Taking::Refuse(Reply::NoFreeKey);
+    };
+    let Found::At(g) = find::new_page(image, numbers) else {
+        return Taking::Refuse(Reply::NoRoom);
+    };
+    Taking::Take(p, g)
+}
+
+// Writes with key position p on page g, once the tests are passed.
+fn write_taken(
+    image: &mut [u8],
+    map: &mut [u16],
+    letters: &mut [u8],
+    numbers: Numbers,
+    file: u32,
+    offset: u32,
+    payload: &[u8],
+    p: usize,
+    g: usize,
+    n: u64,
+    k: usize,
+) -> Answer
+    requires { ⌜ WriteTaken (now image) (recordOf (now map) (now letters) numbers) file offset (now payload) ⌝ }
+    requires { ⌜ (p ≡ foundAt (lowestFree (now letters))) × (g ≡ foundAt (newPage (now image) numbers)) ⌝ }
+    ensures { λ r. ⌜ standing r (now (image .exit)) (now (map .exit)) (now (letters .exit)) [] ≡ left n k (writeOf (now (image .entry)) (recordOf (now (map .entry)) (now (letters .entry)) numbers) file offset (now (payload .entry))) (now (image .entry)) ⌝ }
+{
+    let key = record::key_held(image, numbers, p);
+    let power = steps::program_node(
+        image,
+        g,
+        numbers.sequence,
+        file,
+        offset,
+        p as u32,
+        key,
+        payload,
+        Power {
+            steps: n,
+            bytes: k,
+            on: true,
+        },
+    );
+    record::set_place(map, letters, record::place_at(file, offset), g, p);
+    Answer {
+        reply: replies::taken(power),
+        numbers: record::next_sequence(numbers),
+    }
+}
+
+// A write of which the power lasts for n steps and the first k bytes of the next.
+pub fn write_cut(
+    image: &mut [u8],
+    map: &mut [u16],
+    letters: &mut [u8],
+    numbers: Numbers,
+    file: u32,
+    offset: u32,
+    payload: &[u8],
+    n: u64,
+    k: usize,
+) -> Answer
+    ensures { λ r. ⌜ standing r (now (image .exit)) (now (map .exit)) (now (letters .exit)) [] ≡ left n k (writeOf (now (image .entry)) (recordOf (now (map .entry)) (now (letters .entry)) numbers) file offset (now (payload .entry))) (now (image .entry)) ⌝ }
+{
+    match test_write(image, map, letters, numbers, file, offset, payload) {
+        Taking::Take(p, g) => write_taken(
+            image,
+            map,
+            letters,
+            numbers,
+            file,
+            offset,
+            payload,
+            p,
+            g,
+            n,
+            k,
+        ),
+        Taking::Refuse(reply) => Answer {
+            reply: reply,
+            numbers: numbers,
+        },
+    }
+}
+
+// Writes a payload at a file's offset.
+pub fn write(
+    image: &mut [u8],
+    map: &mut [u16],
+    letters: &mut [u8],
+    numbers: Numbers,
+    file: u32,
+    offset: u32,
+    payload: &[u8],
+) -> Answer
+    ensures { λ r. ⌜ standing r (now (image .exit)) (now (map .exit)) (now (letters .exit)) [] ≡ leftWhole (writeOf (now (image .entry)) (recordOf (now (map .entry)) (now (letters .entry)) numbers) file offset (now (payload .entry))) (now (image .entry)) ⌝ }
+{
+    write_cut(
+        image,
+        map,
+        letters,
+        numbers,
+        file,
+        offset,
+        payload,
+        ENOUGH,
+        0,
+    )
+}

@@ -36,7 +36,7 @@ const MAP: usize = 448;
 
 const LETTERS: usize = 448;
 
-const PARTS: u32 = 10;
+const PARTS: u32 = entries::PARTS as u32;
 
 // The replies of a page's form.
 const EMPTY: u32 = 0;

@@ -5,6 +5,8 @@ use crate::look;
 use crate::steps;
 use page::Frame;
 use page::entries;
+use page::keys::KEYS_IN_BLOCK;
+use page::keys::KEYS_IN_PAGE;
 ghost use mathlib.Core.Path.{_≡_};
 ghost use Prim.Native.Nat.{_≤_, _<_, _+_, _*_};
 ghost use lib.ListN.{length};
@@ -17,13 +19,6 @@ ghost use Rattle.image.specs.Look.{blockAt};
 ghost use Rattle.image.specs.Step.{program};
 ghost use Rattle.image.specs.Power.{device, act, run};
 ghost use Rattle.image.specs.Block.{erasesFrom, keysFrom, renewedKey, keyBlockSteps, commitBlockSteps};
-
-// A key page holds 14 keys, a key block 224; a commit has 10 parts.
-const KEYS_IN_PAGE: usize = 14;
-
-const KEYS_IN_BLOCK: usize = 224;
-
-const PARTS: usize = 10;
 
 // Erases every block, in order.
 pub fn erase_all(image: &mut [u8], p: Power) -> Power
@@ -137,7 +132,7 @@ pub fn program_commit_block(
 {
     let mut q = p;
     let mut i = 0;
-    while i < PARTS {
+    while i < entries::PARTS {
         q = program_part(image, b, epoch, covered, i, map, letters, q);
         i += 1;
     }

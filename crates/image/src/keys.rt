@@ -4,6 +4,8 @@ use page::Frame;
 use page::bytes;
 use page::entries;
 use page::keys;
+use page::keys::KEY_SIZE;
+use page::keys::KEYS_IN_PAGE;
 ghost use mathlib.Core.Path.{_≡_};
 ghost use Prim.Native.Nat.{_≤_, _<_, _+_, _*_};
 ghost use lib.ListN.{length};
@@ -12,11 +14,6 @@ ghost use Rattle.page.specs.Key.{keySize, keysInPage, positions};
 ghost use Rattle.image.specs.Size.{blockSize};
 ghost use Rattle.image.specs.Look.{blockAt};
 ghost use Rattle.image.specs.Block.{keyInBlock, keysFrom, renewedKey};
-
-// A key has 16 bytes; a key page holds 14 of them.
-const KEY_SIZE: usize = 16;
-
-const KEYS_IN_PAGE: usize = 14;
 
 // The key of position p in the key block at block b.
 pub fn key_in_block(image: &[u8], b: usize, p: usize) -> [u8; 16]

@@ -13,9 +13,6 @@ ghost use Rattle.image.specs.Size.{blockSize};
 ghost use Rattle.image.specs.Step.{program, erase};
 ghost use Rattle.image.specs.Power.{device, act, reach, lessStep};
 
-// An erased byte.
-const ERASED: u8 = 0xff;
-
 // How many bytes of the next step the power lasts for: no step has more than a block's.
 fn reach_of(p: Power) -> usize
     ensures { λ r. ⌜ r ≡ reach p ⌝ }
@@ -64,7 +61,7 @@ pub fn erase_block(image: &mut [u8], b: usize, p: Power) -> Power
     }
     let start = b * look::BLOCK_SIZE;
     let n = smaller(reach_of(p), look::BLOCK_SIZE);
-    bytes::fill(&mut image[start..start + n], ERASED);
+    bytes::fill(&mut image[start..start + n], Frame::ERASED);
     after_step(p)
 }
 

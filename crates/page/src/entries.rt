@@ -4,6 +4,8 @@ use crate::Frame;
 use crate::Number;
 use crate::bytes;
 use crate::columns;
+use crate::keys;
+use crate::plan;
 ghost use mathlib.Core.Path.{_≡_};
 ghost use Prim.Native.Nat.{_≤_, _<_, _+_, _*_};
 ghost use lib.ListN.{length, getD};
@@ -24,19 +26,18 @@ pub const DELETED: u8 = b'd';
 // None, in a map.
 pub const NONE: u16 = 65_535;
 
-// An entry has 8 bytes; a part holds 28 of them, from part 2 on. There are 224 places.
+// A commit has 10 parts.
+pub const PARTS: usize = 10;
+
+// An entry has 8 bytes; a part holds 28 of them, from part 2 on.
 const ENTRY_SIZE: usize = 8;
 
 const ENTRIES_IN_PART: usize = 28;
 
 const FIRST_ENTRY_PART: usize = 2;
 
-const PLACES: usize = 224;
-
-// The last page and the last key position that an entry can name.
+// The last page that an entry can name.
 const LAST_PAGE: u32 = 4095;
-
-const LAST_POSITION: u32 = 447;
 
 // Whether b is a letter of a key position.
 pub fn is_letter(b: u8) -> bool
@@ -75,7 +76,7 @@ pub fn read_entry(src: &[u8]) -> Entry
     if LAST_PAGE < page {
         return Entry::Misspelt;
     }
-    if LAST_POSITION < key {
+    if keys::LAST_POSITION < key {
         return Entry::Misspelt;
     }
     Entry::At(page, key)
@@ -90,7 +91,7 @@ fn write_entries(dst: &mut [u8], map: &[u16], first: usize)
     while j < ENTRIES_IN_PART {
         let at = ENTRY_SIZE * j;
         let x = first + j;
-        write_entry(&mut dst[at..at + ENTRY_SIZE], map[x], map[PLACES + x]);
+        write_entry(&mut dst[at..at + ENTRY_SIZE], map[x], map[plan::PLACES + x]);
         j += 1;
     }
 }

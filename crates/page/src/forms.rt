@@ -9,15 +9,13 @@ ghost use lib.ListN.{length};
 ghost use Rattle.page.specs.Frame.{pageSize};
 ghost use Rattle.page.specs.Form.{isEmpty, closed, formOf};
 
-const ERASED: u8 = 0xff;
-
 // Whether all bytes are FFh.
 pub fn is_empty(bytes: &[u8]) -> bool
     ensures { λ r. ⌜ r ≡ isEmpty (now (bytes .entry)) ⌝ }
 {
     let mut i = 0;
     while i < bytes.len() {
-        if bytes[i] != ERASED {
+        if bytes[i] != Frame::ERASED {
             return false;
         }
         i += 1;

@@ -15,6 +15,9 @@ impl Frame {
 
     pub const CLOSING_AT: usize = 254;
 
+    // An erased byte.
+    pub const ERASED: u8 = 0xff;
+
     // The kind letters.
     pub const NODE_LETTER: u8 = b'N';
 

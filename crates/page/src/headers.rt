@@ -4,6 +4,7 @@ use crate::Header;
 use crate::Number;
 use crate::bytes;
 use crate::columns;
+use crate::keys;
 use crate::plan;
 ghost use mathlib.Core.Path.{_≡_};
 ghost use mathlib.Core.Bool.{true, _||_};
@@ -38,9 +39,7 @@ const SECOND_COLUMNS: usize = 8;
 const END_AT: usize = 28;
 
 // The last number of each kind of field.
-const LAST_NUMBER: u32 = 99_999_999;
-
-const LAST_POSITION: u32 = 447;
+pub const LAST_NUMBER: u32 = 99_999_999;
 
 const LAST_KEY_BLOCK: u32 = 1;
 
@@ -66,7 +65,7 @@ fn in_plan(f: Frame) -> bool
 fn is_node(f: Frame) -> bool
     ensures { λ r. ⌜ r ≡ nodeRanges f ⌝ }
 {
-    is_number(f.number) & in_plan(f) & (f.key <= LAST_POSITION) & (f.second == 0)
+    is_number(f.number) & in_plan(f) & (f.key <= keys::LAST_POSITION) & (f.second == 0)
 }
 
 // Whether the fields are those of a cut-off.

@@ -7,12 +7,16 @@ ghost use lib.ListN.{length};
 ghost use Rattle.page.specs.Frame.{pageSize};
 ghost use Rattle.page.specs.Key.{keysInPage, keyBlock, keyPage, keySlot, keyInPage};
 
-// A key has 16 bytes; a key page holds 14 of them after its header, a key block 224.
-const KEY_SIZE: usize = 16;
+// A key has 16 bytes; a key page holds 14 of them after its header, a key block 224, the two key blocks 448.
+pub const KEY_SIZE: usize = 16;
 
-const KEYS_IN_PAGE: usize = 14;
+pub const KEYS_IN_PAGE: usize = 14;
 
-const KEYS_IN_BLOCK: usize = 224;
+pub const KEYS_IN_BLOCK: usize = 224;
+
+pub const POSITIONS: usize = 448;
+
+pub const LAST_POSITION: u32 = 447;
 
 // The key block of position p.
 pub fn block_of(p: usize) -> usize

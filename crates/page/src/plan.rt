@@ -26,6 +26,9 @@ const STARTS: [u32; 14] = [
 
 pub const LAST_FILE: u32 = 13;
 
+// The sum of the counts.
+pub const PLACES: usize = 224;
+
 // How many nodes a file holds; none where there is no such file.
 pub fn count(file: u32) -> u32
     ensures { λ r. ⌜ r ≡ countOf filePlan file ⌝ }

@@ -8,9 +8,6 @@ ghost use Rattle.base.specs.Part.{splice};
 ghost use Rattle.page.specs.Frame.{headerSize, payloadSize, pageSize};
 ghost use Rattle.page.specs.Page.{pageBytes, enciphered, nodePage, cutOffPage, keysPage, commitPage, payloadOf, cutPage};
 
-// An erased byte.
-const ERASED: u8 = 0xff;
-
 // Writes a page whole: header, payload, closing.
 fn write_whole(page: &mut [u8], f: Frame, payload: &[u8])
     requires { ⌜ (length (now page) ≡ pageSize) × (length (now payload) ≡ payloadSize) ⌝ }
@@ -27,7 +24,7 @@ fn cut(page: &mut [u8], k: usize)
     ensures { λ _. ⌜ now (page .exit) ≡ cutPage k (now (page .entry)) ⌝ }
 {
     if k < Frame::PAGE {
-        bytes::fill(&mut page[k..], ERASED);
+        bytes::fill(&mut page[k..], Frame::ERASED);
     }
 }
 

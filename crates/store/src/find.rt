@@ -7,6 +7,7 @@ use image::look::BLOCK_SIZE;
 use image::look::PAGES_IN_BLOCK;
 use page::Frame;
 use page::entries;
+use page::keys::POSITIONS;
 ghost use mathlib.Core.Path.{_≡_};
 ghost use mathlib.Core.Bool.{true};
 ghost use Prim.Native.Nat.{_≤_, _+_, _*_, _-_};
@@ -17,11 +18,6 @@ ghost use Rattle.image.specs.Size.{blockSize, pagesInBlock, pages, sizeRight};
 ghost use Rattle.image.specs.Look.{pageEmpty};
 ghost use Rattle.store.specs.Kind.{pageIn};
 ghost use Rattle.store.specs.Find.{found, lowestFree, isOpen, freshPage, newPage};
-
-const POSITIONS: usize = 448;
-
-// An erased byte.
-const ERASED: u8 = 0xff;
 
 // The lowest position whose letter is f.
 pub fn lowest_free(letters: &[u8]) -> Found
@@ -61,7 +57,7 @@ fn open_from(image: &[u8], numbers: Numbers, b: usize) -> usize
     ensures { λ r. ⌜ (r ≡ firstFrom (λ i. isOpen (now (image .entry)) numbers (pageIn b i)) pagesInBlock 0) × (r ≤ pagesInBlock) ⌝ }
 {
     let last = b * PAGES_IN_BLOCK + (PAGES_IN_BLOCK - 1);
-    if image[last * Frame::PAGE] != ERASED {
+    if image[last * Frame::PAGE] != Frame::ERASED {
         return PAGES_IN_BLOCK;
     }
     if !kinds::is_data(image, numbers, b) {

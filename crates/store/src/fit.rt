@@ -6,7 +6,9 @@ use page::Form;
 use page::Frame;
 use page::Place;
 use page::entries;
+use page::keys::POSITIONS;
 use page::plan;
+use page::plan::PLACES;
 ghost use mathlib.Core.Path.{_≡_};
 ghost use mathlib.Core.Bool.{true, cond, Bool·beq, _&&_};
 ghost use Prim.Native.Nat.{ℕ, _<_, _+_, _%_};
@@ -21,10 +23,6 @@ ghost use Rattle.image.specs.Size.{blockSize, sizeRight};
 ghost use Rattle.image.specs.Look.{formAt};
 ghost use Rattle.store.specs.Kind.{kindOf, keysEpoch, commitEpoch};
 ghost use Rattle.store.specs.Record.{recordOf, mapSize, isAt, nodeAt, placeFits, namedTimes, keysApart, lettersFit, numbersFit, blocksFit, fits as recordFits};
-
-const PLACES: usize = 224;
-
-const POSITIONS: usize = 448;
 
 // One above the last sequence and the last epoch.
 const LAST_NEXT: u32 = 100_000_000;

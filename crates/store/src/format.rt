@@ -1,5 +1,6 @@
 // Format: an empty volume on the image, and an empty record.
 use crate::Answer;
+use crate::ENOUGH;
 use crate::Numbers;
 use crate::Reply;
 use crate::replies;
@@ -32,9 +33,6 @@ const KEYS0: usize = 0;
 const KEYS1: usize = 1;
 
 const COMMIT: usize = 2;
-
-// More steps than any call has.
-const ENOUGH: u64 = 1000;
 
 // The numbers of a refused format or mount.
 pub fn no_numbers() -> Numbers

@@ -2,9 +2,12 @@
 use crate::Kind;
 use crate::Numbers;
 use image::look;
+use image::look::BLOCK_SIZE;
+use image::look::PAGES_IN_BLOCK;
 use page::Form;
 use page::Frame;
 use page::entries;
+use page::entries::PARTS;
 ghost use mathlib.Core.Path.{_≡_};
 ghost use Prim.Native.Nat.{_≤_, _<_, _+_, _*_, _-_, _%_};
 ghost use lib.ListN.{length};
@@ -15,13 +18,6 @@ ghost use Rattle.page.specs.Page.{payloadOf};
 ghost use Rattle.image.specs.Size.{blockSize, pagesInBlock};
 ghost use Rattle.image.specs.Look.{pageAt, pageEmpty, formAt};
 ghost use Rattle.store.specs.Kind.{pageIn, sameFrame, wholeWith, keyBlockWhole, partWhole, kindBy, kindOf, keysEpoch, commitEpoch, coveredBy, isEventLetter, headed, isChosen, isData};
-
-const PAGES_IN_BLOCK: usize = 16;
-
-const BLOCK_SIZE: usize = 4096;
-
-// How many parts a commit has.
-const PARTS: usize = 10;
 
 // Whether two headers are the same, field by field.
 fn same_frame(f: Frame, h: Frame) -> bool

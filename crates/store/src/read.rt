@@ -6,6 +6,7 @@ use crate::replies;
 use crate::tests;
 use page::Frame;
 use page::entries;
+use page::plan::PLACES;
 use page::writers;
 ghost use mathlib.Core.Path.{_≡_};
 ghost use Prim.Native.Nat.{_≤_, _<_, _+_, _*_};
@@ -22,8 +23,6 @@ ghost use Rattle.store.specs.Outcome.{answered, leftWhole, standing};
 ghost use Rattle.store.specs.Write.{keyHeld};
 ghost use Rattle.store.specs.Read.{contentOf, readTests, readOf};
 ghost use Rattle.store.specs.Taken.{Ready};
-
-const PLACES: usize = 224;
 
 // The tests of a read, in order.
 fn refuse_read(

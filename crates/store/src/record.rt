@@ -4,6 +4,7 @@ use image::keys;
 use page::entries;
 use page::keys as positions;
 use page::plan;
+use page::plan::PLACES;
 ghost use mathlib.Core.Path.{_≡_};
 ghost use mathlib.Core.Bool.{true};
 ghost use Prim.Native.Nat.{_≤_, _<_, _+_, _*_};
@@ -16,8 +17,6 @@ ghost use Rattle.image.specs.Size.{blockSize};
 ghost use Rattle.store.specs.Record.{mapSize, keyOf, live};
 ghost use Rattle.store.specs.Write.{placeAt, keysBlock, keyHeld, nextSequence, released};
 ghost use Rattle.store.specs.Taken.{Planned};
-
-const PLACES: usize = 224;
 
 // The place of a file and an offset below its count.
 pub fn place_at(file: u32, offset: u32) -> usize

@@ -5,6 +5,7 @@ use crate::fit;
 use crate::replies;
 use image::look;
 use page::Frame;
+use page::keys::POSITIONS;
 use page::plan;
 ghost use mathlib.Core.Path.{_≡_};
 ghost use Rattle.store.specs.Reply.{verdict};
@@ -12,10 +13,8 @@ ghost use Rattle.store.specs.Record.{recordOf};
 ghost use Rattle.store.specs.Format.{buffersRight};
 ghost use Rattle.store.specs.Write.{placeTests, nodeTests};
 
-// A map has 448 numbers, and there are 448 letters.
+// A map has a page and a key for each place.
 const MAP_SIZE: usize = 448;
-
-const POSITIONS: usize = 448;
 
 // Whether map and letters have the right lengths.
 pub fn buffers_right(map: &[u16], letters: &[u8]) -> bool

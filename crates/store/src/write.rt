@@ -1,5 +1,6 @@
 // Write: a node at a place, with the lowest free key and the page that the searches find.
 use crate::Answer;
+use crate::ENOUGH;
 use crate::Found;
 use crate::Numbers;
 use crate::Reply;
@@ -9,6 +10,7 @@ use crate::replies;
 use crate::tests;
 use image::Power;
 use image::steps;
+use page::headers::LAST_NUMBER;
 ghost use mathlib.Core.Path.{_≡_};
 ghost use mathlib.Core.List.{[]};
 ghost use Rattle.store.specs.Reply.{verdict};
@@ -17,12 +19,6 @@ ghost use Rattle.store.specs.Outcome.{left, leftWhole, standing};
 ghost use Rattle.store.specs.Find.{lowestFree, newPage, foundAt};
 ghost use Rattle.store.specs.Write.{writeTests, takingOf, writeOf};
 ghost use Rattle.store.specs.Taken.{WriteTaken};
-
-// The last sequence.
-const LAST_NUMBER: u32 = 99_999_999;
-
-// More steps than any call has.
-const ENOUGH: u64 = 1000;
 
 // What the tests of a write find: the key position and the page that it takes, or the refusal.
 pub enum Taking {

@@ -2,12 +2,12 @@
 use Prim.Native.Nat.{ℕ, zero, suc, _+_, _-_, _<_, _≤_}
 use native.Mathlib.Omega.{arith}
 use native.Mathlib.Numerals.{add-one}
-use native.Mathlib.Nat.{add-zero, zero-add, suc-add}
+use native.Mathlib.Nat.{zero-add, suc-add}
 use mathlib.Core.Path.{_≡_, refl, sym, ap, subst, _∙_}
 use mathlib.Core.List.{List, [], _∷_, _++_, append-assoc, append-nil}
-use lib.ListN.{length, getD, take, drop, set, replicate, length-replicate, length-append, length-take, length-drop, length-set, take-append-drop, List·getD-append}
+use lib.ListN.{length, getD, take, drop, set, replicate, length-replicate, length-append, length-take, length-drop, take-append-drop}
 use borrow.Rule.Slice.PartMut.{putMid}
-use lib.Seq.{drop-cons, set-at, take-suc, drop-length, take-nil, drop-nil, take-at, drop-at, take-append-seam, drop-append-seam, take-append-le, drop-append-le, take-append-add, drop-append-add, length-take-le, drop-drop, take-take, take-add, getD-append-add, getD-take, getD-drop, paste-suc, ext-getD}
+use lib.Seq.{drop-cons, set-at, take-suc, drop-length, take-nil, take-at, drop-at, take-append-seam, drop-append-seam, take-append-le, drop-append-le, take-append-add, drop-append-add, length-take-le, drop-drop, take-take, getD-take, getD-drop}
 use Rattle.base.specs.Part.{part, splice}
 
 module _ {A : Type 0} where

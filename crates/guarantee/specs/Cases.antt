@@ -1,9 +1,9 @@
 -- Document 01, "Cases": P1 to P10 as one table, a row for each case. `cases` of proofs/Cases.antt proves it.
 use Prim.Native.Nat.{ℕ, _+_}
-use Prim.Native.Char.{Char, code}
+use Prim.Native.Char.{code}
 use Prim.Native.String.{String, [] as end, _∷_ as _then_}
 use mathlib.Core.Path.{_≡_}
-use mathlib.Core.Bool.{true, false}
+use mathlib.Core.Bool.{true}
 use mathlib.Core.List.{List, [], _∷_}
 use lib.ListN.{length}
 use Rattle.cipher.specs.SBox.{sBox}
@@ -11,10 +11,8 @@ use Rattle.page.specs.Plan.{filePlan, placeOf}
 use Rattle.page.specs.Header.{nodeFrame, headerOf}
 use Rattle.page.specs.Key.{keyBlock, keyPage, keySlot}
 use Rattle.page.specs.Entry.{entryPart, entryAt, entrySize}
-use Rattle.page.specs.declared.Header.{Header}
 use Rattle.page.specs.declared.Header.the-variants.{Is, Invalid}
-use Rattle.page.specs.declared.Place.{Place}
-use Rattle.page.specs.declared.Place.the-variants.{At, Outside}
+use Rattle.page.specs.declared.Place.the-variants.{At}
 use Rattle.image.specs.Size.{sizeRight}
 use Rattle.store.specs.Reply.{numberOf}
 use Rattle.store.specs.Record.{Record}

@@ -3,8 +3,8 @@ use Prim.Native.Nat.{ℕ, _+_}
 use mathlib.Core.Bool.{Bool, true, false, cond, not, _&&_, _||_}
 use mathlib.Core.List.{List, [], _∷_}
 use lib.ListN.{length}
-use lib.Dec.{T, eqb, leb, ltb}
-use Rattle.image.specs.Step.{Step, play, playAll}
+use lib.Dec.{T, eqb, ltb}
+use Rattle.image.specs.Step.{play, playAll}
 use Rattle.store.specs.Reply.{isDone}
 use Rattle.store.specs.Record.{Record}
 use Rattle.store.specs.Outcome.{Outcome}

@@ -1,10 +1,10 @@
 -- Document 01, "The plain book of demand 3": a byte is on the flash from the step that programs it to one that erases it. Where each byte of the flash comes from.
 use Prim.Native.Nat.{ℕ, zero, suc, _+_, _*_, _-_, _/_, _%_, min}
-use mathlib.Core.Bool.{Bool, true, false, cond, _&&_}
+use mathlib.Core.Bool.{Bool, cond, _&&_}
 use mathlib.Core.List.{List, [], _∷_}
 use lib.Dec.{eqb, leb, ltb}
 use Rattle.base.specs.Part.{part}
-use Rattle.page.specs.Frame.{headerSize, payloadSize, pageSize, closingAt}
+use Rattle.page.specs.Frame.{headerSize, pageSize, closingAt}
 use Rattle.page.specs.Header.{nodeLetter, keysLetter, headerOf}
 use Rattle.page.specs.Key.{keySize, keysInPage, keysInBlock}
 use Rattle.page.specs.Entry.{usedLetter}

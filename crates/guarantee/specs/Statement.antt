@@ -23,7 +23,6 @@ use Rattle.store.specs.Mount.{mountOf}
 use Rattle.store.specs.Write.{fileRight, offsetRight, placeAt, keysBlock, keyHeld, writeOf}
 use Rattle.store.specs.Read.{readOf}
 use Rattle.store.specs.declared.Numbers.{Numbers}
-use Rattle.store.specs.declared.Reply.{Reply}
 use Rattle.store.specs.declared.Reply.the-variants.{Done, RecordUnfit, NothingThere, NoFreeKey}
 use Rattle.guarantee.specs.Call.{Call, mount, write, read, cutOff, commit, wipe, Event, outcomeOf}
 use Rattle.guarantee.specs.Book.{Book, Holding, heldAmong, lowestMarked}

@@ -1,8 +1,11 @@
 //! What the tests and benchmarks of the proved libraries share.
 //!
 //! - [`ffi`]: the functions of the static libraries, as safe Rust functions.
+//! - [`recorder`]: the store with plain types, over the library `recorder`.
+//! - [`side_by_side`]: the same call by library and second implementation, and their first difference.
 //! - [`model`]: second implementations, written from the public documents alone.
 //! - [`random_lists`]: lists of calls of the store.
+//! - [`store_lists`]: lists of calls on library and second implementation side by side.
 //! - [`rng`]: a generator of test inputs that gives the same ones in every run.
 //! - [`guarded`]: buffers that show a write outside the part that was lent.
 //! - [`hex`]: bytes to and from hexadecimal text.
@@ -13,6 +16,9 @@ pub mod guarded;
 pub mod hex;
 pub mod model;
 pub mod random_lists;
+pub mod recorder;
 pub mod rng;
 pub mod shared_library;
+pub mod side_by_side;
+pub mod store_lists;
 pub mod timing;

@@ -46,7 +46,8 @@ pub extern "C" fn johvimaru_format(
 {
     let answer = format::format(image, map, letters, noise);
     put_numbers(numbers, answer.numbers);
-    replies::number(answer.reply)
+    let reply = answer.reply;
+    replies::number(reply)
 }
 
 // A format of which the power lasts for n steps and the first k bytes of the next.
@@ -64,7 +65,8 @@ pub extern "C" fn johvimaru_format_cut(
 {
     let answer = format::format_cut(image, map, letters, noise, n, k);
     put_numbers(numbers, answer.numbers);
-    replies::number(answer.reply)
+    let reply = answer.reply;
+    replies::number(reply)
 }
 
 // Writes a payload at a file's offset.
@@ -90,7 +92,8 @@ pub extern "C" fn johvimaru_write(
         payload,
     );
     put_numbers(numbers, answer.numbers);
-    replies::number(answer.reply)
+    let reply = answer.reply;
+    replies::number(reply)
 }
 
 // A write of which the power lasts for n steps and the first k bytes of the next.
@@ -120,7 +123,8 @@ pub extern "C" fn johvimaru_write_cut(
         k,
     );
     put_numbers(numbers, answer.numbers);
-    replies::number(answer.reply)
+    let reply = answer.reply;
+    replies::number(reply)
 }
 
 // Reads the payload at a file's offset into the output.

@@ -22,10 +22,12 @@ pub record Faced : Type 0 where
   pub after : Record
   pub lent : List ℕ
 
+abbrev pub facedWith : ℕ → List ℕ → List ℕ → List ℕ → Numbers → List ℕ → Faced
+facedWith r img map letters n lent = record { reply = r; image = img; after = recordOf map letters n; lent = lent }
+
 -- the same, in the terms of the code: the reply, and what is in every lent buffer
 abbrev pub faced : ℕ → List ℕ → List ℕ → List ℕ → List ℕ → List ℕ → Faced
-faced r img map letters five lent =
-    record { reply = r; image = img; after = recordOf map letters (numbersOf five); lent = lent }
+faced r img map letters five lent = facedWith r img map letters (numbersOf five) lent
 
 -- what the store leaves, its reply as document 01's number
 unfoldable pub face : Left → Faced

@@ -20,7 +20,7 @@ returns : tie.Need-returns
 returns c =
     let e = c .before .before .before in
     rw (← e .before .before .numbers-of .ensures)
-    (faced-reply _ _ _ _ _ _ _ _ _ (c .number .ensures) (e .before .before .numbers-of .ensures) (e .read .ensures))
+    (faced-reply _ _ _ _ _ _ _ _ (c .number .ensures) (e .read .ensures))
 
 pub johvimaru-read-spec : {M : Type 1} → statement M
 johvimaru-read-spec =

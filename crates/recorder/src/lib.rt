@@ -1,4 +1,5 @@
 // The store for C: each call over numbers and lent slices, with its reply as a number.
+use store::Answer;
 use store::Numbers;
 use store::format;
 use store::read;
@@ -6,6 +7,7 @@ use store::replies;
 use store::write;
 ghost use mathlib.Core.Path.{_≡_};
 ghost use mathlib.Core.List.{[]};
+ghost use Rattle.store.specs.Reply.{numberOf};
 ghost use Rattle.store.specs.Record.{recordOf};
 ghost use Rattle.store.specs.Outcome.{left, leftWhole};
 ghost use Rattle.store.specs.Format.{formatOf};
@@ -26,11 +28,14 @@ fn numbers_of(five: &[u32; 5]) -> Numbers
     }
 }
 
-// Puts the record's numbers into an array.
-fn put_numbers(five: &mut [u32; 5], n: Numbers)
-    ensures { λ _. ⌜ now (five .exit) ≡ fiveOf n ⌝ }
+// What a caller gets of an answer: the record's numbers in its array, and the reply's number.
+fn hand_over(answer: Answer, five: &mut [u32; 5]) -> u32
+    ensures { λ r. ⌜ (r ≡ numberOf (answer .reply)) × (now (five .exit) ≡ fiveOf (answer .numbers)) ⌝ }
 {
+    let n = answer.numbers;
     *five = [n.sequence, n.epoch, n.keys0, n.keys1, n.commit];
+    let reply = answer.reply;
+    replies::number(reply)
 }
 
 // Formats the image with noise and makes the record of it. Where it is refused the numbers become 0.
@@ -45,9 +50,7 @@ pub extern "C" fn johvimaru_format(
     ensures { λ r. ⌜ faced r (now (image .exit)) (now (map .exit)) (now (letters .exit)) (now (numbers .exit)) [] ≡ face (leftWhole (formatOf (now (image .entry)) (now (map .entry)) (now (letters .entry)) (now (noise .entry))) (now (image .entry))) ⌝ }
 {
     let answer = format::format(image, map, letters, noise);
-    put_numbers(numbers, answer.numbers);
-    let reply = answer.reply;
-    replies::number(reply)
+    hand_over(answer, numbers)
 }
 
 // A format of which the power lasts for n steps and the first k bytes of the next.
@@ -64,9 +67,7 @@ pub extern "C" fn johvimaru_format_cut(
     ensures { λ r. ⌜ faced r (now (image .exit)) (now (map .exit)) (now (letters .exit)) (now (numbers .exit)) [] ≡ face (left n k (formatOf (now (image .entry)) (now (map .entry)) (now (letters .entry)) (now (noise .entry))) (now (image .entry))) ⌝ }
 {
     let answer = format::format_cut(image, map, letters, noise, n, k);
-    put_numbers(numbers, answer.numbers);
-    let reply = answer.reply;
-    replies::number(reply)
+    hand_over(answer, numbers)
 }
 
 // Writes a payload at a file's offset.
@@ -91,9 +92,7 @@ pub extern "C" fn johvimaru_write(
         offset,
         payload,
     );
-    put_numbers(numbers, answer.numbers);
-    let reply = answer.reply;
-    replies::number(reply)
+    hand_over(answer, numbers)
 }
 
 // A write of which the power lasts for n steps and the first k bytes of the next.
@@ -122,9 +121,7 @@ pub extern "C" fn johvimaru_write_cut(
         n,
         k,
     );
-    put_numbers(numbers, answer.numbers);
-    let reply = answer.reply;
-    replies::number(reply)
+    hand_over(answer, numbers)
 }
 
 // Reads the payload at a file's offset into the output.

@@ -7,11 +7,8 @@ use Rattle.recorder.proofs.johvimaru_format.Tie as tie
 format-requires : tie.Need-format-requires
 format-requires c κs = search needs
 
-put-numbers-requires : tie.Need-put-numbers-requires
-put-numbers-requires c κs = search needs
-
-number-requires : tie.Need-number-requires
-number-requires c κs = search needs
+hand-over-requires : tie.Need-hand-over-requires
+hand-over-requires c κs = search needs
 
 same-length : tie.Need-same-length
 same-length c = search needs
@@ -24,16 +21,15 @@ same-length-3 c = search needs
 
 returns : tie.Need-returns
 returns c =
-    let e = c .before .before .before .before .before .before .before .before .before in
-    faced-answer _ _ _ _ _ _ _ _ (c .number .ensures) (c .before .put-numbers .ensures) (e .format .ensures)
+    let e = c .before .before .before .before .before .before .before .before in
+    faced-answer _ _ _ _ _ _ _ _ (c .hand-over .ensures .0) (c .hand-over .ensures .1) (e .format .ensures)
 
 pub johvimaru-format-spec : {M : Type 1} → statement M
 johvimaru-format-spec =
     tie.close
     (tie.spec
     format-requires
-    put-numbers-requires
-    number-requires
+    hand-over-requires
     same-length
     same-length-2
     same-length-3

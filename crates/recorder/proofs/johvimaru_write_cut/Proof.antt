@@ -10,11 +10,8 @@ numbers-of-requires c κs = search needs
 write-cut-requires : tie.Need-write-cut-requires
 write-cut-requires c κs = search needs
 
-put-numbers-requires : tie.Need-put-numbers-requires
-put-numbers-requires c κs = search needs
-
-number-requires : tie.Need-number-requires
-number-requires c κs = search needs
+hand-over-requires : tie.Need-hand-over-requires
+hand-over-requires c κs = search needs
 
 same-length : tie.Need-same-length
 same-length c = search needs
@@ -27,9 +24,9 @@ same-length-3 c = search needs
 
 returns : tie.Need-returns
 returns c =
-    let e = c .before .before .before .before .before .before .before .before .before in
+    let e = c .before .before .before .before .before .before .before .before in
     rw (← e .before .numbers-of .ensures)
-    (faced-answer _ _ _ _ _ _ _ _ (c .number .ensures) (c .before .put-numbers .ensures) (e .write-cut .ensures))
+    (faced-answer _ _ _ _ _ _ _ _ (c .hand-over .ensures .0) (c .hand-over .ensures .1) (e .write-cut .ensures))
 
 pub johvimaru-write-cut-spec : {M : Type 1} → statement M
 johvimaru-write-cut-spec =
@@ -37,8 +34,7 @@ johvimaru-write-cut-spec =
     (tie.spec
     numbers-of-requires
     write-cut-requires
-    put-numbers-requires
-    number-requires
+    hand-over-requires
     same-length
     same-length-2
     same-length-3

@@ -1,10 +1,12 @@
 //! Write and read of the library on damaged images and on records that almost fit, beside the second
 //! implementation: each byte of the chosen blocks, each number, letter and place, changed alone.
 
+use johvimaru_tests::model::blocks::page_to_take;
 use johvimaru_tests::model::calls::DONE;
-use johvimaru_tests::model::image::{Power, PAGES_IN_BLOCK};
+use johvimaru_tests::model::files::{self, PLACES};
+use johvimaru_tests::model::image::{blocks, Power, PAGES_IN_BLOCK};
 use johvimaru_tests::model::list::{Call as Second, Data};
-use johvimaru_tests::model::pages::{HEADER, LAST, PAGE, PARTS, PAYLOAD};
+use johvimaru_tests::model::pages::{Header, HEADER, LAST, PAGE, PARTS, PAYLOAD};
 use johvimaru_tests::model::record::{LETTERS, MAP, NONE};
 use johvimaru_tests::model::store::Store;
 use johvimaru_tests::side_by_side::{compare, Call, Tally};
@@ -164,8 +166,8 @@ fn each_place_changed() {
             check(&store, &[Change::Map(at, To::Value(to))], &mut tally);
         }
     }
-    for place in 0..MAP / 2 {
-        let both = [place, MAP / 2 + place].map(|at| Change::Map(at, To::Value(NONE.into())));
+    for place in 0..PLACES {
+        let both = [place, PLACES + place].map(|at| Change::Map(at, To::Value(NONE.into())));
         check(&store, &both, &mut tally);
     }
     tally.require("write", &[DONE, 7]);
@@ -177,16 +179,44 @@ fn each_place_changed() {
 fn places_exchanged_and_doubled() {
     let store = rich();
     let mut tally = Tally::default();
-    let live: Vec<usize> = (0..MAP / 2).filter(|&place| store.record.map[place] != NONE).collect();
+    let live: Vec<usize> = (0..PLACES).filter(|&place| store.record.map[place] != NONE).collect();
     let value = |at: usize| To::Value(store.record.map[at].into());
     for &a in &live {
-        for b in 0..MAP / 2 {
-            let half = MAP / 2;
+        for b in 0..PLACES {
+            let half = PLACES;
             let doubled = [Change::Map(b, value(a)), Change::Map(half + b, value(half + a))];
             check(&store, &doubled, &mut tally);
             let back = [Change::Map(a, value(b)), Change::Map(half + a, value(half + b))];
             check(&store, &[doubled, back].concat(), &mut tally);
         }
+    }
+    tally.require("write", &[DONE, 7]);
+    tally.require("read", &[DONE, 7, 8]);
+}
+
+/// A second whole page of another place under a key that is used: the record fits in all but that the
+/// key is named twice.
+#[test]
+fn a_key_named_twice() {
+    let store = rich();
+    let mut tally = Tally::default();
+    let place = files::place(0, 0).expect("there is such a node");
+    let key = store.record.map[PLACES + place];
+    let free = page_to_take(blocks(&store.image)).expect("there is room");
+    for (file, offset) in [(0, 2), (1, 0), (13, 6)] {
+        let mut doubled = store.clone();
+        let header = Header::Node { sequence: 1, file, offset, key: key.into() };
+        doubled.image[PAGE * free..][..PAGE].copy_from_slice(&header.page(&[b'.'; PAYLOAD]));
+        check(&doubled, &[], &mut tally);
+        let other = files::place(file, offset).expect("there is such a node");
+        let changes = [
+            Change::Map(other, To::Value(free as u32)),
+            Change::Map(PLACES + other, To::Value(key.into())),
+        ];
+        check(&doubled, &changes, &mut tally);
+        let mut moved = changes.to_vec();
+        moved.extend([place, PLACES + place].map(|at| Change::Map(at, To::Value(NONE.into()))));
+        check(&doubled, &moved, &mut tally);
     }
     tally.require("write", &[DONE, 7]);
     tally.require("read", &[DONE, 7, 8]);

@@ -83,15 +83,8 @@ pub extern "C" fn johvimaru_write(
 ) -> u32
     ensures { λ r. ⌜ faced r (now (image .exit)) (now (map .exit)) (now (letters .exit)) (now (numbers .exit)) [] ≡ face (leftWhole (writeOf (now (image .entry)) (recordOf (now (map .entry)) (now (letters .entry)) (numbersOf (now (numbers .entry)))) file offset (now (payload .entry))) (now (image .entry))) ⌝ }
 {
-    let answer = write::write(
-        image,
-        map,
-        letters,
-        numbers_of(numbers),
-        file,
-        offset,
-        payload,
-    );
+    let before = numbers_of(numbers);
+    let answer = write::write(image, map, letters, before, file, offset, payload);
     hand_over(answer, numbers)
 }
 
@@ -110,17 +103,8 @@ pub extern "C" fn johvimaru_write_cut(
 ) -> u32
     ensures { λ r. ⌜ faced r (now (image .exit)) (now (map .exit)) (now (letters .exit)) (now (numbers .exit)) [] ≡ face (left n k (writeOf (now (image .entry)) (recordOf (now (map .entry)) (now (letters .entry)) (numbersOf (now (numbers .entry)))) file offset (now (payload .entry))) (now (image .entry))) ⌝ }
 {
-    let answer = write::write_cut(
-        image,
-        map,
-        letters,
-        numbers_of(numbers),
-        file,
-        offset,
-        payload,
-        n,
-        k,
-    );
+    let before = numbers_of(numbers);
+    let answer = write::write_cut(image, map, letters, before, file, offset, payload, n, k);
     hand_over(answer, numbers)
 }
 
@@ -137,14 +121,7 @@ pub extern "C" fn johvimaru_read(
 ) -> u32
     ensures { λ r. ⌜ faced r (now (image .entry)) (now (map .entry)) (now (letters .entry)) (now (numbers .entry)) (now (output .exit)) ≡ face (leftWhole (readOf (now (image .entry)) (recordOf (now (map .entry)) (now (letters .entry)) (numbersOf (now (numbers .entry)))) file offset (now (output .entry))) (now (image .entry))) ⌝ }
 {
-    let reply = read::read(
-        image,
-        map,
-        letters,
-        numbers_of(numbers),
-        file,
-        offset,
-        output,
-    );
+    let before = numbers_of(numbers);
+    let reply = read::read(image, map, letters, before, file, offset, output);
     replies::number(reply)
 }

@@ -25,7 +25,7 @@ same-length-3 c = search needs
 returns : tie.Need-returns
 returns c =
     let e = c .before .before .before .before .before .before .before .before in
-    rw (← e .before .numbers-of .ensures)
+    rw (← e .before .before .before .before .numbers-of .ensures)
     (faced-answer _ _ _ _ _ _ _ _ (c .hand-over .ensures .0) (c .hand-over .ensures .1) (e .write .ensures))
 
 pub johvimaru-write-spec : {M : Type 1} → statement M

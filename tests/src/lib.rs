@@ -9,8 +9,9 @@
 //! - [`rng`]: a generator of test inputs that gives the same ones in every run.
 //! - [`guarded`]: buffers that show a write outside the part that was lent.
 //! - [`hex`]: bytes to and from hexadecimal text.
-//! - [`shared_library`] and [`timing`]: libraries to compare speed with, and the clock.
+//! - [`shared_library`], [`databases`] and [`timing`]: what speed is compared with, and the clock.
 
+pub mod databases;
 pub mod ffi;
 pub mod guarded;
 pub mod hex;

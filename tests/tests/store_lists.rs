@@ -17,29 +17,29 @@ fn check_random_lists(blocks: usize, seeds: Range<u64>, longest: usize) -> Tally
 
 #[test]
 fn random_lists_on_8_blocks() {
-    check_random_lists(8, 0..4_000, 400).require_all();
+    check_random_lists(8, 0..6_000, 400).require_all();
 }
 
 #[test]
 fn random_lists_on_9_blocks() {
-    check_random_lists(9, 10_000..12_000, 400).require_all();
+    check_random_lists(9, 10_000..13_000, 400).require_all();
 }
 
 #[test]
 fn random_lists_on_16_blocks() {
-    check_random_lists(16, 20_000..21_000, 600).require_all();
+    check_random_lists(16, 20_000..21_500, 600).require_all();
 }
 
 #[test]
 fn random_lists_on_32_blocks() {
-    let tally = check_random_lists(32, 30_000..30_400, 1_200);
+    let tally = check_random_lists(32, 30_000..30_600, 1_200);
     tally.require("write", &[0, 1, 2, 4, 5, 6, 7, 9, 11, 255]);
     tally.require("read", &[0, 1, 2, 4, 5, 6, 7, 8]);
 }
 
 #[test]
 fn random_lists_on_256_blocks() {
-    let tally = check_random_lists(256, 40_000..40_100, 100);
+    let tally = check_random_lists(256, 40_000..40_300, 100);
     tally.require("write", &[0, 1, 2, 4, 5, 6, 7, 9, 11, 255]);
     tally.require("read", &[0, 1, 2, 4, 5, 6, 7, 8]);
 }

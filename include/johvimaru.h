@@ -12,7 +12,7 @@
  *
  * Link with librecorder.a. The library needs memcpy and memset, and nothing else. It allocates nothing,
  * keeps nothing between calls and has no global state: all that it works on is lent to it for the
- * call. Calls on different buffers may run at the same time.
+ * call, and JOHVIMARU_STACK_SIZE bytes of stack. Calls on different buffers may run at the same time.
  *
  *
  * THE IMAGE
@@ -124,6 +124,9 @@ extern "C" {
 
 /* Stands in a map for none. */
 #define JOHVIMARU_NONE 65535
+
+/* Bytes of stack that are enough for any call, as measured on x86-64. */
+#define JOHVIMARU_STACK_SIZE 6144
 
 /* ---- The record's numbers, by their index */
 

@@ -14,14 +14,14 @@ fn path(name: &str) -> PathBuf {
     Path::new(env!("CARGO_MANIFEST_DIR")).join("..").join(name)
 }
 
-/// Builds the example with a compiler and these words, runs it, and holds what it prints to its text.
-fn check_example(compiler: &str, words: &[&str]) {
-    let program = Path::new(env!("CARGO_TARGET_TMPDIR")).join(format!("example-{compiler}"));
+/// Builds a program of tests/c with a compiler and these words, runs it, and gives what it prints.
+fn run(name: &str, compiler: &str, words: &[&str]) -> String {
+    let program = Path::new(env!("CARGO_TARGET_TMPDIR")).join(format!("{name}-{compiler}"));
     let built = Command::new(compiler)
         .args(words)
         .args(["-Wall", "-Wextra", "-Wpedantic", "-Werror", "-O1", "-I"])
         .arg(path("include"))
-        .arg(path("tests/c/example.c"))
+        .arg(path("tests/c").join(name).with_extension("c"))
         .args(["-x", "none"])
         .arg(path("target/staticlib/librecorder.a"))
         .arg("-o")
@@ -29,21 +29,30 @@ fn check_example(compiler: &str, words: &[&str]) {
         .output()
         .unwrap_or_else(|error| panic!("{compiler} cannot be run: {error}"));
     assert!(built.status.success(), "{compiler}: {}", String::from_utf8_lossy(&built.stderr));
+    let run = Command::new(&program).output().expect("the program was built");
+    let printed = String::from_utf8(run.stdout).expect("the program prints text");
+    assert!(run.status.success(), "{name} ended with {}: {printed}", run.status);
+    printed
+}
 
-    let run = Command::new(&program).output().expect("the example was built");
-    assert!(run.status.success(), "the example ended with {}", run.status);
-    let expected = std::fs::read_to_string(path("tests/c/example.txt")).expect("the text is there");
-    assert_eq!(String::from_utf8_lossy(&run.stdout), expected);
+/// What the example must print.
+fn example_text() -> String {
+    std::fs::read_to_string(path("tests/c/example.txt")).expect("the text is there")
 }
 
 #[test]
 fn the_example_in_c() {
-    check_example("cc", &["-std=c11", "-x", "c"]);
+    assert_eq!(run("example", "cc", &["-std=c11", "-x", "c"]), example_text());
 }
 
 #[test]
 fn the_example_in_cpp() {
-    check_example("c++", &["-std=c++17", "-x", "c++"]);
+    assert_eq!(run("example", "c++", &["-std=c++17", "-x", "c++"]), example_text());
+}
+
+#[test]
+fn the_stack_that_calls_take() {
+    assert_eq!(run("stack", "cc", &["-std=c11", "-x", "c"]), "");
 }
 
 /// The value that the header defines for a name.
@@ -94,7 +103,8 @@ fn the_constants() {
     for (name, reply) in replies {
         assert_eq!(defined(&header, name), reply.number(), "{name}");
     }
-    let all = sizes.len() + indices.len() + replies.len();
+    // The others are the guard against a second inclusion and the size of the stack.
+    let all = sizes.len() + indices.len() + replies.len() + 2;
     let defines = header.lines().filter(|line| line.starts_with("#define JOHVIMARU_")).count();
-    assert_eq!(defines, all + 1, "a constant of the header is not looked at here");
+    assert_eq!(defines, all, "a constant of the header is not looked at here");
 }

@@ -70,10 +70,14 @@ fn main() {
         let peers = peers(setting, &folder);
         compare_results(setting, &peers);
         if bench {
-            verdicts.extend(compare_times(setting, &peers));
+            verdicts.push(compare_times(setting, &peers));
         }
     }
-    verdicts.iter().for_each(|verdict| println!("{verdict}"));
+    if bench {
+        let title = format!("ours / second, at most {LIMIT:.2}");
+        println!("{title:<36}{:>15}{:>15}", "write", "read");
+        verdicts.iter().for_each(|verdict| println!("{verdict}"));
+    }
 }
 
 /// What the write of this number writes.
@@ -173,31 +177,23 @@ fn fits(setting: &Setting) -> Work<'static> {
     })
 }
 
-/// Prints each peer's times as multiples of ours. Gives lines that say whether the limit is kept.
-fn compare_times(setting: &Setting, peers: &[RefCell<Box<dyn Peer>>]) -> Vec<String> {
+/// Prints each peer's times as multiples of ours. Gives a line that says whether the limit is kept.
+fn compare_times(setting: &Setting, peers: &[RefCell<Box<dyn Peer>>]) -> String {
     let mut ways: Vec<Work> = peers.iter().map(writes).collect();
     ways.extend(peers.iter().map(reads));
     ways.push(fits(setting));
     let (first_read, fit) = (peers.len(), 2 * peers.len());
     let times = timing::run(ways, ROUNDS);
-    println!("\n{:<36}{:>15}{:>15}", "times, ours = 1.00", "write", "read");
+    println!("times, ours = 1.00{:>33}{:>15}", "write", "read");
     for (at, peer) in peers.iter().enumerate() {
         let (write, read) = (times.ratio(at, 0), times.ratio(first_read + at, first_read));
         println!("{:<36}{write:>15.2}{read:>15.2}", peer.borrow().name());
     }
     let (write, read) = (times.ratio(fit, 0), times.ratio(fit, first_read));
     println!("{:<36}{write:>15.2}{read:>15.2}\n", "the record's fit, of our time");
-    let verdict = |call, ratio| {
-        let word = if ratio <= LIMIT { "met" } else { "NOT MET" };
-        let name = setting.name;
-        format!(
-            "{name}, {call}: ours / second implementation: {ratio:.2}, at most {LIMIT:.2}: {word}"
-        )
-    };
-    vec![
-        verdict("write", times.ratio(0, 1)),
-        verdict("read", times.ratio(first_read, first_read + 1)),
-    ]
+    let ratios = [times.ratio(0, 1), times.ratio(first_read, first_read + 1)];
+    let word = if ratios.iter().all(|&ratio| ratio <= LIMIT) { "met" } else { "NOT MET" };
+    format!("{:<36}{:>15.2}{:>15.2}   {word}", setting.name, ratios[0], ratios[1])
 }
 
 /// File and offset of a place.

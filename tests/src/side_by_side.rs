@@ -2,12 +2,13 @@
 //! record, and where they then differ.
 
 use crate::model::calls::{self, CUT, DONE};
-use crate::model::image::Power;
-use crate::model::list::{Data, Lent};
-use crate::model::pages::PAGE;
+use crate::model::image::{Power, BLOCK};
+use crate::model::list::{self, Data, Lent};
+use crate::model::pages::{PAGE, PAYLOAD};
 use crate::model::record::{self as model, Numbers};
 use crate::model::store::Store;
 use crate::recorder::{self, Cut, Reply};
+use crate::rng::Rng;
 use std::collections::BTreeMap;
 use std::fmt;
 
@@ -186,6 +187,65 @@ fn first_difference<T: PartialEq + fmt::Debug>(
         ours[at], second[at]
     );
     Some(at)
+}
+
+/// Image and record, on which each call is done by both.
+///
+/// A call panics where library and second implementation differ.
+#[derive(Clone, PartialEq, Eq)]
+pub struct Both(pub Store);
+
+impl Both {
+    /// A formatted image of so many blocks, which held random bytes before.
+    pub fn formatted(blocks: usize) -> Both {
+        let image = Rng::new(blocks as u64).bytes(BLOCK * blocks);
+        let mut both = Both(Store { image, record: model::Record::blank() });
+        both.done(&[Call::Format { noise: Data::noise(1_000) }]);
+        both
+    }
+
+    /// Does a call. Gives the reply.
+    pub fn call(&mut self, call: Call) -> u32 {
+        self.call_with(call, Power::STAYS)
+    }
+
+    /// Does a call whose power fails after `steps` whole steps and `bytes` of the next. Gives the reply.
+    pub fn cut(&mut self, call: Call, steps: usize, bytes: usize) -> u32 {
+        self.call_with(call, Power::cut(steps, bytes))
+    }
+
+    fn call_with(&mut self, call: Call, power: Power) -> u32 {
+        match compare(&self.0, call, power) {
+            Ok(after) => {
+                self.0 = after.store;
+                after.reply
+            }
+            Err(why) => panic!("{call:?}, {power:?}:\n{why}"),
+        }
+    }
+
+    /// Does calls that must all succeed.
+    pub fn done(&mut self, calls: &[Call]) {
+        for &call in calls {
+            assert_eq!(self.call(call), DONE, "{call:?}");
+        }
+    }
+
+    /// Gives the image a new record, by a mount of the second implementation that must succeed.
+    pub fn mount(&mut self) {
+        self.0.record = model::Record::blank();
+        assert_eq!(self.0.call(list::Call::MOUNT), DONE);
+    }
+
+    /// What a read gives: the payload, or the number of its refusal.
+    pub fn content(&self, file: u32, offset: u32) -> Result<Vec<u8>, u32> {
+        let read = Call::Read { file, offset, output: PAYLOAD };
+        match compare(&self.0, read, Power::STAYS) {
+            Ok(after) if after.reply == DONE => Ok(after.output),
+            Ok(after) => Err(after.reply),
+            Err(why) => panic!("{read:?}:\n{why}"),
+        }
+    }
 }
 
 /// How often each call got each reply.

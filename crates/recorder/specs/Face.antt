@@ -22,10 +22,11 @@ pub record Faced : Type 0 where
   pub after : Record
   pub lent : List ℕ
 
+-- the same, from the record's parts
 abbrev pub facedWith : ℕ → List ℕ → List ℕ → List ℕ → Numbers → List ℕ → Faced
 facedWith r img map letters n lent = record { reply = r; image = img; after = recordOf map letters n; lent = lent }
 
--- the same, in the terms of the code: the reply, and what is in every lent buffer
+-- and in the terms of the code: the reply, and what is in every lent buffer
 abbrev pub faced : ℕ → List ℕ → List ℕ → List ℕ → List ℕ → List ℕ → Faced
 faced r img map letters five lent = facedWith r img map letters (numbersOf five) lent
 

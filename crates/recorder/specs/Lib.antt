@@ -1,2 +1,3 @@
--- What a C caller sees of a call: see Face.
+-- The store's calls for C.
+--   Face   what a call leaves, as a C caller sees it
 pub mod Face

@@ -41,6 +41,9 @@ pub enum Call {
 }
 
 impl Call {
+    /// The names of the calls.
+    pub const NAMES: [&str; 3] = ["format", "write", "read"];
+
     /// The call's name.
     pub fn name(self) -> &'static str {
         match self {
@@ -253,9 +256,9 @@ impl Both {
 pub struct Tally(BTreeMap<(&'static str, u32), usize>);
 
 impl Tally {
-    /// Counts a reply.
-    pub fn count(&mut self, call: Call, reply: u32) {
-        *self.0.entry((call.name(), reply)).or_default() += 1;
+    /// Counts a reply to a call by its name.
+    pub fn count(&mut self, name: &'static str, reply: u32) {
+        *self.0.entry((name, reply)).or_default() += 1;
     }
 
     /// Adds another tally.
@@ -265,9 +268,10 @@ impl Tally {
         }
     }
 
-    /// How many calls were counted.
-    pub fn calls(&self) -> usize {
-        self.0.values().sum()
+    /// How many calls were counted that both have.
+    pub fn compared(&self) -> usize {
+        let both = self.0.iter().filter(|((name, _), _)| Call::NAMES.contains(name));
+        both.map(|(_, count)| count).sum()
     }
 
     /// Panics where a call never got one of these replies.

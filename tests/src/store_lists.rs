@@ -125,6 +125,12 @@ pub enum Event {
     Damage(Vec<Change>),
 }
 
+impl Event {
+    fn is_mount(&self) -> bool {
+        matches!(self, Event::Second(list::Event { call: list::Call::Mount { .. }, .. }))
+    }
+}
+
 impl fmt::Display for Event {
     fn fmt(&self, f: &mut fmt::Formatter) -> fmt::Result {
         match self {
@@ -152,7 +158,7 @@ pub struct Run {
     /// Image and record.
     pub store: Store,
     on: bool,
-    /// The replies of the calls that were compared.
+    /// The replies of all calls.
     pub tally: Tally,
 }
 
@@ -165,7 +171,7 @@ impl Run {
 
     /// Does an event, or says where library and second implementation differ.
     pub fn step(&mut self, event: &Event) -> Result<(), String> {
-        if !self.on {
+        if !self.on && !event.is_mount() {
             self.mount();
         }
         match event {
@@ -174,16 +180,18 @@ impl Run {
                     let after = compare(&self.store, *call, *power)?;
                     self.on = after.reply != CUT;
                     self.store = after.store;
-                    self.tally.count(*call, after.reply);
+                    self.tally.count(call.name(), after.reply);
                 } else {
                     let mut copy = self.store.clone();
                     changes.iter().for_each(|change| change.apply(&mut copy));
                     let reply = compare_lent(&copy, *call, *power, *lent)?;
-                    self.tally.count(*call, reply);
+                    self.tally.count(call.name(), reply);
                 }
             }
             Event::Second(list::Event { call, power, .. }) => {
-                self.on = self.store.call_with(*call, *power) != CUT;
+                let reply = self.store.call_with(*call, *power);
+                self.on = reply == DONE || self.on && reply != CUT;
+                self.tally.count(call.name(), reply);
             }
             Event::Damage(changes) => {
                 changes.iter().for_each(|change| change.apply(&mut self.store));
@@ -206,30 +214,25 @@ impl Run {
 
 // ---- Random lists
 
-/// Makes the events of one list.
-pub struct Events {
+/// The list of this seed, for an image of so many blocks, with at most so many events. It begins with a
+/// format.
+fn random_list(seed: u64, blocks: usize, longest: usize) -> Vec<Event> {
+    let calls = RandomList::new(seed, blocks);
+    let length = calls.length.min(longest);
+    let mut events = Events { rng: Rng::new(!seed), calls };
+    let call = Call::Format { noise: Data::noise(events.rng.number()) };
+    let first = Event::Both { call, power: Power::STAYS, lent: Lent::RIGHT, changes: Vec::new() };
+    std::iter::once(first).chain((1..length).map(|_| events.event())).collect()
+}
+
+/// Makes the events of a list.
+struct Events {
     rng: Rng,
     calls: RandomList,
-    /// How many events the list has.
-    pub length: usize,
 }
 
 impl Events {
-    /// The list of this seed, for an image of so many blocks, with at most so many events.
-    pub fn new(seed: u64, blocks: usize, longest: usize) -> Events {
-        let calls = RandomList::new(seed, blocks);
-        let length = calls.length.min(longest);
-        Events { rng: Rng::new(!seed), calls, length }
-    }
-
-    /// The first event, a format of the image.
-    pub fn first(&mut self) -> Event {
-        let call = Call::Format { noise: Data::noise(self.rng.number()) };
-        Event::Both { call, power: Power::STAYS, lent: Lent::RIGHT, changes: Vec::new() }
-    }
-
-    /// The next event.
-    pub fn next(&mut self) -> Event {
+    fn event(&mut self) -> Event {
         let list::Event { call, lent, power } = self.calls.next(true);
         let both = |call, changes| Event::Both { call, power, lent, changes };
         match self.rng.below(400) {
@@ -343,9 +346,7 @@ fn narrow(number: usize) -> u32 {
 ///
 /// Panics where library and second implementation differ, with a shorter list that shows it.
 pub fn check_random_list(blocks: usize, seed: u64, longest: usize) -> Tally {
-    let mut list = Events::new(seed, blocks, longest);
-    let mut events = vec![list.first()];
-    events.extend((1..list.length).map(|_| list.next()));
+    let mut events = random_list(seed, blocks, longest);
     match run(blocks, seed, &events) {
         Ok(tally) => tally,
         Err((at, _)) => {

@@ -3,7 +3,7 @@
 
 use johvimaru_tests::guarded::Guarded;
 use johvimaru_tests::model::calls::{CUT, DONE};
-use johvimaru_tests::model::files::{COUNTS, FILES};
+use johvimaru_tests::model::files::COUNTS;
 use johvimaru_tests::model::image::{Power, BLOCK};
 use johvimaru_tests::model::keys::NOISE;
 use johvimaru_tests::model::list::{Data, Lent};
@@ -149,7 +149,7 @@ fn the_first_fault_decides() {
             [Call::Write { file, offset, payload }, Call::Read { file, offset, output: length }]
         {
             match compare_lent(&store, call, Power::STAYS, lent) {
-                Ok(reply) => tally.count(call, reply),
+                Ok(reply) => tally.count(call.name(), reply),
                 Err(why) => panic!("{call:?}, faults {:b}:\n{why}", faults.0),
             }
         }
@@ -214,8 +214,8 @@ fn lengths_of_every_buffer() {
 #[test]
 fn every_file_and_offset() {
     let mut store = Both::formatted(16);
-    for file in 0..FILES {
-        store.done(&[write(file as u32, COUNTS[file] as u32 - 1, file as u64)]);
+    for (file, count) in (0..).zip(COUNTS) {
+        store.done(&[write(file, count as u32 - 1, file.into())]);
     }
     for file in (0..16).chain([255, 256, 1 << 16, u32::MAX]) {
         for offset in (0..40).chain([255, 256, 1 << 16, u32::MAX - 32, u32::MAX]) {

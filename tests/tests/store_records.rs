@@ -46,7 +46,7 @@ fn check(store: &Store, changes: &[Change], tally: &mut Tally) {
     ];
     for call in calls {
         match compare(&copy, call, Power::STAYS) {
-            Ok(after) => tally.count(call, after.reply),
+            Ok(after) => tally.count(call.name(), after.reply),
             Err(why) => panic!("{call:?} after {changes:?}:\n{why}"),
         }
     }

@@ -349,9 +349,9 @@ pub fn check_random_list(blocks: usize, seed: u64, longest: usize) -> Tally {
     let mut events = random_list(seed, blocks, longest);
     match run(blocks, seed, &events) {
         Ok(tally) => tally,
-        Err((at, _)) => {
+        Err((at, why)) => {
             events.truncate(at + 1);
-            let (events, why) = shrink(blocks, seed, events);
+            let (events, why) = shrink(blocks, seed, events, why);
             let list: Vec<String> = events.iter().map(Event::to_string).collect();
             panic!("{blocks} blocks, seed {seed}, call {at}:\n{why}after\n{}", list.join("\n"));
         }
@@ -367,11 +367,16 @@ fn run(blocks: usize, seed: u64, events: &[Event]) -> Result<Tally, (usize, Stri
     Ok(run.tally)
 }
 
-/// Drops events that are not needed for a difference. Gives the rest, and the difference.
-fn shrink(blocks: usize, seed: u64, mut events: Vec<Event>) -> (Vec<Event>, String) {
-    let mut why = String::new();
+/// Drops events until each that is left is needed for a difference. Gives them, and the difference.
+fn shrink(
+    blocks: usize,
+    seed: u64,
+    mut events: Vec<Event>,
+    mut why: String,
+) -> (Vec<Event>, String) {
     let mut chunk = events.len();
-    while chunk > 0 {
+    loop {
+        let before = events.len();
         let mut at = 0;
         while at < events.len() {
             let mut fewer = events.clone();
@@ -385,7 +390,10 @@ fn shrink(blocks: usize, seed: u64, mut events: Vec<Event>) -> (Vec<Event>, Stri
                 Ok(_) => at += chunk,
             }
         }
-        chunk /= 2;
+        if chunk > 1 {
+            chunk /= 2;
+        } else if events.len() == before {
+            return (events, why);
+        }
     }
-    (events, why)
 }

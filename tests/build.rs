@@ -3,7 +3,7 @@
 use std::path::Path;
 
 /// The crates linked as static libraries; `.ci/run` has the same list.
-const LIBRARIES: [&str; 1] = ["harness"];
+const LIBRARIES: [&str; 2] = ["harness", "recorder"];
 
 fn main() {
     let folder = Path::new(env!("CARGO_MANIFEST_DIR")).join("../target/staticlib");

@@ -3,6 +3,8 @@
 //! A lent slice goes over as a pointer and a length, and the reply comes back as a number.
 //! Nothing compares these declarations with the Rattle source: a change there is a change here.
 
+pub mod recorder;
+
 /// The reply of a call that did its work.
 pub const DONE: u32 = 0;
 

@@ -1,18 +1,25 @@
 //! What the tests and benchmarks of the proved libraries share.
 //!
 //! - [`ffi`]: the functions of the static libraries, as safe Rust functions.
+//! - [`recorder`]: the store with plain types, over the library `recorder`.
+//! - [`side_by_side`]: the same call by library and second implementation, and their first difference.
 //! - [`model`]: second implementations, written from the public documents alone.
 //! - [`random_lists`]: lists of calls of the store.
+//! - [`store_lists`]: lists of calls on library and second implementation side by side.
 //! - [`rng`]: a generator of test inputs that gives the same ones in every run.
 //! - [`guarded`]: buffers that show a write outside the part that was lent.
 //! - [`hex`]: bytes to and from hexadecimal text.
-//! - [`shared_library`] and [`timing`]: libraries to compare speed with, and the clock.
+//! - [`shared_library`], [`databases`] and [`timing`]: what speed is compared with, and the clock.
 
+pub mod databases;
 pub mod ffi;
 pub mod guarded;
 pub mod hex;
 pub mod model;
 pub mod random_lists;
+pub mod recorder;
 pub mod rng;
 pub mod shared_library;
+pub mod side_by_side;
+pub mod store_lists;
 pub mod timing;

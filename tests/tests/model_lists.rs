@@ -13,17 +13,6 @@ use std::ops::Range;
 /// How often each call got each reply.
 type Tally = BTreeMap<(&'static str, u32), usize>;
 
-fn name(call: Call) -> &'static str {
-    match call {
-        Call::Mount { .. } => "mount",
-        Call::Write { .. } => "write",
-        Call::Read { .. } => "read",
-        Call::CutOff { .. } => "cut-off",
-        Call::Commit { .. } => "commit",
-        Call::Wipe { .. } => "wipe",
-    }
-}
-
 /// A list that breaks, for reading.
 fn report(blocks: usize, seed: u64, broken: &str, events: &[Event]) -> String {
     let list: Vec<String> = events.iter().map(Event::to_string).collect();
@@ -67,7 +56,7 @@ fn check_random_list(
         let event = list.next(state.on);
         events.push(event);
         match state.step(&event) {
-            Ok(reply) => *tally.entry((name(event.call), reply.unwrap_or(0))).or_default() += 1,
+            Ok(reply) => *tally.entry((event.call.name(), reply.unwrap_or(0))).or_default() += 1,
             Err(broken) => return Err((broken, events)),
         }
     }

@@ -86,6 +86,18 @@ impl Data {
 impl Call {
     /// A mount with a scratch of the right length.
     pub const MOUNT: Call = Call::Mount { scratch: SCRATCH };
+
+    /// The call's name.
+    pub fn name(self) -> &'static str {
+        match self {
+            Call::Mount { .. } => "mount",
+            Call::Write { .. } => "write",
+            Call::Read { .. } => "read",
+            Call::CutOff { .. } => "cut-off",
+            Call::Commit { .. } => "commit",
+            Call::Wipe { .. } => "wipe",
+        }
+    }
 }
 
 /// By how much the length of what is lent for a call differs from the right one.

@@ -1,0 +1,127 @@
+// The store for C: each call over numbers and lent slices, with its reply as a number.
+use store::Answer;
+use store::Numbers;
+use store::format;
+use store::read;
+use store::replies;
+use store::write;
+ghost use mathlib.Core.Path.{_≡_};
+ghost use mathlib.Core.List.{[]};
+ghost use Rattle.store.specs.Reply.{numberOf};
+ghost use Rattle.store.specs.Record.{recordOf};
+ghost use Rattle.store.specs.Outcome.{left, leftWhole};
+ghost use Rattle.store.specs.Format.{formatOf};
+ghost use Rattle.store.specs.Write.{writeOf};
+ghost use Rattle.store.specs.Read.{readOf};
+ghost use Rattle.recorder.specs.Face.{numbersOf, fiveOf, faced, face};
+
+// The record's numbers, from an array: next sequence, next epoch, key block 0, key block 1, commit block.
+fn numbers_of(five: &[u32; 5]) -> Numbers
+    ensures { λ r. ⌜ r ≡ numbersOf (now (five .entry)) ⌝ }
+{
+    Numbers {
+        sequence: five[0],
+        epoch: five[1],
+        keys0: five[2],
+        keys1: five[3],
+        commit: five[4],
+    }
+}
+
+// What a caller gets of an answer: the record's numbers in its array, and the reply's number.
+fn hand_over(answer: Answer, five: &mut [u32; 5]) -> u32
+    ensures { λ r. ⌜ (r ≡ numberOf (answer .reply)) × (now (five .exit) ≡ fiveOf (answer .numbers)) ⌝ }
+{
+    let n = answer.numbers;
+    *five = [n.sequence, n.epoch, n.keys0, n.keys1, n.commit];
+    let reply = answer.reply;
+    replies::number(reply)
+}
+
+// Formats the image with noise and makes the record of it. Where it is refused the numbers become 0.
+#[no_mangle]
+pub extern "C" fn johvimaru_format(
+    image: &mut [u8],
+    map: &mut [u16],
+    letters: &mut [u8],
+    numbers: &mut [u32; 5],
+    noise: &[u8],
+) -> u32
+    ensures { λ r. ⌜ faced r (now (image .exit)) (now (map .exit)) (now (letters .exit)) (now (numbers .exit)) [] ≡ face (leftWhole (formatOf (now (image .entry)) (now (map .entry)) (now (letters .entry)) (now (noise .entry))) (now (image .entry))) ⌝ }
+{
+    let answer = format::format(image, map, letters, noise);
+    hand_over(answer, numbers)
+}
+
+// A format of which the power lasts for n steps and the first k bytes of the next.
+#[no_mangle]
+pub extern "C" fn johvimaru_format_cut(
+    image: &mut [u8],
+    map: &mut [u16],
+    letters: &mut [u8],
+    numbers: &mut [u32; 5],
+    noise: &[u8],
+    n: u64,
+    k: usize,
+) -> u32
+    ensures { λ r. ⌜ faced r (now (image .exit)) (now (map .exit)) (now (letters .exit)) (now (numbers .exit)) [] ≡ face (left n k (formatOf (now (image .entry)) (now (map .entry)) (now (letters .entry)) (now (noise .entry))) (now (image .entry))) ⌝ }
+{
+    let answer = format::format_cut(image, map, letters, noise, n, k);
+    hand_over(answer, numbers)
+}
+
+// Writes a payload at a file's offset.
+#[no_mangle]
+pub extern "C" fn johvimaru_write(
+    image: &mut [u8],
+    map: &mut [u16],
+    letters: &mut [u8],
+    numbers: &mut [u32; 5],
+    file: u32,
+    offset: u32,
+    payload: &[u8],
+) -> u32
+    ensures { λ r. ⌜ faced r (now (image .exit)) (now (map .exit)) (now (letters .exit)) (now (numbers .exit)) [] ≡ face (leftWhole (writeOf (now (image .entry)) (recordOf (now (map .entry)) (now (letters .entry)) (numbersOf (now (numbers .entry)))) file offset (now (payload .entry))) (now (image .entry))) ⌝ }
+{
+    let before = numbers_of(numbers);
+    let answer = write::write(image, map, letters, before, file, offset, payload);
+    hand_over(answer, numbers)
+}
+
+// A write of which the power lasts for n steps and the first k bytes of the next.
+#[no_mangle]
+pub extern "C" fn johvimaru_write_cut(
+    image: &mut [u8],
+    map: &mut [u16],
+    letters: &mut [u8],
+    numbers: &mut [u32; 5],
+    file: u32,
+    offset: u32,
+    payload: &[u8],
+    n: u64,
+    k: usize,
+) -> u32
+    ensures { λ r. ⌜ faced r (now (image .exit)) (now (map .exit)) (now (letters .exit)) (now (numbers .exit)) [] ≡ face (left n k (writeOf (now (image .entry)) (recordOf (now (map .entry)) (now (letters .entry)) (numbersOf (now (numbers .entry)))) file offset (now (payload .entry))) (now (image .entry))) ⌝ }
+{
+    let before = numbers_of(numbers);
+    let answer = write::write_cut(image, map, letters, before, file, offset, payload, n, k);
+    hand_over(answer, numbers)
+}
+
+// Reads the payload at a file's offset into the output.
+#[no_mangle]
+pub extern "C" fn johvimaru_read(
+    image: &[u8],
+    map: &[u16],
+    letters: &[u8],
+    numbers: &[u32; 5],
+    file: u32,
+    offset: u32,
+    output: &mut [u8],
+) -> u32
+    ensures { λ r. ⌜ faced r (now (image .entry)) (now (map .entry)) (now (letters .entry)) (now (numbers .entry)) (now (output .exit)) ≡ face (leftWhole (readOf (now (image .entry)) (recordOf (now (map .entry)) (now (letters .entry)) (numbersOf (now (numbers .entry)))) file offset (now (output .entry))) (now (image .entry))) ⌝ }
+{
+    let before = numbers_of(numbers);
+    let reply = read::read(image, map, letters, before, file, offset, output);
+    replies::number(reply)
+}

@@ -1,0 +1,110 @@
+//! The C header: a program that uses it, as C and as C++, and its constants.
+
+use johvimaru_tests::model::files::{FILES, PLACES};
+use johvimaru_tests::model::image::{BLOCK, SIZES};
+use johvimaru_tests::model::keys::NOISE;
+use johvimaru_tests::model::pages::{PAGE, PAYLOAD};
+use johvimaru_tests::model::record::{LETTERS, MAP, NONE};
+use johvimaru_tests::recorder::Reply;
+use std::path::{Path, PathBuf};
+use std::process::Command;
+
+/// A path in the repository.
+fn path(name: &str) -> PathBuf {
+    Path::new(env!("CARGO_MANIFEST_DIR")).join("..").join(name)
+}
+
+/// Builds a program of tests/c with a compiler and these words, runs it, and gives what it prints.
+fn run(name: &str, compiler: &str, words: &[&str]) -> String {
+    let program = Path::new(env!("CARGO_TARGET_TMPDIR")).join(format!("{name}-{compiler}"));
+    let built = Command::new(compiler)
+        .args(words)
+        .args(["-Wall", "-Wextra", "-Wpedantic", "-Werror", "-O1", "-I"])
+        .arg(path("include"))
+        .arg(path("tests/c").join(name).with_extension("c"))
+        .args(["-x", "none"])
+        .arg(path("target/staticlib/librecorder.a"))
+        .arg("-o")
+        .arg(&program)
+        .output()
+        .unwrap_or_else(|error| panic!("{compiler} cannot be run: {error}"));
+    assert!(built.status.success(), "{compiler}: {}", String::from_utf8_lossy(&built.stderr));
+    let run = Command::new(&program).output().expect("the program was built");
+    let printed = String::from_utf8(run.stdout).expect("the program prints text");
+    assert!(run.status.success(), "{name} ended with {}: {printed}", run.status);
+    printed
+}
+
+/// What the example must print.
+fn example_text() -> String {
+    std::fs::read_to_string(path("tests/c/example.txt")).expect("the text is there")
+}
+
+#[test]
+fn the_example_in_c() {
+    assert_eq!(run("example", "cc", &["-std=c11", "-x", "c"]), example_text());
+}
+
+#[test]
+fn the_example_in_cpp() {
+    assert_eq!(run("example", "c++", &["-std=c++17", "-x", "c++"]), example_text());
+}
+
+#[test]
+fn the_stack_that_calls_take() {
+    assert_eq!(run("stack", "cc", &["-std=c11", "-x", "c"]), "");
+}
+
+/// The value that the header defines for a name.
+fn defined(header: &str, name: &str) -> u32 {
+    let define = format!("#define JOHVIMARU_{name} ");
+    let mut values = header.lines().filter_map(|line| line.strip_prefix(define.as_str()));
+    let value = values.next().unwrap_or_else(|| panic!("the header has no {name}"));
+    value.parse().unwrap_or_else(|_| panic!("{name} is {value:?}"))
+}
+
+#[test]
+fn the_constants() {
+    let header = std::fs::read_to_string(path("include/johvimaru.h")).expect("the header is there");
+    let sizes = [
+        ("PAGE_SIZE", PAGE),
+        ("BLOCK_SIZE", BLOCK),
+        ("MIN_BLOCKS", *SIZES.start()),
+        ("MAX_BLOCKS", *SIZES.end()),
+        ("FILES", FILES),
+        ("PLACES", PLACES),
+        ("PAYLOAD_SIZE", PAYLOAD),
+        ("MAP_LENGTH", MAP),
+        ("LETTERS_LENGTH", LETTERS),
+        ("NUMBERS_LENGTH", 5),
+        ("NOISE_SIZE", NOISE),
+        ("NONE", NONE.into()),
+    ];
+    for (name, size) in sizes {
+        assert_eq!(defined(&header, name) as usize, size, "{name}");
+    }
+    let indices = ["NEXT_SEQUENCE", "NEXT_EPOCH", "KEYS_0", "KEYS_1", "COMMIT"];
+    assert_eq!(indices.map(|name| defined(&header, name)), [0, 1, 2, 3, 4]);
+    let replies = [
+        ("DONE", Reply::Done),
+        ("REFUSED_IMAGE", Reply::ImageSize),
+        ("REFUSED_LENGTHS", Reply::BufferLength),
+        ("REFUSED_NOISE", Reply::NoiseLength),
+        ("REFUSED_FILE", Reply::NoSuchFile),
+        ("REFUSED_OFFSET", Reply::OffsetOutside),
+        ("REFUSED_PAYLOAD", Reply::PayloadLength),
+        ("REFUSED_RECORD", Reply::RecordUnfit),
+        ("NOTHING_THERE", Reply::NothingThere),
+        ("NO_FREE_KEY", Reply::NoFreeKey),
+        ("NO_ROOM", Reply::NoRoom),
+        ("NUMBERS_SPENT", Reply::NumbersSpent),
+        ("POWER_CUT", Reply::PowerCut),
+    ];
+    for (name, reply) in replies {
+        assert_eq!(defined(&header, name), reply.number(), "{name}");
+    }
+    // The others are the guard against a second inclusion and the size of the stack.
+    let all = sizes.len() + indices.len() + replies.len() + 2;
+    let defines = header.lines().filter(|line| line.starts_with("#define JOHVIMARU_")).count();
+    assert_eq!(defines, all, "a constant of the header is not looked at here");
+}

@@ -1,0 +1,245 @@
+//! Format, write and read of the library beside the second implementation: every cut, the order of the
+//! tests, and wrong lengths.
+
+use johvimaru_tests::guarded::Guarded;
+use johvimaru_tests::model::calls::{CUT, DONE};
+use johvimaru_tests::model::files::COUNTS;
+use johvimaru_tests::model::image::{Power, BLOCK};
+use johvimaru_tests::model::keys::NOISE;
+use johvimaru_tests::model::list::{Data, Lent};
+use johvimaru_tests::model::pages::{LAST, PAGE, PAYLOAD};
+use johvimaru_tests::model::record::{Record, LETTERS, MAP};
+use johvimaru_tests::model::store::Store;
+use johvimaru_tests::recorder;
+use johvimaru_tests::rng::Rng;
+use johvimaru_tests::side_by_side::{compare_lent, Both, Call, Tally};
+
+const FORMAT: Call = Call::Format { noise: Data { length: NOISE, seed: 1_000 } };
+
+fn write(file: u32, offset: u32, seed: u64) -> Call {
+    Call::Write { file, offset, payload: Data::payload(seed) }
+}
+
+fn read(file: u32, offset: u32) -> Call {
+    Call::Read { file, offset, output: PAYLOAD }
+}
+
+// ---- Cuts
+
+/// Stores that a write finds: new, with a node there, at the end of a block, and after a torn page.
+fn states() -> Vec<Both> {
+    let mut states = vec![Both::formatted(8)];
+    let mut store = Both::formatted(9);
+    store.done(&[write(0, 0, 1), write(1, 31, 2)]);
+    states.push(store.clone());
+    for seed in 0..13 {
+        store.done(&[write(0, 0, seed)]);
+    }
+    states.push(store.clone());
+    assert_eq!(store.cut(write(2, 2, 20), 0, 100), CUT);
+    store.mount();
+    states.push(store);
+    states
+}
+
+#[test]
+fn every_cut_of_a_write() {
+    for store in states() {
+        for bytes in (0..=PAGE + 2).chain([usize::MAX]) {
+            let mut cut = store.clone();
+            assert_eq!(cut.cut(write(0, 0, 9), 0, bytes), CUT);
+            cut.mount();
+            let is_in = cut.content(0, 0) == Ok(Data::payload(9).bytes());
+            assert_eq!(is_in, bytes >= PAGE, "cut at {bytes}");
+        }
+        let mut plain = store.clone();
+        plain.done(&[write(0, 0, 9)]);
+        for steps in [1, 2, 1_000, usize::MAX - 1] {
+            let mut whole = store.clone();
+            assert_eq!(whole.cut(write(0, 0, 9), steps, 0), DONE);
+            assert!(whole == plain, "a write with power for {steps} steps");
+        }
+    }
+}
+
+#[test]
+fn every_cut_of_a_format() {
+    let bytes = [0, 1, 29, 30, 255, 256, 257, 4_095, 4_096, usize::MAX];
+    for blocks in [8, 9, 16] {
+        let image = Rng::new(7).bytes(BLOCK * blocks);
+        let store = Both(Store { image, record: Record::blank() });
+        for steps in 0..blocks + 44 {
+            for bytes in bytes {
+                let reply = store.clone().cut(FORMAT, steps, bytes);
+                let is_cut = steps < blocks + 42;
+                assert_eq!(reply, if is_cut { CUT } else { DONE }, "cut at {steps}, {bytes}");
+            }
+        }
+    }
+}
+
+#[test]
+fn cuts_of_a_large_format() {
+    let store = Both(Store { image: vec![0; BLOCK * 256], record: Record::blank() });
+    for steps in [0, 100, 255, 256, 271, 272, 287, 288, 297, 298, usize::MAX - 1] {
+        let reply = store.clone().cut(FORMAT, steps, 100);
+        assert_eq!(reply, if steps < 298 { CUT } else { DONE }, "cut at {steps}");
+    }
+}
+
+// ---- The order of the tests
+
+/// The faults of a set, by its bits.
+struct Faults(u32);
+
+impl Faults {
+    /// Whether a fault is in the set.
+    fn has(&self, bit: u32) -> bool {
+        self.0 & (1 << bit) != 0
+    }
+
+    fn choose<T>(&self, bit: u32, wrong: T, right: T) -> T {
+        if self.has(bit) {
+            wrong
+        } else {
+            right
+        }
+    }
+}
+
+/// A full store of 8 blocks, and one with room.
+fn full_and_open() -> (Store, Store) {
+    let mut store = Both::formatted(8);
+    for seed in 0..60 {
+        store.done(&[write(0, 0, seed)]);
+    }
+    let open = store.clone();
+    for seed in 0..4 {
+        store.done(&[write(0, 0, seed)]);
+    }
+    (store.0, open.0)
+}
+
+/// Every set of faults of a write or a read.
+#[test]
+fn the_first_fault_decides() {
+    let (full, open) = full_and_open();
+    let mut tally = Tally::default();
+    for faults in (0..1 << 10).map(Faults) {
+        let mut store = faults.choose(9, &full, &open).clone();
+        if faults.has(8) {
+            store.record.letters.iter_mut().filter(|l| **l == b'f').for_each(|l| *l = b'd');
+        }
+        if faults.has(7) {
+            store.record.numbers.sequence = LAST + 1;
+        }
+        if faults.has(6) {
+            store.record.numbers.commit += 1;
+        }
+        let length = faults.choose(5, PAYLOAD - 1, PAYLOAD);
+        let file = faults.choose(3, 14, 1);
+        let offset = faults.choose(4, 32, 0);
+        let lent = Lent {
+            image: faults.choose(0, 1, 0),
+            map: faults.choose(1, -1, 0),
+            letters: faults.choose(2, 1, 0),
+        };
+        let payload = Data { length, seed: 3 };
+        for call in
+            [Call::Write { file, offset, payload }, Call::Read { file, offset, output: length }]
+        {
+            match compare_lent(&store, call, Power::STAYS, lent) {
+                Ok(reply) => tally.count(call.name(), reply),
+                Err(why) => panic!("{call:?}, faults {:b}:\n{why}", faults.0),
+            }
+        }
+    }
+    tally.require("write", &[DONE, 1, 2, 4, 5, 6, 7, 9, 10, 11]);
+    tally.require("read", &[1, 2, 4, 5, 6, 7, 8]);
+}
+
+/// Every set of faults of a format.
+#[test]
+fn the_first_fault_of_a_format_decides() {
+    let Both(store) = Both::formatted(8);
+    for faults in (0..1 << 4).map(Faults) {
+        let noise = Data { length: faults.choose(3, NOISE + 16, NOISE), seed: 5 };
+        let lent = Lent {
+            image: faults.choose(0, -1, 0),
+            map: faults.choose(1, 1, 0),
+            letters: faults.choose(2, -1, 0),
+        };
+        let reply = compare_lent(&store, Call::Format { noise }, Power::STAYS, lent);
+        let expected = [(1, 1), (2, 2), (4, 2), (8, 3)];
+        let first = expected.into_iter().find(|(bit, _)| faults.0 & bit != 0);
+        assert_eq!(reply, Ok(first.map_or(DONE, |(_, reply)| reply)), "faults {:b}", faults.0);
+    }
+}
+
+// ---- Lengths and arguments
+
+#[test]
+fn lengths_of_every_buffer() {
+    let mut store = Both::formatted(8);
+    store.done(&[write(0, 0, 1)]);
+    let [image, map, letters] = [BLOCK * 8, MAP, LETTERS].map(|length| length as isize);
+    let mut calls = Vec::new();
+    for length in (0..=PAYLOAD + 32).chain([PAGE, 448, 4_096]) {
+        calls.push(Call::Write { file: 0, offset: 1, payload: Data { length, seed: 4 } });
+        calls.push(Call::Read { file: 0, offset: 0, output: length });
+    }
+    for length in [0, 1, 16, 224, NOISE - 16, NOISE - 1, NOISE, NOISE + 1, 2 * NOISE] {
+        calls.push(Call::Format { noise: Data { length, seed: 4 } });
+    }
+    for call in calls {
+        store.clone().call(call);
+    }
+    for by in [-image, -4_096, -256, -1, 1, 256, 4_096, 8 * 4_096] {
+        let by_map = by.max(-map);
+        let by_letters = by.max(-letters);
+        let lents = [
+            Lent { image: by, ..Lent::RIGHT },
+            Lent { map: by_map, ..Lent::RIGHT },
+            Lent { letters: by_letters, ..Lent::RIGHT },
+        ];
+        for lent in lents {
+            for call in [FORMAT, write(0, 1, 5), read(0, 0)] {
+                let reply = compare_lent(&store.0, call, Power::STAYS, lent);
+                reply.unwrap_or_else(|why| panic!("{call:?}, {lent:?}:\n{why}"));
+            }
+        }
+    }
+}
+
+#[test]
+fn every_file_and_offset() {
+    let mut store = Both::formatted(16);
+    for (file, count) in (0..).zip(COUNTS) {
+        store.done(&[write(file, count as u32 - 1, file.into())]);
+    }
+    for file in (0..16).chain([255, 256, 1 << 16, u32::MAX]) {
+        for offset in (0..40).chain([255, 256, 1 << 16, u32::MAX - 32, u32::MAX]) {
+            store.clone().call(write(file, offset, 1));
+            store.clone().call(read(file, offset));
+        }
+    }
+}
+
+/// The library writes nothing outside what is lent, wherever that begins.
+#[test]
+fn nothing_else_is_written() {
+    for shift in 0..9 {
+        let noise = Data::noise(3).bytes();
+        let mut image = Guarded::new(shift, &vec![0; BLOCK * 8]);
+        let mut output = Guarded::new(shift, &[0; PAYLOAD]);
+        let mut record = recorder::Record::blank();
+        let data = Data::payload(8).bytes();
+        let reply = recorder::format(image.lent(), &mut record, &noise);
+        assert_eq!(reply, recorder::Reply::Done);
+        let reply = recorder::write(image.lent(), &mut record, 13, 7, &data);
+        assert_eq!(reply, recorder::Reply::Done);
+        let reply = recorder::read(image.content(), &record, 13, 7, output.lent());
+        assert_eq!(reply, recorder::Reply::Done);
+        assert_eq!(output.content(), data);
+    }
+}

@@ -10,6 +10,7 @@
 --   FormLaws   page forms: the form of a page that was programmed whole or in part
 pub mod Slices
 pub mod Column
+pub mod ColumnReading
 pub mod Plans
 pub mod Ranges
 pub mod HeaderLaws

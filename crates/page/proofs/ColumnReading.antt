@@ -9,7 +9,7 @@ use mathlib.Core.Bool.{Bool, true, false, cond, not, _&&_, _||_}
 use lib.ListN.{length, getD, drop}
 use lib.Seq.{drop-cons}
 use lib.Dec.{eqb, leb, ltb}
-use borrow.Author.Tests.{eqb-true, eqb-false, leb-true, leb-false, le-leb, eq-eqb, ne-eqb, le-ltb, lt-ltb}
+use borrow.Author.Tests.{eqb-true, ltb-true, leb-true, leb-false, le-leb, eq-eqb, ne-eqb, le-ltb, lt-ltb}
 use Rattle.base.specs.Each.{same}
 use Rattle.base.proofs.Choice.{and-true, and-intro, true-false}
 use Rattle.base.proofs.Eachs.{same-false}
@@ -49,32 +49,20 @@ digit-is d h =
 column-some : (m : ℕ) → (m ≡ 0 → ⊥) → column m ≡ zeroDigit + m % 10
 column-some m h = rw (ne-eqb m 0 h)
 
--- the byte b is the column of m and itself: a space where m is 0, or a digit that is no leading zero
-pub column-test : (m b : ℕ) → (eqb b space && eqb m 0) || (isDigit b && (not (eqb m 0) || not (eqb b zeroDigit))) ≡ eqb (column (m * 10 + digit b)) b
-column-test m b = go (isDigit b) (eqb m 0) (eqb b zeroDigit) (eqb b space) refl refl refl refl
+-- a digit that is no leading zero is the column of m and itself
+pub column-digit : (m b : ℕ) → isDigit b ≡ true → (m ≡ 0 → b ≡ zeroDigit → ⊥) → column (m * 10 + digit b) ≡ b
+column-digit m b t k =
+    column-some (m * 10 + digit b) (λ e. k (omega arith) (omega (arith, digit-byte b t))) ∙ omega (arith, digit-lt b, digit-byte b t)
+
+-- any other byte is not, unless it is a space and m is 0
+pub column-other : (m b : ℕ) → isDigit b ≡ false → (m ≡ 0 → b ≡ space → ⊥) → column (m * 10 + digit b) ≡ b → ⊥
+column-other m b t k e = go (eqb (m * 10 + digit b) 0) refl e
   where
-    fits : isDigit b ≡ true → (m * 10 + digit b ≡ 0 → ⊥) → true ≡ eqb (column (m * 10 + digit b)) b
-    fits t k = sym (eq-eqb (column (m * 10 + digit b)) b (column-some (m * 10 + digit b) k ∙ omega (arith, digit-lt b, digit-byte b t)))
-
-    differs : isDigit b ≡ false → (m ≡ 0 → ⊥) → false ≡ eqb (column (m * 10 + digit b)) b
-    differs t k =
-        let x = m * 10 + digit b in
-        sym
-        (ne-eqb (column x) b (λ e.
-        let z : zeroDigit ≡ b = omega (arith, column-some x (λ j. k (omega arith)), digit-none b t) in
-        true-false (subst (λ (j : ℕ). isDigit j ≡ true) z refl) t))
-
-    go : (d z o s : Bool) → isDigit b ≡ d → eqb m 0 ≡ z → eqb b zeroDigit ≡ o → eqb b space ≡ s → (s && z) || (d && (not z || not o)) ≡ eqb (column (m * 10 + digit b)) b
-    go true true true true p q r u = absurd (omega (arith, eqb-true b zeroDigit r, eqb-true b space u))
-    go true true true false p q r u = rw (eqb-true m 0 q, eqb-true b zeroDigit r)
-    go true true false true p q r u = fits p (λ k. eqb-false b zeroDigit r (omega (arith, digit-byte b p)))
-    go true true false false p q r u = fits p (λ k. eqb-false b zeroDigit r (omega (arith, digit-byte b p)))
-    go true false o true p q r u = fits p (λ k. eqb-false m 0 q (omega arith))
-    go true false o false p q r u = fits p (λ k. eqb-false m 0 q (omega arith))
-    go false true o true p q r u = rw (digit-none b p, eqb-true m 0 q, eqb-true b space u)
-    go false true o false p q r u = rw (digit-none b p, eqb-true m 0 q) (sym (ne-eqb space b (λ k. eqb-false b space u (sym k))))
-    go false false o true p q r u = differs p (eqb-false m 0 q)
-    go false false o false p q r u = differs p (eqb-false m 0 q)
+    go : (z : Bool) → eqb (m * 10 + digit b) 0 ≡ z → cond z space (zeroDigit + (m * 10 + digit b) % 10) ≡ b → ⊥
+    go true p q = k (omega (arith, eqb-true (m * 10 + digit b) 0 p)) (sym q)
+    go false p q =
+        let z : zeroDigit ≡ b = omega (arith, digit-none b t) in
+        true-false (subst (λ (j : ℕ). isDigit j ≡ true) z refl) t
 
 -- ---- values
 -- a value after i digits is below 10 ^ i
@@ -125,38 +113,80 @@ column-read (suc k) m t i n b s h g f e =
     ]
 
 -- columns of which i are read and have the value n, and the byte that comes next
-module _ (xs : List ℕ) (i n : ℕ) (h : i < length xs) (f : n < 10 ^ i) (e : columns i n (drop i xs) ≡ xs) where
+module _ (xs : List ℕ) (i n : ℕ) (h : i < length xs) (e : columns i n (drop i xs) ≡ xs) where
   with-next : columns i n (getD xs i 0 ∷ drop (suc i) xs) ≡ xs
   with-next = sym (ap (columns i n) (drop-cons xs i 0 h)) ∙ e
 
   -- it is a column: one more is read
-  pub read-next : column (n * 10 + digit (getD xs i 0)) ≡ getD xs i 0 → columns (suc i) (n * 10 + digit (getD xs i 0)) (drop (suc i) xs) ≡ xs
+  pub read-next : (b : ℕ) → getD xs i 0 ≡ b → column (n * 10 + digit b) ≡ b → columns (suc i) (n * 10 + digit b) (drop (suc i) xs) ≡ xs
   unfolding columns
-  read-next t =
-      let m = n * 10 + digit (getD xs i 0) in
-      ap (λ (k : ℕ). columns i k (column m ∷ drop (suc i) xs)) (omega (arith, digit-lt (getD xs i 0))) ∙ ap (λ (c : ℕ). columns i n (c ∷ drop (suc i) xs)) t ∙ with-next
+  read-next b g t =
+      ap (λ (k : ℕ). columns i k (column (n * 10 + digit b) ∷ drop (suc i) xs)) (omega (arith, digit-lt b)) ∙ ap (λ (c : ℕ). columns i n (c ∷ drop (suc i) xs)) (t ∙ sym g) ∙ with-next
 
   -- it is none: no number
-  pub misspelt-column : suc i < length xs → (column (n * 10 + digit (getD xs i 0)) ≡ getD xs i 0 → ⊥) → numberIn xs ≡ Misspelt
+  pub misspelt-column : (b : ℕ) → getD xs i 0 ≡ b → n < 10 ^ i → suc i < length xs → (column (n * 10 + digit b) ≡ b → ⊥) → numberIn xs ≡ Misspelt
   unfolding numberIn spell
-  misspelt-column l d =
+  misspelt-column b g f l d =
       let v = valueAfter 0 xs in
       let p : v < 10 ^ (length xs - 1) * 10 = rw (← pow-suc) (subst (λ (k : ℕ). v < 10 ^ k) (omega arith) (value-lt xs 0 0 (omega arith))) in
       let t = (zeroDigit + v % 10) ∷ [] in
-      rw (same-false (columns (length xs - 1) (v / 10) t) xs (λ q. d (column-read (length xs - 1) (v / 10) t i n (getD xs i 0) (drop (suc i) xs) (omega arith) (omega arith) f (with-next ∙ sym q))))
+      let q : columns i n (b ∷ drop (suc i) xs) ≡ xs = rw g at with-next in
+      rw (same-false (columns (length xs - 1) (v / 10) t) xs (λ r. d (column-read (length xs - 1) (v / 10) t i n b (drop (suc i) xs) (omega arith) (omega arith) f (q ∙ sym r))))
+
+-- the first i columns are those of n; where n is still 0, the next byte is neither a space nor a leading zero
+pub record Read (xs : List ℕ) (i n : ℕ) : Type 0 where
+  pub small : n < 10 ^ i
+  pub spelt : columns i n (drop i xs) ≡ xs
+  pub begins : n ≡ 0 → suc i < length xs → (getD xs i 0 ≡ space → ⊥) × (getD xs i 0 ≡ zeroDigit → ⊥)
+
+one-le-pow : (i : ℕ) → 0 < 10 ^ i
+one-le-pow i = omega (arith, pow-le-pow-right {n = 10} (omega arith) {i = 0} {j = i} (omega arith))
+
+-- after i spaces, whether a leading zero comes
+module _ (xs : List ℕ) (i : ℕ) (h : i < length xs) (e : columns i 0 (drop i xs) ≡ xs) where
+  pub read-first : (suc i < length xs → getD xs i 0 ≡ space → ⊥) → ltb i (length xs - 1) && eqb (getD xs i 0) zeroDigit ≡ false → Read xs i 0
+  read-first s t =
+      record {
+        small = one-le-pow i;
+        spelt = e;
+        begins = λ _ l. (s l, λ g. true-false (and-intro _ _ (lt-ltb i (length xs - 1) (omega arith)) (eq-eqb (getD xs i 0) zeroDigit g)) t);
+      }
+
+  pub misspelt-first : ltb i (length xs - 1) && eqb (getD xs i 0) zeroDigit ≡ true → numberIn xs ≡ Misspelt
+  misspelt-first t =
+      let b = and-true (ltb i (length xs - 1)) (eqb (getD xs i 0) zeroDigit) t in
+      let l : i < length xs - 1 = ltb-true i (length xs - 1) (b .0) in
+      misspelt-column xs i 0 h e zeroDigit (eqb-true (getD xs i 0) zeroDigit (b .1)) (one-le-pow i) (omega arith) (λ q. omega arith)
+
+-- after i columns, whether a digit comes
+module _ (xs : List ℕ) (i n : ℕ) (l : suc i < length xs) (r : Read xs i n) where
+  pub read-digit : isDigit (getD xs i 0) ≡ true → Read xs (suc i) (n * 10 + digit (getD xs i 0))
+  read-digit t =
+      let b = getD xs i 0 in
+      let c = column-digit n b t (λ z. r .begins z l .1) in
+      record {
+        small = rw pow-suc (omega (arith, digit-lt b, r .small));
+        spelt = read-next xs i n (omega arith) (r .spelt) b refl c;
+        begins = λ z. absurd (r .begins (omega arith) l .1 (omega (arith, digit-byte b t)));
+      }
+
+  pub misspelt-other : isDigit (getD xs i 0) ≡ false → numberIn xs ≡ Misspelt
+  misspelt-other t =
+      let b = getD xs i 0 in
+      misspelt-column xs i n (omega arith) (r .spelt) b refl (r .small) l (column-other n b t (λ z. r .begins z l .0))
 
 -- the last column
 module _ (xs : List ℕ) (some : 1 ≤ length xs) where
   -- it is a digit: the number is read
-  pub read-last : (n : ℕ) → n < 10 ^ (length xs - 1) → columns (length xs - 1) n (drop (length xs - 1) xs) ≡ xs → isDigit (getD xs (length xs - 1) 0) ≡ true → numberIn xs ≡ Is (n * 10 + digit (getD xs (length xs - 1) 0))
+  pub read-last : (n : ℕ) → Read xs (length xs - 1) n → isDigit (getD xs (length xs - 1) 0) ≡ true → numberIn xs ≡ Is (n * 10 + digit (getD xs (length xs - 1) 0))
   unfolding spell
-  read-last n f e t =
+  read-last n r t =
       let k = length xs - 1 in
       let b = getD xs k 0 in
       let m = n * 10 + digit b in
       let s : spell (length xs) m ≡ xs =
-      ap (λ (j : ℕ). columns k j ((zeroDigit + m % 10) ∷ [])) (omega (arith, digit-lt b)) ∙ ap (λ (c : ℕ). columns k n (c ∷ [])) (omega (arith, digit-lt b, digit-byte b t)) ∙ sym (ap (columns k n) (last-column xs (length xs) m refl some)) ∙ e in
-      let p : m < 10 ^ k * 10 = omega (arith, digit-lt b) in
+      ap (λ (j : ℕ). columns k j ((zeroDigit + m % 10) ∷ [])) (omega (arith, digit-lt b)) ∙ ap (λ (c : ℕ). columns k n (c ∷ [])) (omega (arith, digit-lt b, digit-byte b t)) ∙ sym (ap (columns k n) (last-column xs (length xs) m refl some)) ∙ r .spelt in
+      let p : m < 10 ^ k * 10 = omega (arith, digit-lt b, r .small) in
       ap numberIn (sym s) ∙ number-spell (length xs) m some (subst (λ (j : ℕ). m < 10 ^ j) (omega arith) (rw (← pow-suc) at p))
 
   -- it is none: no number

@@ -2,11 +2,12 @@
 use crate::Number;
 ghost use mathlib.Core.Path.{_≡_};
 ghost use mathlib.Core.Bool.{_&&_};
-ghost use Prim.Native.Nat.{_+_, _*_, _≤_, _<_};
-ghost use lib.ListN.{length};
-ghost use lib.Dec.{eqb, leb};
+ghost use Prim.Native.Nat.{suc, _+_, _≤_, _<_};
+ghost use lib.ListN.{length, getD, drop};
+ghost use lib.Dec.{leb};
 ghost use Rattle.base.specs.Part.{part, splice};
-ghost use Rattle.page.specs.Column.{zeroDigit, column, spell, digit, numberIn};
+ghost use Rattle.page.specs.Frame.{space};
+ghost use Rattle.page.specs.Column.{zeroDigit, column, columns, spell, digit, numberIn};
 
 const SPACE: u8 = 0x20;
 
@@ -72,24 +73,36 @@ fn is_digit(b: u8) -> bool
     (ZERO <= b) & (b <= NINE)
 }
 
-// Whether b may follow columns of value m, left of the last column: a space where nothing came yet, or a digit that is no
-// leading zero.
-fn is_column(m: u32, b: u8) -> bool
-    ensures { λ r. ⌜ r ≡ eqb (column (m * 10 + digit b)) b ⌝ }
+// How many columns on the left of src are spaces, the last column not counted.
+fn spaces(src: &[u8]) -> usize
+    requires { ⌜ 1 ≤ length (now src) ⌝ }
+    ensures { λ r. ⌜ (r < length (now (src .entry))) × (columns r 0 (drop r (now (src .entry))) ≡ now (src .entry)) × (suc r < length (now (src .entry)) → getD (now (src .entry)) r 0 ≡ space → ⊥) ⌝ }
 {
-    ((b == SPACE) & (m == 0)) | (is_digit(b) & ((m != 0) | (b != ZERO)))
+    let last = src.len() - 1;
+    let mut i = 0;
+    while i < last {
+        if src[i] != SPACE {
+            return i;
+        }
+        i += 1;
+    }
+    last
 }
 
-// The number that the columns of src hold.
+// The number that the columns of src hold: after the spaces a digit that is not 0, unless it is the last, and then digits.
 pub fn get(src: &[u8]) -> Number
     requires { ⌜ (1 ≤ length (now src)) × (length (now src) ≤ 8) ⌝ }
     ensures { λ r. ⌜ r ≡ numberIn (now (src .entry)) ⌝ }
 {
     let last = src.len() - 1;
+    let first = spaces(src);
+    if (first < last) & (src[first] == ZERO) {
+        return Number::Misspelt;
+    }
     let mut n: u32 = 0;
-    let mut i = 0;
+    let mut i = first;
     while i < last {
-        if !is_column(n, src[i]) {
+        if !is_digit(src[i]) {
             return Number::Misspelt;
         }
         n = n * 10 + digit_of(src[i]);

@@ -5,12 +5,11 @@ use native.Mathlib.Nat.{pow-suc, pow-le-pow-right}
 use native.Mathlib.Decide.{decLt}
 use mathlib.Core.Path.{_≡_, refl, sym, ap, subst, _∙_}
 use mathlib.Core.List.{List, [], _∷_}
-use mathlib.Core.Bool.{Bool, true, false, cond, not, _&&_, _||_}
+use mathlib.Core.Bool.{Bool, true, false, cond, _&&_}
 use lib.ListN.{length, getD, drop}
 use lib.Seq.{drop-cons}
 use lib.Dec.{eqb, leb, ltb}
 use borrow.Author.Tests.{eqb-true, ltb-true, leb-true, leb-false, le-leb, eq-eqb, ne-eqb, le-ltb, lt-ltb}
-use Rattle.base.specs.Each.{same}
 use Rattle.base.proofs.Choice.{and-true, and-intro, true-false}
 use Rattle.base.proofs.Eachs.{same-false}
 use Rattle.page.specs.Frame.{space}
@@ -24,7 +23,7 @@ isDigit b = leb zeroDigit b && leb b (zeroDigit + 9)
 
 -- ---- one byte
 -- a digit is the byte of its value
-pub digit-byte : (b : ℕ) → isDigit b ≡ true → zeroDigit + digit b ≡ b
+digit-byte : (b : ℕ) → isDigit b ≡ true → zeroDigit + digit b ≡ b
 digit-byte b h =
     let t = and-true (leb zeroDigit b) (leb b (zeroDigit + 9)) h in
     let low : zeroDigit ≤ b = leb-true zeroDigit b (t .0) in
@@ -50,12 +49,12 @@ column-some : (m : ℕ) → (m ≡ 0 → ⊥) → column m ≡ zeroDigit + m % 1
 column-some m h = rw (ne-eqb m 0 h)
 
 -- a digit that is no leading zero is the column of m and itself
-pub column-digit : (m b : ℕ) → isDigit b ≡ true → (m ≡ 0 → b ≡ zeroDigit → ⊥) → column (m * 10 + digit b) ≡ b
+column-digit : (m b : ℕ) → isDigit b ≡ true → (m ≡ 0 → b ≡ zeroDigit → ⊥) → column (m * 10 + digit b) ≡ b
 column-digit m b t k =
     column-some (m * 10 + digit b) (λ e. k (omega arith) (omega (arith, digit-byte b t))) ∙ omega (arith, digit-lt b, digit-byte b t)
 
 -- any other byte is not, unless it is a space and m is 0
-pub column-other : (m b : ℕ) → isDigit b ≡ false → (m ≡ 0 → b ≡ space → ⊥) → column (m * 10 + digit b) ≡ b → ⊥
+column-other : (m b : ℕ) → isDigit b ≡ false → (m ≡ 0 → b ≡ space → ⊥) → column (m * 10 + digit b) ≡ b → ⊥
 column-other m b t k e = go (eqb (m * 10 + digit b) 0) refl e
   where
     go : (z : Bool) → eqb (m * 10 + digit b) 0 ≡ z → cond z space (zeroDigit + (m * 10 + digit b) % 10) ≡ b → ⊥
@@ -66,7 +65,7 @@ column-other m b t k e = go (eqb (m * 10 + digit b) 0) refl e
 
 -- ---- values
 -- a value after i digits is below 10 ^ i
-pub value-lt : (xs : List ℕ) (n i : ℕ) → n < 10 ^ i → valueAfter n xs < 10 ^ (i + length xs)
+value-lt : (xs : List ℕ) (n i : ℕ) → n < 10 ^ i → valueAfter n xs < 10 ^ (i + length xs)
 unfolding valueAfter
 value-lt [] n i h = subst (λ (k : ℕ). n < 10 ^ k) (omega arith) h
 value-lt (b ∷ bs) n i h =
@@ -93,10 +92,8 @@ next-column k m t n b s g f e =
     let d : b ∷ s ≡ column m ∷ t = sym (drop-columns k n (b ∷ s)) ∙ ap (drop k) e ∙ drop-columns k (m / 10) (column m ∷ t) in
     let c : b ≡ column m = ap (λ (l : List ℕ). getD l 0 0) d in
     let r : s ≡ t = ap (drop 1) d in
-    let v : valueAfter (n * 10 + digit b) s ≡ valueAfter (m / 10 * 10 + digit (column m)) t =
-    sym (value-columns k n (b ∷ s) f) ∙ ap (valueAfter 0) e ∙ value-columns k (m / 10) (column m ∷ t) g in
-    let w : valueAfter (n * 10 + digit b) s ≡ valueAfter m s =
-    v ∙ ap (λ (j : ℕ). valueAfter j t) (value-column m) ∙ ap (valueAfter m) (sym r) in
+    let v = sym (value-columns k n (b ∷ s) f) ∙ ap (valueAfter 0) e ∙ value-columns k (m / 10) (column m ∷ t) g in
+    let w = v ∙ ap (λ (j : ℕ). valueAfter j t) (value-column m) ∙ ap (valueAfter m) (sym r) in
     ap column (value-injective s (n * 10 + digit b) m w) ∙ sym c
 
 -- the same where more columns follow
@@ -121,10 +118,11 @@ module _ (xs : List ℕ) (i n : ℕ) (h : i < length xs) (e : columns i n (drop 
   pub read-next : (b : ℕ) → getD xs i 0 ≡ b → column (n * 10 + digit b) ≡ b → columns (suc i) (n * 10 + digit b) (drop (suc i) xs) ≡ xs
   unfolding columns
   read-next b g t =
-      ap (λ (k : ℕ). columns i k (column (n * 10 + digit b) ∷ drop (suc i) xs)) (omega (arith, digit-lt b)) ∙ ap (λ (c : ℕ). columns i n (c ∷ drop (suc i) xs)) (t ∙ sym g) ∙ with-next
+      let rest : (n * 10 + digit b) / 10 ≡ n = omega (arith, digit-lt b) in
+      rw (rest, t, ← g) with-next
 
   -- it is none: no number
-  pub misspelt-column : (b : ℕ) → getD xs i 0 ≡ b → n < 10 ^ i → suc i < length xs → (column (n * 10 + digit b) ≡ b → ⊥) → numberIn xs ≡ Misspelt
+  misspelt-column : (b : ℕ) → getD xs i 0 ≡ b → n < 10 ^ i → suc i < length xs → (column (n * 10 + digit b) ≡ b → ⊥) → numberIn xs ≡ Misspelt
   unfolding numberIn spell
   misspelt-column b g f l d =
       let v = valueAfter 0 xs in
@@ -139,15 +137,16 @@ pub record Read (xs : List ℕ) (i n : ℕ) : Type 0 where
   pub spelt : columns i n (drop i xs) ≡ xs
   pub begins : n ≡ 0 → suc i < length xs → (getD xs i 0 ≡ space → ⊥) × (getD xs i 0 ≡ zeroDigit → ⊥)
 
-one-le-pow : (i : ℕ) → 0 < 10 ^ i
-one-le-pow i = omega (arith, pow-le-pow-right {n = 10} (omega arith) {i = 0} {j = i} (omega arith))
+-- 0 has at most i digits
+zero-small : (i : ℕ) → 0 < 10 ^ i
+zero-small i = omega (arith, pow-le-pow-right {n = 10} (omega arith) {i = 0} {j = i} (omega arith))
 
 -- after i spaces, whether a leading zero comes
 module _ (xs : List ℕ) (i : ℕ) (h : i < length xs) (e : columns i 0 (drop i xs) ≡ xs) where
   pub read-first : (suc i < length xs → getD xs i 0 ≡ space → ⊥) → ltb i (length xs - 1) && eqb (getD xs i 0) zeroDigit ≡ false → Read xs i 0
   read-first s t =
       record {
-        small = one-le-pow i;
+        small = zero-small i;
         spelt = e;
         begins = λ _ l. (s l, λ g. true-false (and-intro _ _ (lt-ltb i (length xs - 1) (omega arith)) (eq-eqb (getD xs i 0) zeroDigit g)) t);
       }
@@ -156,7 +155,7 @@ module _ (xs : List ℕ) (i : ℕ) (h : i < length xs) (e : columns i 0 (drop i 
   misspelt-first t =
       let b = and-true (ltb i (length xs - 1)) (eqb (getD xs i 0) zeroDigit) t in
       let l : i < length xs - 1 = ltb-true i (length xs - 1) (b .0) in
-      misspelt-column xs i 0 h e zeroDigit (eqb-true (getD xs i 0) zeroDigit (b .1)) (one-le-pow i) (omega arith) (λ q. omega arith)
+      misspelt-column xs i 0 h e zeroDigit (eqb-true (getD xs i 0) zeroDigit (b .1)) (zero-small i) (omega arith) (λ q. omega arith)
 
 -- after i columns, whether a digit comes
 module _ (xs : List ℕ) (i n : ℕ) (l : suc i < length xs) (r : Read xs i n) where
@@ -177,17 +176,25 @@ module _ (xs : List ℕ) (i n : ℕ) (l : suc i < length xs) (r : Read xs i n) w
 
 -- the last column
 module _ (xs : List ℕ) (some : 1 ≤ length xs) where
-  -- it is a digit: the number is read
-  pub read-last : (n : ℕ) → Read xs (length xs - 1) n → isDigit (getD xs (length xs - 1) 0) ≡ true → numberIn xs ≡ Is (n * 10 + digit (getD xs (length xs - 1) 0))
+  -- it is a digit: the columns are the spelling of the number
+  spelt-last : (n : ℕ) → Read xs (length xs - 1) n → isDigit (getD xs (length xs - 1) 0) ≡ true → spell (length xs) (n * 10 + digit (getD xs (length xs - 1) 0)) ≡ xs
   unfolding spell
+  spelt-last n r t =
+      let k = length xs - 1 in
+      let b = getD xs k 0 in
+      let m = n * 10 + digit b in
+      let rest : m / 10 ≡ n = omega (arith, digit-lt b) in
+      let last : zeroDigit + m % 10 ≡ b = omega (arith, digit-lt b, digit-byte b t) in
+      rw (rest, last, ← last-column xs (length xs) m refl some) (r .spelt)
+
+  -- the number is read
+  pub read-last : (n : ℕ) → Read xs (length xs - 1) n → isDigit (getD xs (length xs - 1) 0) ≡ true → numberIn xs ≡ Is (n * 10 + digit (getD xs (length xs - 1) 0))
   read-last n r t =
       let k = length xs - 1 in
       let b = getD xs k 0 in
       let m = n * 10 + digit b in
-      let s : spell (length xs) m ≡ xs =
-      ap (λ (j : ℕ). columns k j ((zeroDigit + m % 10) ∷ [])) (omega (arith, digit-lt b)) ∙ ap (λ (c : ℕ). columns k n (c ∷ [])) (omega (arith, digit-lt b, digit-byte b t)) ∙ sym (ap (columns k n) (last-column xs (length xs) m refl some)) ∙ r .spelt in
       let p : m < 10 ^ k * 10 = omega (arith, digit-lt b, r .small) in
-      ap numberIn (sym s) ∙ number-spell (length xs) m some (subst (λ (j : ℕ). m < 10 ^ j) (omega arith) (rw (← pow-suc) at p))
+      ap numberIn (sym (spelt-last n r t)) ∙ number-spell (length xs) m some (subst (λ (j : ℕ). m < 10 ^ j) (omega arith) (rw (← pow-suc) at p))
 
   -- it is none: no number
   pub misspelt-last : isDigit (getD xs (length xs - 1) 0) ≡ false → numberIn xs ≡ Misspelt

@@ -76,7 +76,9 @@ fn is_digit(b: u8) -> bool
 // How many columns on the left of src are spaces, the last column not counted.
 fn spaces(src: &[u8]) -> usize
     requires { ⌜ 1 ≤ length (now src) ⌝ }
-    ensures { λ r. ⌜ (r < length (now (src .entry))) × (columns r 0 (drop r (now (src .entry))) ≡ now (src .entry)) × (suc r < length (now (src .entry)) → getD (now (src .entry)) r 0 ≡ space → ⊥) ⌝ }
+    ensures { λ r. ⌜ r < length (now (src .entry)) ⌝ }
+    ensures { λ r. ⌜ columns r 0 (drop r (now (src .entry))) ≡ now (src .entry) ⌝ }
+    ensures { λ r. ⌜ (suc r < length (now (src .entry)) → getD (now (src .entry)) r 0 ≡ space → ⊥) ⌝ }
 {
     let last = src.len() - 1;
     let mut i = 0;
@@ -89,7 +91,7 @@ fn spaces(src: &[u8]) -> usize
     last
 }
 
-// The number that the columns of src hold: after the spaces a digit that is not 0, unless it is the last, and then digits.
+// The number that the columns of src hold: after the spaces digits, of which the first is 0 in the last column only.
 pub fn get(src: &[u8]) -> Number
     requires { ⌜ (1 ≤ length (now src)) × (length (now src) ≤ 8) ⌝ }
     ensures { λ r. ⌜ r ≡ numberIn (now (src .entry)) ⌝ }

@@ -1,6 +1,6 @@
 -- `columns::get` reads from the left: at each turn the first i columns are those of n.
 use borrow.Author.Needs.{needs}
-use Prim.Native.Nat.{_≤_, _<_, _-_}
+use Prim.Native.Nat.{_≤_, _-_}
 use native.Mathlib.Omega.{arith}
 use native.Mathlib.Numerals.{add-one}
 use mathlib.Core.Path.{_≡_, sym, _∙_}
@@ -31,13 +31,13 @@ returns : tie.Need-returns Inv-loop μ-loop
 returns c =
     let s = c .before .before .spaces in
     let xs = now (c .before .before .before .before .args .src) in
-    sym (misspelt-first xs (s .result) (s .ensures .0) (s .ensures .1) (c .if1 .taken))
+    sym (misspelt-first xs (s .result) (s .ensures .0) (s .ensures .1 .0) (c .if1 .taken))
 
 loop-holds : tie.Need-loop-holds Inv-loop μ-loop
 loop-holds c =
     let s = c .before .before .spaces in
     let xs = now (c .before .before .before .before .args .src) in
-    (omega arith, read-first xs (s .result) (s .ensures .0) (s .ensures .1) (s .ensures .2) (c .if1 .left))
+    (omega arith, read-first xs (s .result) (s .ensures .0) (s .ensures .1 .0) (s .ensures .1 .1) (c .if1 .left))
 
 shared-slice-read-is-digit : tie.Need-shared-slice-read-is-digit Inv-loop μ-loop
 shared-slice-read-is-digit c = omega arith

@@ -29,7 +29,7 @@ shared-slice-read-if1 : tie.Need-shared-slice-read-if1 Inv-loop μ-loop
 shared-slice-read-if1 c = omega arith
 
 returns : tie.Need-returns Inv-loop μ-loop
-returns c = (omega arith, c .before .before .before .loop .inv .1, λ _. c .if1 .taken)
+returns c = (omega arith, (c .before .before .before .loop .inv .1, λ _. c .if1 .taken))
 
 add-i : tie.Need-add-i Inv-loop μ-loop
 add-i c = omega arith
@@ -48,7 +48,7 @@ returns-2 c =
     let l = c .before .loop in
     let xs = now (c .before .before .args .src) in
     let z : l .i ≡ length xs - 1 = omega arith in
-    (omega arith, rw z at (l .inv .1), λ h. absurd (omega arith))
+    (omega arith, (rw z at (l .inv .1), λ h. absurd (omega arith)))
 
 pub spaces-spec : {M : Type 1} → statement M
 spaces-spec =

@@ -40,25 +40,24 @@ drop-set : (l : List ℕ) (i a : ℕ) → i < length l → drop i (set l i a) �
 drop-set l i a h =
     drop-cons (set l i a) i 0 (simp length-set h) ∙ rw (getD-set-same l i a 0 h, drop-set-lt (suc i) l i a (omega arith))
 
--- the last of w columns: written, found there, or another byte there
+-- the last of w columns: alone there, written, or another byte there
 module _ (xs : List ℕ) (w n : ℕ) (l : length xs ≡ w) (some : 1 ≤ w) where
   none-past : drop (suc (w - 1)) xs ≡ []
   none-past = drop-of-length-le xs {i = suc (w - 1)} (omega arith)
 
+  pub last-column : drop (w - 1) xs ≡ getD xs (w - 1) 0 ∷ []
+  last-column = drop-cons xs (w - 1) 0 (omega arith) ∙ rw none-past
+
   pub put-last : spell w n ≡ columns (w - 1) (n / 10) (drop (w - 1) (set xs (w - 1) (zeroDigit + n % 10)))
   unfolding spell
   put-last = rw (drop-set xs (w - 1) (zeroDigit + n % 10) (omega arith), none-past)
-
-  pub get-last : getD xs (w - 1) 0 ≡ zeroDigit + n % 10 → spell w n ≡ columns (w - 1) (n / 10) (drop (w - 1) xs)
-  unfolding spell
-  get-last g = rw (drop-cons xs (w - 1) 0 (omega arith), g, none-past)
 
   pub last-differs : (getD xs (w - 1) 0 ≡ zeroDigit + n % 10 → ⊥) → spell w n ≡ xs → ⊥
   unfolding spell
   last-differs d e =
       d (cc (drop-cons xs (w - 1) 0 (omega arith), ap (drop (w - 1)) e, drop-columns (w - 1) (n / 10) ((zeroDigit + n % 10) ∷ [])))
 
--- one column more: written, found there, or another byte there
+-- one column more is written
 module _ (xs s : List ℕ) (i m : ℕ) (more : 0 < i) (h : i < length xs) (e : s ≡ columns i m (drop i xs)) where
   next : s ≡ columns (i - 1) (m / 10) (column m ∷ drop (suc (i - 1)) xs)
   next =
@@ -67,14 +66,6 @@ module _ (xs s : List ℕ) (i m : ℕ) (more : 0 < i) (h : i < length xs) (e : s
 
   pub put-next-column : s ≡ columns (i - 1) (m / 10) (drop (i - 1) (set xs (i - 1) (column m)))
   put-next-column = rw (drop-set xs (i - 1) (column m) (omega arith)) next
-
-  pub get-next-column : getD xs (i - 1) 0 ≡ column m → s ≡ columns (i - 1) (m / 10) (drop (i - 1) xs)
-  get-next-column g = rw (drop-cons xs (i - 1) 0 (omega arith), g) next
-
-  pub column-differs : (getD xs (i - 1) 0 ≡ column m → ⊥) → s ≡ xs → ⊥
-  column-differs d q =
-      let t = drop-columns (i - 1) (m / 10) (column m ∷ drop (suc (i - 1)) xs) in
-      d (cc (drop-cons xs (i - 1) 0 (omega arith), ap (drop (i - 1)) (sym q ∙ next), t))
 
 -- ---- values
 pub digit-lt : (b : ℕ) → digit b < 10
@@ -89,14 +80,14 @@ digit-lt b = go (ltb b zeroDigit) (ltb (zeroDigit + 9) b) refl
 digit-of-digit : (d : ℕ) → d < 10 → digit (zeroDigit + d) ≡ d
 digit-of-digit d h = rw (le-ltb (zeroDigit + d) zeroDigit (omega arith), le-ltb (zeroDigit + 9) (zeroDigit + d) (omega arith)) (omega arith)
 
-value-column : (m : ℕ) → m / 10 * 10 + digit (column m) ≡ m
+pub value-column : (m : ℕ) → m / 10 * 10 + digit (column m) ≡ m
 value-column m = go (eqb m 0) refl
   where
     go : (b : Bool) → eqb m 0 ≡ b → m / 10 * 10 + digit (cond b space (zeroDigit + m % 10)) ≡ m
     go true e = omega (arith, eqb-true m 0 e)
     go false e = rw (digit-of-digit (m % 10) (omega arith)) (omega arith)
 
-value-columns : (i m : ℕ) (t : List ℕ) → m < 10 ^ i → valueAfter 0 (columns i m t) ≡ valueAfter m t
+pub value-columns : (i m : ℕ) (t : List ℕ) → m < 10 ^ i → valueAfter 0 (columns i m t) ≡ valueAfter m t
 unfolding columns valueAfter
 value-columns zero m t h = ap (λ (k : ℕ). valueAfter k t) (omega arith)
 value-columns (suc i) m t h =

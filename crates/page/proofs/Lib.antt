@@ -1,15 +1,17 @@
 -- Laws of the definitions of specs/.
---   Slices     parts of lists that are joined, and parts that are lent
---   Column     decimal columns: what is written is what is read, and a number has one spelling
---   Plans      the file plan: a node has one place, and a place one node
---   Ranges     the ranges of a header's fields for each kind, and that there are four kinds
---   HeaderLaws headers: what is written is what is read, and a header has one spelling
---   Positions  key positions: a position has one key block, page and slot
---   Commits    a commit's payloads: an entry has one spelling, letters and entries read back
---   Pages      the bytes of a page: length, what reads back, what a cut program leaves
---   FormLaws   page forms: the form of a page that was programmed whole or in part
+--   Slices        parts of lists that are joined, and parts that are lent
+--   Column        decimal columns: what is written is what is read, and a number has one spelling
+--   ColumnReading columns read from the left: which byte may come next, and when they are a spelling
+--   Plans         the file plan: a node has one place, and a place one node
+--   Ranges        the ranges of a header's fields for each kind, and that there are four kinds
+--   HeaderLaws    headers: what is written is what is read, and a header has one spelling
+--   Positions     key positions: a position has one key block, page and slot
+--   Commits       a commit's payloads: an entry has one spelling, letters and entries read back
+--   Pages         the bytes of a page: length, what reads back, what a cut program leaves
+--   FormLaws      page forms: the form of a page that was programmed whole or in part
 pub mod Slices
 pub mod Column
+pub mod ColumnReading
 pub mod Plans
 pub mod Ranges
 pub mod HeaderLaws

@@ -1,11 +1,13 @@
 // Decimal columns: a number right-justified with spaces, without leading zeros.
 use crate::Number;
 ghost use mathlib.Core.Path.{_≡_};
-ghost use Prim.Native.Nat.{_+_, _≤_, _<_};
-ghost use lib.ListN.{length};
+ghost use mathlib.Core.Bool.{_&&_};
+ghost use Prim.Native.Nat.{suc, _+_, _≤_, _<_};
+ghost use lib.ListN.{length, getD, drop};
+ghost use lib.Dec.{leb};
 ghost use Rattle.base.specs.Part.{part, splice};
-ghost use Rattle.base.specs.Each.{same};
-ghost use Rattle.page.specs.Column.{zeroDigit, column, spell, digit, valueAfter, numberIn};
+ghost use Rattle.page.specs.Frame.{space};
+ghost use Rattle.page.specs.Column.{zeroDigit, column, columns, spell, digit, numberIn};
 
 const SPACE: u8 = 0x20;
 
@@ -51,26 +53,6 @@ pub fn put_at(dst: &mut [u8], at: usize, w: usize, n: u32)
     put(&mut dst[at..at + w], w, n);
 }
 
-// Whether the columns of src are the spelling of n.
-fn spells(src: &[u8], n: u32) -> bool
-    requires { ⌜ 1 ≤ length (now src) ⌝ }
-    ensures { λ r. ⌜ r ≡ same (spell (length (now (src .entry))) n) (now (src .entry)) ⌝ }
-{
-    let mut i = src.len() - 1;
-    if src[i] != digit_byte(n % 10) {
-        return false;
-    }
-    let mut m = n / 10;
-    while 0 < i {
-        i -= 1;
-        if src[i] != column_of(m) {
-            return false;
-        }
-        m = m / 10;
-    }
-    true
-}
-
 // A digit's value; 0 for any other byte.
 fn digit_of(b: u8) -> u32
     ensures { λ r. ⌜ r ≡ digit b ⌝ }
@@ -84,31 +66,54 @@ fn digit_of(b: u8) -> u32
     (b - ZERO) as u32
 }
 
-// The decimal value of the columns of src, a byte that is no digit counting 0.
-fn value_of(src: &[u8]) -> u32
-    requires { ⌜ length (now src) ≤ 8 ⌝ }
-    ensures { λ r. ⌜ r ≡ valueAfter 0 (now (src .entry)) ⌝ }
+// Whether b is a digit.
+fn is_digit(b: u8) -> bool
+    ensures { λ r. ⌜ r ≡ (leb zeroDigit b && leb b (zeroDigit + 9)) ⌝ }
 {
-    let mut n: u32 = 0;
-    let mut i = 0;
-    while i < src.len() {
-        n = n * 10 + digit_of(src[i]);
-        i += 1;
-    }
-    n
+    (ZERO <= b) & (b <= NINE)
 }
 
-// The number that the columns of src hold.
+// How many columns on the left of src are spaces, the last column not counted.
+fn spaces(src: &[u8]) -> usize
+    requires { ⌜ 1 ≤ length (now src) ⌝ }
+    ensures { λ r. ⌜ r < length (now (src .entry)) ⌝ }
+    ensures { λ r. ⌜ columns r 0 (drop r (now (src .entry))) ≡ now (src .entry) ⌝ }
+    ensures { λ r. ⌜ (suc r < length (now (src .entry)) → getD (now (src .entry)) r 0 ≡ space → ⊥) ⌝ }
+{
+    let last = src.len() - 1;
+    let mut i = 0;
+    while i < last {
+        if src[i] != SPACE {
+            return i;
+        }
+        i += 1;
+    }
+    last
+}
+
+// The number that the columns of src hold: after the spaces digits, of which the first is 0 in the last column only.
 pub fn get(src: &[u8]) -> Number
     requires { ⌜ (1 ≤ length (now src)) × (length (now src) ≤ 8) ⌝ }
     ensures { λ r. ⌜ r ≡ numberIn (now (src .entry)) ⌝ }
 {
-    let n = value_of(src);
-    if spells(src, n) {
-        Number::Is(n)
-    } else {
-        Number::Misspelt
+    let last = src.len() - 1;
+    let first = spaces(src);
+    if (first < last) & (src[first] == ZERO) {
+        return Number::Misspelt;
     }
+    let mut n: u32 = 0;
+    let mut i = first;
+    while i < last {
+        if !is_digit(src[i]) {
+            return Number::Misspelt;
+        }
+        n = n * 10 + digit_of(src[i]);
+        i += 1;
+    }
+    if !is_digit(src[last]) {
+        return Number::Misspelt;
+    }
+    Number::Is(n * 10 + digit_of(src[last]))
 }
 
 // The number that the w columns of src from at on hold.

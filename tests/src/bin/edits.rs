@@ -32,7 +32,8 @@ struct Edit {
 
 impl Edit {
     fn read(path: &Path) -> Result<Edit, String> {
-        let text = fs::read_to_string(path).map_err(|error| format!("{}: {error}", path.display()))?;
+        let text =
+            fs::read_to_string(path).map_err(|error| format!("{}: {error}", path.display()))?;
         let name = path.file_stem().unwrap_or_default().to_string_lossy().into_owned();
         let (mut refused, mut file, mut old) = (String::new(), String::new(), None);
         let mut replacements = Vec::new();
@@ -70,15 +71,16 @@ impl Edit {
         Ok(before)
     }
 
-    /// Whether the prover's account refuses the place that the edit names.
+    /// Whether the prover's account refuses the place that the edit names, and not only what rests on it.
     fn is_refused_by(&self, account: &str) -> bool {
         let function = format!("fn {}: no", self.refused);
         let file = format!("/{}:", self.refused);
         let here = |line: &str| {
-            line.starts_with(&function) || (line.contains(&file) && line.contains(": error:"))
+            let in_function = line.starts_with(&function) && !line.contains("it calls");
+            in_function || (line.contains(&file) && line.contains(": error:"))
         };
-        account.lines().any(|line| line == "logic=not-proved" || line.starts_with("logic=not-proved "))
-            && account.lines().any(here)
+        let refused = account.lines().any(|line| line.starts_with("logic=not-proved"));
+        refused && account.lines().any(here)
     }
 }
 
@@ -161,7 +163,11 @@ fn copy_repository(repository: &Path, copy: &Path) -> io::Result<()> {
     fs::create_dir_all(copy)?;
     fs::copy(repository.join("crates.txt"), copy.join("crates.txt"))?;
     copy_folder(&repository.join("crates"), &copy.join("crates"), &[])?;
-    copy_folder(&repository.join("target"), &copy.join("target"), &["inc", "must-fail", "staticlib"])
+    copy_folder(
+        &repository.join("target"),
+        &copy.join("target"),
+        &["inc", "must-fail", "staticlib"],
+    )
 }
 
 /// Tries the edits of the crates that are left, one crate after the other. Gives how many were not
@@ -172,7 +178,8 @@ fn work(repository: &Path, left: &Mutex<Vec<Crate>>) -> Result<usize, String> {
         let next = left.lock().map_err(|error| error.to_string())?.pop();
         let Some(one) = next else { return Ok(kept) };
         let copy = std::env::temp_dir().join(format!("edits-{}-{}", std::process::id(), one.name));
-        copy_repository(repository, &copy).map_err(|error| format!("{}: {error}", copy.display()))?;
+        copy_repository(repository, &copy)
+            .map_err(|error| format!("{}: {error}", copy.display()))?;
         let tried = one.try_edits(&copy);
         fs::remove_dir_all(&copy).map_err(|error| format!("{}: {error}", copy.display()))?;
         kept += tried?;

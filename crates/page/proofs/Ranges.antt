@@ -50,12 +50,12 @@ abbrev pub isKind : ℕ → Bool
 isKind b = eqb b nodeLetter || eqb b cutOffLetter || eqb b keysLetter || eqb b commitLetter
 
 -- ---- tests and facts
-within-true : (low high n : ℕ) → within low high n ≡ true → (low ≤ n) × (n ≤ high)
+pub within-true : (low high n : ℕ) → within low high n ≡ true → (low ≤ n) × (n ≤ high)
 within-true low high n e =
     let b = and-true (leb low n) (leb n high) e in
     (leb-true low n (b .0), leb-true n high (b .1))
 
-within-intro : (low high n : ℕ) → low ≤ n → n ≤ high → within low high n ≡ true
+pub within-intro : (low high n : ℕ) → low ≤ n → n ≤ high → within low high n ≡ true
 within-intro low high n h k = and-intro (leb low n) (leb n high) (le-leb low n h) (le-leb n high k)
 
 plan-true : (f : Frame) → inPlan f ≡ true → (f .unit ≤ lastFile) × (f .part < countOf filePlan (f .unit))

@@ -2,7 +2,7 @@
 use Prim.Native.Nat.{ℕ, zero, suc, _+_, _*_, _-_, _/_, _%_}
 use mathlib.Core.Bool.{Bool, true, false, cond, _&&_, _||_}
 use mathlib.Core.List.{List, [], _∷_, _++_}
-use lib.ListN.{getD, length}
+use lib.ListN.{getD}
 use lib.Dec.{eqb, leb, ltb}
 use Rattle.base.specs.Part.{part}
 use Rattle.base.specs.Each.{same}

@@ -1,6 +1,6 @@
 -- Document 01, "Page forms": a page is whole if header and closing are both right; torn if only the header is; otherwise, unless empty, spoilt.
 use Prim.Native.Nat.{ℕ}
-use mathlib.Core.Bool.{Bool, true, false, cond}
+use mathlib.Core.Bool.{Bool, cond}
 use mathlib.Core.List.{List}
 use Rattle.base.specs.Part.{part}
 use Rattle.base.specs.Each.{same, allAre}

@@ -1,5 +1,5 @@
 -- Document 01, "The flash image" and "Page forms": the sizes and the fixed byte strings of a page.
-use Prim.Native.Nat.{ℕ, _+_}
+use Prim.Native.Nat.{ℕ}
 use mathlib.Core.List.{List, [], _∷_}
 
 -- a page has 256 bytes: 30 of header, 224 of payload, 2 of closing

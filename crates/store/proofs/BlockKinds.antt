@@ -11,25 +11,23 @@ use lib.ListN.{length, getD, drop-of-length-le, length-take, length-drop}
 use lib.Seq.{take-nil}
 use borrow.Author.Tests.{eqb-true, leb-true, eq-eqb, ne-eqb}
 use Rattle.base.specs.Part.{part}
-use Rattle.base.specs.Each.{same, allAre}
+use Rattle.base.specs.Each.{allAre}
 use Rattle.base.specs.Search.{allFrom, anyFrom}
 use Rattle.base.proofs.Choice.{cond-ap, cond-same, and-true, and-intro, true-false}
 use Rattle.base.proofs.Parts.{part-at}
 use Rattle.base.proofs.Searches.{all-holds, all-intro, all-agree, any-agree, any-all-fail}
 use Rattle.base.proofs.Eachs.{same-true}
-use Rattle.page.specs.Frame.{pageSize, headerSize, closingAt, closingSize, closing, erased, colonSpace}
-use Rattle.page.specs.Column.{numberIn}
-use Rattle.page.specs.Header.{nodeLetter, cutOffLetter, keysLetter, commitLetter, lastNumber, lastPosition, lastKeyBlock, lastKeyPage, lastPart, within, inPlan, nodeRanges, cutOffRanges, keysRanges, commitRanges, keysFrame, commitFrame, inRange, andThen, headerOf}
+use Rattle.page.specs.Frame.{pageSize, headerSize, closingAt, closingSize, closing, erased}
+use Rattle.page.specs.Header.{nodeLetter, cutOffLetter, keysLetter, commitLetter, lastNumber, lastPosition, lastKeyBlock, lastKeyPage, lastPart, within, inPlan, nodeRanges, cutOffRanges, keysRanges, commitRanges, keysFrame, commitFrame, inRange, headerOf}
 use Rattle.page.specs.Form.{isEmpty, closed, formBy, formOf}
 use Rattle.page.specs.Entry.{parts, validPayload}
 use Rattle.page.specs.Page.{payloadOf}
-use Rattle.page.specs.declared.Number.{Number}
-use Rattle.page.specs.declared.Number.the-variants.{Is as IsNumber, Misspelt}
 use Rattle.page.specs.declared.Frame.{Frame}
 use Rattle.page.specs.declared.Header.{Header}
 use Rattle.page.specs.declared.Header.the-variants.{Is, Invalid}
 use Rattle.page.specs.declared.Form.{Form}
 use Rattle.page.specs.declared.Form.the-variants.{Empty, Whole, Torn, Spoilt}
+use Rattle.page.proofs.HeaderLaws.{header-spelt}
 use Rattle.image.specs.Size.{blockSize, pagesInBlock, blocks}
 use Rattle.image.specs.Look.{pageAt, formAt, pageEmpty}
 use Rattle.store.specs.Kind.{pageIn, sameFrame, wholeWith, keyBlockWhole, commitBlockWhole, kindOfFirst, kindOf, isEventLetter, headed, isChosen, isData}
@@ -39,25 +37,8 @@ use Rattle.store.specs.declared.Kind.{Kind}
 use Rattle.store.specs.declared.Kind.the-variants.{Keys, Commit, Other}
 
 -- ---- headers: what they say of their bytes
-and-then-is : (n : Number) (k : ℕ → Header) (f : Frame) → andThen n k ≡ Is f → (m : ℕ) × (k m ≡ Is f)
-and-then-is (IsNumber m) k f e = (m, e)
-and-then-is Misspelt k f e = absurd (let z : _≡_ {A = ℕ} 0 1 = cc in omega arith)
-
-cond-is : (b : Bool) (f h : Frame) → cond b (Is f) Invalid ≡ Is h → (b ≡ true) × (f ≡ h)
-cond-is true f h e = (refl, cc)
-cond-is false f h e = absurd (let z : _≡_ {A = ℕ} 0 1 = cc in omega arith)
-
 header-is : (xs : List ℕ) (f : Frame) → headerOf xs ≡ Is f → (f .kind ≡ getD xs 0 0) × (inRange f ≡ true)
-unfolding headerOf
-header-is xs f e =
-    let a = and-then-is (numberIn (part xs 1 8)) _ f e in
-    let b = and-then-is (numberIn (part xs 9 3)) _ f (a .1) in
-    let c = and-then-is (numberIn (part xs 12 4)) _ f (b .1) in
-    let d = and-then-is (numberIn (part xs 16 4)) _ f (c .1) in
-    let g = and-then-is (numberIn (part xs 20 8)) _ f (d .1) in
-    let h = cond-is _ _ f (g .1) in
-    let i = and-true (same (part xs 28 2) colonSpace) _ (h .0) in
-    (sym (ap (λ (f : Frame). f .kind) (h .1)), rw (h .1) at (i .1))
+header-is xs f e = let s = header-spelt xs f e in (sym (s .kind), s .ranges)
 
 -- ---- forms
 -- the header of a form

@@ -1,26 +1,23 @@
 -- The key position and the page that a write takes: the lowest f; the lowest empty page of a data block with only empty pages after it, else the first page of the lowest empty block if two are empty.
-use Prim.Native.Nat.{ℕ, zero, suc, _+_, _-_, _*_, _/_, _%_, _<_, _≤_}
+use Prim.Native.Nat.{ℕ, _-_, _*_, _/_, _%_, _<_, _≤_}
 use native.Mathlib.Omega.{arith}
 use native.Mathlib.Decide.{decLt}
 use mathlib.Core.Path.{_≡_, refl, sym, subst, _∙_}
 use mathlib.Core.Logic.{_⊎_, inl, inr}
 use mathlib.Core.Bool.{Bool, true, false, cond}
-use mathlib.Core.List.{List, [], _∷_}
+use mathlib.Core.List.{List}
 use lib.Dec.{eqb, leb, ltb}
-use lib.ListN.{length, getD, take, drop}
+use lib.ListN.{length, getD}
 use borrow.Author.Tests.{ltb-true, ltb-false, lt-ltb, le-ltb, leb-true, leb-false, le-leb, lt-leb, eqb-true, eqb-false, eq-eqb, ne-eqb}
-use Rattle.base.specs.Part.{part}
-use Rattle.base.specs.Each.{allAre}
 use Rattle.base.specs.Search.{firstFrom}
 use Rattle.base.proofs.Choice.{and-true, and-intro, true-false}
-use Rattle.base.proofs.Parts.{part-part}
-use Rattle.base.proofs.Searches.{first-agree, count-agree, first-holds, first-least, first-all, all-holds, all-intro, count-first}
-use Rattle.page.specs.Frame.{pageSize, erased}
-use Rattle.page.specs.Form.{isEmpty}
+use Rattle.base.proofs.Searches.{first-agree, count-agree, first-holds, first-least, first-all, all-holds, all-intro}
 use Rattle.page.specs.Key.{positions}
 use Rattle.page.specs.Entry.{freeLetter}
-use Rattle.image.specs.Size.{blockSize, pagesInBlock, blocks, pages}
-use Rattle.image.specs.Look.{pageAt, blockAt, pageEmpty, blockEmpty, lowestEmpty, emptyBlocks}
+use Rattle.image.specs.Size.{pagesInBlock, blocks, pages}
+use Rattle.image.specs.Look.{pageEmpty, blockEmpty, lowestEmpty, emptyBlocks}
+use Rattle.image.proofs.Looks.{lowest-some, lowest-empty, lowest-least}
+use Rattle.image.proofs.Empties.{empty-block-page}
 use Rattle.store.specs.Kind.{pageIn, kindOf, isData}
 use Rattle.store.specs.Find.{found, lowestFree, isOpen, freshPage, orElse, newPage, isFound, foundAt}
 use Rattle.store.specs.declared.Numbers.{Numbers}
@@ -115,46 +112,8 @@ module _ (img : List ℕ) (r : Numbers) (g : ℕ) where
   page-open d f =
       and-intro (isData img r (g / pagesInBlock)) _ d (all-intro (pageEmpty img) (pagesInBlock - g % pagesInBlock) g (λ h k l. f h k (omega arith)))
 
--- ---- the pages of an empty block are empty
-allAre-take : (v n : ℕ) (xs : List ℕ) → allAre v xs ≡ true → allAre v (take n xs) ≡ true
-unfolding allAre
-allAre-take v zero xs e = refl
-allAre-take v (suc n) [] e = refl
-allAre-take v (suc n) (x ∷ xs) e =
-    let a = and-true (eqb x v) (allAre v xs) e in
-    and-intro (eqb x v) (allAre v (take n xs)) (a .0) (allAre-take v n xs (a .1))
-
-allAre-drop : (v n : ℕ) (xs : List ℕ) → allAre v xs ≡ true → allAre v (drop n xs) ≡ true
-unfolding allAre
-allAre-drop v zero xs e = e
-allAre-drop v (suc n) [] e = refl
-allAre-drop v (suc n) (x ∷ xs) e = allAre-drop v n xs (and-true (eqb x v) (allAre v xs) e .1)
-
-allAre-part : (v : ℕ) (xs : List ℕ) (a n : ℕ) → allAre v xs ≡ true → allAre v (part xs a n) ≡ true
-unfolding part
-allAre-part v xs a n e = allAre-take v n (drop a xs) (allAre-drop v a xs e)
-
-empty-block-page : (img : List ℕ) (g : ℕ) → blockEmpty img (g / pagesInBlock) ≡ true → pageEmpty img g ≡ true
-unfolding blockEmpty blockAt pageEmpty pageAt isEmpty
-empty-block-page img g e =
-    let q : g * pageSize ≡ g / pagesInBlock * blockSize + g % pagesInBlock * pageSize = omega arith in
-    rw (q, ← part-part img (g / pagesInBlock * blockSize) blockSize (g % pagesInBlock * pageSize) pageSize (omega arith))
-    (allAre-part erased (part img (g / pagesInBlock * blockSize) blockSize) (g % pagesInBlock * pageSize) pageSize e)
-
--- ---- the lowest empty block
+-- ---- the first page of an empty block
 module _ (img : List ℕ) where
-  lowest-inside : 1 ≤ emptyBlocks img → lowestEmpty img < blocks img
-  unfolding lowestEmpty emptyBlocks
-  lowest-inside h = omega (arith, count-first (blockEmpty img) (blocks img) 0 h)
-
-  lowest-empty : lowestEmpty img < blocks img → blockEmpty img (lowestEmpty img) ≡ true
-  unfolding lowestEmpty
-  lowest-empty h = first-holds (blockEmpty img) (blocks img) 0 (omega arith)
-
-  lowest-least : (b : ℕ) → b < lowestEmpty img → blockEmpty img b ≡ false
-  unfolding lowestEmpty
-  lowest-least b h = first-least (blockEmpty img) (blocks img) 0 b (omega arith) h
-
   -- the first page of the lowest empty block if two are empty
   pub fresh-page : (g : ℕ) → freshPage img ≡ At g → (2 ≤ emptyBlocks img) × (g ≡ lowestEmpty img * pagesInBlock)
   unfolding freshPage
@@ -197,7 +156,7 @@ module _ (img : List ℕ) (r : Numbers) where
   as-fresh : (g : ℕ) → firstOpen ≡ Nothing → freshPage img ≡ At g → FreshPage img r g
   as-fresh g n e =
       let f = fresh-page img g e in
-      let i = lowest-inside img (omega arith) in
+      let i = lowest-some img (omega arith) in
       record {
         none-open = found-nothing (isOpen img r) (pages img) n;
         two-empty = f .0;

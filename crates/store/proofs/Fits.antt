@@ -1,5 +1,5 @@
 -- What it says that a record fits, fact by fact; and what follows of a live place.
-use Prim.Native.Nat.{ℕ, _+_, _/_, _%_, _<_, _≤_}
+use Prim.Native.Nat.{ℕ, _+_, _%_, _<_, _≤_}
 use native.Mathlib.Omega.{arith}
 use mathlib.Core.Path.{_≡_, refl, sym, ap, _∙_}
 use mathlib.Core.Logic.{_⊎_, inl, inr, ⊎-elim}
@@ -20,7 +20,9 @@ use Rattle.page.specs.declared.Form.{Form}
 use Rattle.page.specs.declared.Form.the-variants.{Empty, Whole, Torn, Spoilt}
 use Rattle.page.specs.declared.Place.{Place}
 use Rattle.page.specs.declared.Place.the-variants.{At, Outside}
-use Rattle.image.specs.Size.{blockSize, fewestBlocks, mostBlocks, blocks, pages, sizeRight}
+use Rattle.page.proofs.Ranges.{within-true, within-intro}
+use Rattle.image.proofs.Looks.{sized}
+use Rattle.image.specs.Size.{blockSize, blocks, pages, sizeRight}
 use Rattle.image.specs.Look.{formAt}
 use Rattle.store.specs.Kind.{kindOf, keysEpoch, commitEpoch, isData}
 use Rattle.store.specs.Record.{Record, pageOf, keyOf, live, isAt, nodeAt, placeFits, namedTimes, keysApart, lettersFit, numbersFit, blocksFit, fits}
@@ -162,12 +164,6 @@ pub record Fit (img : List ℕ) (r : Record) : Type 0 where
   pub used : (p : ℕ) → p < positions → getD (r .letters) p 0 ≡ usedLetter → (x : ℕ) × (x < places) × (keyOf (r .map) x ≡ p)
   pub named : (p x : ℕ) → p < positions → x < places → keyOf (r .map) x ≡ p → getD (r .letters) p 0 ≡ usedLetter
 
-within-is : (low high n : ℕ) → within low high n ≡ true → (low ≤ n) × (n ≤ high)
-within-is low high n e = let a = and-true (leb low n) (leb n high) e in (leb-true _ _ (a .0), leb-true _ _ (a .1))
-
-is-within : (low high n : ℕ) → (low ≤ n) × (n ≤ high) → within low high n ≡ true
-is-within low high n h = and-intro (leb low n) (leb n high) (le-leb _ _ (h .0)) (le-leb _ _ (h .1))
-
 beq-is : (a b : Bool) → Bool·beq a b ≡ true → a ≡ b
 beq-is true true e = refl
 beq-is true false e = absurd (true-false e refl)
@@ -204,8 +200,8 @@ fits-is img r e =
     let q = and-true (ltb 0 (keysEpoch 0 (kindOf img (n .keys0)))) (ltb 0 (keysEpoch 1 (kindOf img (n .keys1)))) (c .0) in
     let letter : (p : ℕ) → p < positions → letterFits (r .map) (r .letters) p ≡ true = λ p h. all-holds _ positions 0 p (l .1) (omega arith) (omega arith) in
     record {
-      sequence = within-is 1 (lastNumber + 1) (n .sequence) (s .0);
-      epoch = within-is 1 (lastNumber + 1) (n .epoch) (s .1);
+      sequence = within-true 1 (lastNumber + 1) (n .sequence) (s .0);
+      epoch = within-true 1 (lastNumber + 1) (n .epoch) (s .1);
       keys0 = keys-epoch 0 (kindOf img (n .keys0)) (ltb-true _ _ (q .0));
       keys1 = keys-epoch 1 (kindOf img (n .keys1)) (ltb-true _ _ (q .1));
       commit = commit-epoch (kindOf img (n .commit)) (ltb-true _ _ (c .1));
@@ -227,7 +223,7 @@ fit-fits img r f =
     (and-intro _ _
     (and-intro _ _
     (and-intro _ _
-    (and-intro _ _ (is-within 1 (lastNumber + 1) (n .sequence) (f .sequence)) (is-within 1 (lastNumber + 1) (n .epoch) (f .epoch)))
+    (and-intro _ _ (within-intro 1 (lastNumber + 1) (n .sequence) (f .sequence .0) (f .sequence .1)) (within-intro 1 (lastNumber + 1) (n .epoch) (f .epoch .0) (f .epoch .1)))
     (and-intro _ _ (and-intro _ _ k0 k1) c))
     (all-intro (placeFits img (r .map)) places 0 (λ x h k. ⊎-elim (vacant-fits img (r .map) x) (named-fits img (r .map) x) (f .place x (omega arith)))))
     (apart-keys (r .map) (f .apart)))
@@ -253,12 +249,7 @@ fits-agree img img' r k0 k1 c forms =
 
 -- ---- what a right size gives: full blocks, and pages that a map can name
 size-parts : (img : List ℕ) → sizeRight img ≡ true → (length img % blockSize ≡ 0) × (pages img ≤ lastPage + 1)
-unfolding sizeRight
-size-parts img e =
-    let a = and-true (eqb (length img % blockSize) 0 && leb fewestBlocks (length img / blockSize)) (leb (length img / blockSize) mostBlocks) e in
-    let b = and-true (eqb (length img % blockSize) 0) (leb fewestBlocks (length img / blockSize)) (a .0) in
-    let full : length img % blockSize ≡ 0 = eqb-true (length img % blockSize) 0 (b .0) in
-    (full, omega (arith, leb-true (length img / blockSize) mostBlocks (a .1)))
+size-parts img e = let s = sized img e in (omega (arith, s .full), omega (arith, s .most, s .paged))
 
 -- ---- what follows of a record that fits
 module _ (img : List ℕ) (r : Record) (fit : Fit img r) where

@@ -34,6 +34,10 @@ formatTests img map letters noise =
 abbrev pub noNumbers : Numbers
 noNumbers = record { sequence = 0; epoch = 0; keys0 = 0; keys1 = 0; commit = 0 }
 
+-- the epoch of a new volume
+abbrev pub firstEpoch : ℕ
+firstEpoch = 1
+
 -- next numbers 1 and 2; key blocks 0 and 1 in blocks 0 and 1, the commit in block 2
 abbrev pub formatNumbers : Numbers
 formatNumbers = record { sequence = 1; epoch = 2; keys0 = 0; keys1 = 1; commit = 2 }
@@ -46,9 +50,9 @@ formatted = record { map = replicate mapSize none; letters = replicate positions
 unfoldable pub formatSteps : List ℕ → List ℕ → List Step
 formatSteps img noise =
     listFrom erase (blocks img) 0
-    ++ (keyBlockSteps 1 0 (formatNumbers .keys0) (keyInNoise noise)
-    ++ (keyBlockSteps 1 1 (formatNumbers .keys1) (keyInNoise noise)
-    ++ commitBlockSteps 1 0 (formatNumbers .commit) (formatted .map) (formatted .letters)))
+    ++ (keyBlockSteps firstEpoch 0 (formatNumbers .keys0) (keyInNoise noise)
+    ++ (keyBlockSteps firstEpoch 1 (formatNumbers .keys1) (keyInNoise noise)
+    ++ commitBlockSteps firstEpoch 0 (formatNumbers .commit) (formatted .map) (formatted .letters)))
 
 unfoldable pub formatOf : List ℕ → List ℕ → List ℕ → List ℕ → Outcome
 formatOf img map letters noise =

@@ -170,7 +170,7 @@ mountTests img map letters scratch =
 
 -- refusals 12 to 14 fill map with 65,535, letters with d, scratch with 0; 1 and 2 change nothing; either way the numbers are all 0
 abbrev pub fills : Reply → Bool
-fills v = leb 12 (numberOf v)
+fills v = leb (numberOf NoKeyBlock) (numberOf v)
 
 abbrev pub unmounted : Reply → List ℕ → List ℕ → Record
 unmounted v map letters =

@@ -1,18 +1,14 @@
 -- The lowest open page, found block by block, and a second empty block, found after the lowest.
-use Prim.Native.Nat.{ℕ, zero, suc, _+_, _-_, _*_, _<_, _≤_}
+use Prim.Native.Nat.{ℕ, _+_, _-_, _*_, _<_, _≤_}
 use native.Mathlib.Omega.{arith}
-use native.Mathlib.Nat.{zero-add}
-use native.Mathlib.Numerals.{add-one}
 use native.Mathlib.Decide.{decLt}
 use mathlib.Core.Path.{_≡_, refl, sym, ap, _∙_}
 use mathlib.Core.Bool.{Bool, true, false, cond, _&&_, and-false}
 use mathlib.Core.List.{List}
-use lib.Dec.{leb}
 use lib.ListN.{length, getD, getD-replicate}
-use borrow.Author.Tests.{le-leb, lt-leb}
-use Rattle.base.specs.Search.{firstFrom, countFrom, allFrom, anyFrom}
+use Rattle.base.specs.Search.{firstFrom, allFrom, anyFrom}
 use Rattle.base.proofs.Choice.{true-false}
-use Rattle.base.proofs.Searches.{first-bounds, first-holds, first-least, first-all, first-agree, all-holds, all-intro, count-any}
+use Rattle.base.proofs.Searches.{first-all, first-agree, all-holds, all-intro, first-is, two-pass}
 use Rattle.base.proofs.Parts.{part-at}
 use Rattle.page.specs.Frame.{pageSize, erased}
 use Rattle.image.specs.Size.{blockSize, pagesInBlock, blocks}
@@ -23,39 +19,6 @@ use Rattle.store.specs.Find.{isOpen, freshPage}
 use Rattle.store.specs.declared.Numbers.{Numbers}
 use Rattle.store.specs.declared.Found.the-variants.{At, Nothing}
 use Rattle.store.proofs.BlockKinds.{page-block}
-
--- ---- where a search ends
-pub first-is : (p : ℕ → Bool) (n i b : ℕ) → i ≤ b → b ≤ i + n → (b < i + n → p b ≡ true) → ((a : ℕ) → i ≤ a → a < b → p a ≡ false) → firstFrom p n i ≡ b
-first-is p n i b h k holds below =
-    let f = first-bounds p n i in
-    elim (decLt (firstFrom p n i) b) [
-      | yes l ↦ absurd (true-false (first-holds p n i (omega arith)) (below (firstFrom p n i) (f .0) l))
-      | no l ↦ elim (decLt b (firstFrom p n i)) [
-        | yes m ↦ absurd (true-false (holds (omega arith)) (first-least p n i b h m))
-        | no m ↦ omega arith
-      ]
-    ]
-
--- a search from a on ends in the next w numbers where one of them passes, and goes on after them where none does
-module _ (p : ℕ → Bool) (n a w : ℕ) (fits : a + w ≤ n) where
-  row-least : (j : ℕ) → a ≤ j → j < a + firstFrom (λ i. p (a + i)) w 0 → p j ≡ false
-  row-least j h k =
-      let e : a + (j - a) ≡ j = omega arith in
-      rw e at (first-least (λ i. p (a + i)) w 0 (j - a) (omega arith) (omega arith))
-
-  pub first-in-row : firstFrom (λ i. p (a + i)) w 0 < w → firstFrom p (n - a) a ≡ a + firstFrom (λ i. p (a + i)) w 0
-  first-in-row h =
-      first-is p (n - a) a (a + firstFrom (λ i. p (a + i)) w 0) (omega arith) (omega arith) (λ l. first-holds (λ i. p (a + i)) w 0 (omega arith)) row-least
-
-  pub first-past-row : firstFrom (λ i. p (a + i)) w 0 ≡ w → firstFrom p (n - a) a ≡ firstFrom p (n - (a + w)) (a + w)
-  first-past-row e =
-      let r = firstFrom p (n - (a + w)) (a + w) in
-      let f = first-bounds p (n - (a + w)) (a + w) in
-      first-is p (n - a) a r (omega arith) (omega arith) (λ l. first-holds p (n - (a + w)) (a + w) (omega arith))
-      (λ j h k. elim (decLt j (a + w)) [
-        | yes l ↦ row-least j h (omega arith)
-        | no l ↦ first-least p (n - (a + w)) (a + w) j (omega arith) k
-      ])
 
 -- ---- the open pages of a block
 -- the first byte of an empty page
@@ -116,30 +79,8 @@ module _ (img : List ℕ) (b : ℕ) where
       go false i e k = and-false (isData img r b)
 
 -- ---- two empty blocks
--- two pass exactly if another passes after the first
-second : (c : ℕ) → leb 2 (1 + c) ≡ leb 1 c
-second c =
-    elim (decLt c 1) [
-      | yes h ↦ rw (lt-leb 1 c h) (lt-leb 2 (1 + c) (omega arith))
-      | no h ↦ rw (le-leb 1 c (omega arith)) (le-leb 2 (1 + c) (omega arith))
-    ]
-
-two-from : (p : ℕ → Bool) (n i : ℕ) → leb 2 (countFrom p n i) ≡ anyFrom p (i + n - (firstFrom p n i + 1)) (firstFrom p n i + 1)
-unfolding countFrom firstFrom anyFrom
-two-from p zero i = let e : i + 0 - (i + 1) ≡ 0 = omega arith in rw e
-two-from p (suc n) i = go (p i) (two-from p n (suc i))
-  where
-    go : (t : Bool) → leb 2 (countFrom p n (suc i)) ≡ anyFrom p (suc i + n - (firstFrom p n (suc i) + 1)) (firstFrom p n (suc i) + 1)
-        → leb 2 (cond t 1 0 + countFrom p n (suc i)) ≡ anyFrom p (i + suc n - (cond t i (firstFrom p n (suc i)) + 1)) (cond t i (firstFrom p n (suc i)) + 1)
-    go true r =
-        let e : i + suc n - (i + 1) ≡ n = omega arith in
-        rw (e, add-one i, ← count-any p n (suc i)) (second (countFrom p n (suc i)))
-    go false r =
-        let e : i + suc n ≡ suc i + n = omega arith in
-        rw (zero-add, e) r
-
 pub two-empty : (img : List ℕ) → freshPage img ≡ cond (anyFrom (blockEmpty img) (blocks img - (lowestEmpty img + 1)) (lowestEmpty img + 1)) (At (lowestEmpty img * pagesInBlock)) Nothing
 unfolding freshPage emptyBlocks lowestEmpty
 two-empty img =
     let e : 0 + blocks img ≡ blocks img = omega arith in
-    rw (two-from (blockEmpty img) (blocks img) 0, e)
+    rw (two-pass (blockEmpty img) (blocks img) 0, e)

@@ -5,11 +5,10 @@ use mathlib.Core.Path.{_≡_, _∙_}
 use borrow.Author.Needs.{needs}
 use borrow.Author.Tests.{lt-ltb, le-ltb}
 use Rattle.base.specs.Search.{firstFrom}
-use Rattle.base.proofs.Searches.{first-none}
+use Rattle.base.proofs.Searches.{first-none, first-in-row, first-past-row}
 use Rattle.image.specs.Size.{pagesInBlock, blocks, pages}
 use Rattle.image.proofs.Looks.{sized}
 use Rattle.store.specs.Find.{isOpen}
-use Rattle.store.proofs.OpenPages.{first-in-row, first-past-row}
 use Rattle.store.proofs.find.open_page.Statement.{statement}
 use Rattle.store.proofs.find.open_page.Tie as tie
 

@@ -30,7 +30,7 @@ use Rattle.page.specs.declared.Form.the-variants.{Empty, Whole, Torn, Spoilt}
 use Rattle.page.proofs.HeaderLaws.{header-spelt}
 use Rattle.image.specs.Size.{blockSize, pagesInBlock, blocks}
 use Rattle.image.specs.Look.{pageAt, formAt, pageEmpty}
-use Rattle.store.specs.Kind.{pageIn, sameFrame, wholeWith, keyBlockWhole, commitBlockWhole, kindOfFirst, kindOf, isEventLetter, headed, isChosen, isData}
+use Rattle.store.specs.Kind.{pageIn, sameFrame, wholeWith, keyBlockWhole, commitBlockWhole, kindOfFirst, kindOf, isEventLetter, headed, isChosen, isData, hasEvents}
 use Rattle.store.specs.Find.{isOpen}
 use Rattle.store.specs.declared.Numbers.{Numbers}
 use Rattle.store.specs.declared.Kind.{Kind}
@@ -333,10 +333,6 @@ unfolding kindOf
 kind-unbegun img b e = rw (empty-form img (pageIn b 0) e)
 
 -- ---- data blocks
--- a whole or torn N or D page stands in block b
-abbrev pub hasEvents : List ℕ → ℕ → Bool
-hasEvents img b = anyFrom (λ i. headed (formAt img (pageIn b i))) pagesInBlock 0
-
 -- a whole key or commit block has no whole or torn N or D page
 pub chosen-is-no-data : (img : List ℕ) (b : ℕ) → (kindOf img b ≡ Other → ⊥) → hasEvents img b ≡ false
 chosen-is-no-data img b h = any-all-fail _ pagesInBlock 0 (λ i l m. go (kindOf img b) refl i (omega arith))

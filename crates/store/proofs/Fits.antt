@@ -24,10 +24,10 @@ use Rattle.page.proofs.Ranges.{within-true, within-intro}
 use Rattle.image.proofs.Looks.{sized}
 use Rattle.image.specs.Size.{blockSize, blocks, pages, sizeRight}
 use Rattle.image.specs.Look.{formAt}
-use Rattle.store.specs.Kind.{kindOf, keysEpoch, commitEpoch, isData}
+use Rattle.store.specs.Kind.{kindOf, keysEpoch, commitEpoch, isData, hasEvents}
 use Rattle.store.specs.Record.{Record, pageOf, keyOf, live, isAt, nodeAt, placeFits, namedTimes, keysApart, lettersFit, numbersFit, blocksFit, fits}
 use Rattle.store.specs.declared.Kind.the-variants.{Keys, Commit}
-use Rattle.store.proofs.BlockKinds.{whole-in-range, whole-inside, keys-range, commit-range, keys-inside, commit-inside, hasEvents, data-has-events}
+use Rattle.store.proofs.BlockKinds.{whole-in-range, whole-inside, keys-range, commit-range, keys-inside, commit-inside, data-has-events}
 use Rattle.store.proofs.Choices.{commit-epoch, keys-epoch}
 
 -- ---- places

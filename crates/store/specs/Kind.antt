@@ -92,6 +92,10 @@ headed Spoilt = false
 abbrev pub isChosen : Numbers → ℕ → Bool
 isChosen r b = eqb b (r .keys0) || eqb b (r .keys1) || eqb b (r .commit)
 
--- a data block has a whole or torn N or D page and is no chosen block
+-- a whole or torn N or D page stands in block b
+abbrev pub hasEvents : List ℕ → ℕ → Bool
+hasEvents img b = anyFrom (λ i. headed (formAt img (pageIn b i))) pagesInBlock 0
+
+-- a data block: it has such a page and is none of the chosen
 unfoldable pub isData : List ℕ → Numbers → ℕ → Bool
-isData img r b = anyFrom (λ i. headed (formAt img (pageIn b i))) pagesInBlock 0 && not (isChosen r b)
+isData img r b = hasEvents img b && not (isChosen r b)

@@ -118,11 +118,13 @@ spends s p Spoilt = false
 unfoldable pub isSpent : List ℕ → ℕ → ℕ → Bool
 isSpent img c p = anyFrom (λ g. spends (coveredIn img c) p (formAt img g)) (pages img) 0
 
--- used if a live node names it; else deleted if its letter was not f or such a page names it; else free
+-- the letter of a position that no live node names: free if its letter was f and no such page names it, else deleted
+abbrev pub unusedLetter : List ℕ → ℕ → ℕ → ℕ
+unusedLetter img c p = cond (not (eqb (letterIn img c p) freeLetter) || isSpent img c p) deletedLetter freeLetter
+
+-- used if a live node names it
 unfoldable pub mountLetter : List ℕ → ℕ → ℕ → ℕ
-mountLetter img c p =
-    cond (leb 1 (namedTimes (mountMap img c) p)) usedLetter
-    (cond (not (eqb (letterIn img c p) freeLetter) || isSpent img c p) deletedLetter freeLetter)
+mountLetter img c p = cond (leb 1 (namedTimes (mountMap img c) p)) usedLetter (unusedLetter img c p)
 
 -- ---- next numbers: one above the highest
 abbrev pub sequenceOf : Form → ℕ

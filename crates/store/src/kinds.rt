@@ -17,7 +17,7 @@ ghost use Rattle.page.specs.Entry.{parts, validPayload};
 ghost use Rattle.page.specs.Page.{payloadOf};
 ghost use Rattle.image.specs.Size.{blockSize, pagesInBlock};
 ghost use Rattle.image.specs.Look.{pageAt, pageEmpty, formAt};
-ghost use Rattle.store.specs.Kind.{pageIn, sameFrame, wholeWith, keyBlockWhole, partWhole, kindBy, kindOf, keysEpoch, commitEpoch, coveredBy, isEventLetter, headed, isChosen, isData};
+ghost use Rattle.store.specs.Kind.{pageIn, sameFrame, wholeWith, keyBlockWhole, partWhole, kindBy, kindOf, keysEpoch, commitEpoch, coveredBy, isEventLetter, headed, hasEvents, isChosen, isData};
 
 // Whether two headers are the same, field by field.
 fn same_frame(f: Frame, h: Frame) -> bool
@@ -255,7 +255,7 @@ fn event_at(image: &[u8], g: usize) -> bool
 // Whether block b has a whole or torn N or D page.
 pub fn has_event(image: &[u8], b: usize) -> bool
     requires { ⌜ b * blockSize + blockSize ≤ length (now image) ⌝ }
-    ensures { λ r. ⌜ r ≡ anyFrom (λ i. headed (formAt (now (image .entry)) (pageIn b i))) pagesInBlock 0 ⌝ }
+    ensures { λ r. ⌜ r ≡ hasEvents (now (image .entry)) b ⌝ }
 {
     let mut i: usize = 0;
     while i < PAGES_IN_BLOCK {

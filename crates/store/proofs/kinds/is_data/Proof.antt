@@ -1,8 +1,7 @@
 -- `store::kinds::is_data` meets its contract: no chosen block, then by its pages.
 use mathlib.Core.Path.{_≡_, sym, _∙_}
 use mathlib.Core.Bool.{true, false, and-true, and-false}
-use Rattle.store.specs.Kind.{isChosen, isData}
-use Rattle.store.proofs.BlockKinds.{hasEvents}
+use Rattle.store.specs.Kind.{isChosen, isData, hasEvents}
 use borrow.Author.Needs.{needs}
 use Rattle.store.proofs.kinds.is_data.Statement.{statement}
 use Rattle.store.proofs.kinds.is_data.Tie as tie

@@ -252,7 +252,8 @@ pub extern "C" fn johvimaru_page_cut_off(
     if page.len() != Frame::PAGE {
         return REFUSED;
     }
-    writers::write_cut_off(page, sequence, file, offset, k);
+    let spaces = [b' '; Frame::PAYLOAD];
+    writers::write_page(page, Frame::cut_off(sequence, file, offset), &spaces, k);
     DONE
 }
 
@@ -283,7 +284,7 @@ pub extern "C" fn johvimaru_commit_page(
     }
     let mut payload = [0u8; Frame::PAYLOAD];
     entries::write_commit_payload(&mut payload, map, letters, part as usize);
-    writers::write_commit_page(page, epoch, part, covered, &payload, k);
+    writers::write_page(page, Frame::commit(epoch, part, covered), &payload, k);
     DONE
 }
 

@@ -1,19 +1,20 @@
 -- A part of the image that was lent to the writer of a step and is back: the image after that step.
 use Prim.Native.Nat.{ℕ, _+_, _-_, _*_, min}
 use native.Mathlib.Omega.{arith}
-use mathlib.Core.Path.{_≡_, sym, ap, _∙_}
+use mathlib.Core.Path.{_≡_, sym, ap, ap₂, _∙_}
 use mathlib.Core.Bool.{true}
 use mathlib.Core.List.{List}
 use lib.ListN.{length, take, drop, replicate}
 use borrow.Rule.Slice.PartMut.{putMid}
 use Rattle.base.proofs.Parts.{lent, lent-fill}
 use Rattle.page.specs.Frame.{pageSize, erased}
-use Rattle.page.specs.Page.{cutPage}
+use Rattle.page.specs.Page.{pageBytes, cutPage}
+use Rattle.page.specs.declared.Frame.{Frame}
 use Rattle.page.proofs.Pages.{cut-length}
 use Rattle.image.specs.declared.Power.{Power}
 use Rattle.image.specs.Size.{blockSize}
 use Rattle.image.specs.Step.{program, erase, Inside, upTo}
-use Rattle.image.specs.Power.{device, act, reach, lessStep}
+use Rattle.image.specs.Power.{Device, device, act, reach, lessStep}
 use Rattle.image.proofs.Runs.{act-on}
 
 module _ (img : List ℕ) (p q : Power) (on : p .on ≡ true) (less : q ≡ lessStep p) (k : ℕ) (far : k ≡ reach p) (zs : List ℕ) where
@@ -30,3 +31,9 @@ module _ (img : List ℕ) (p q : Power) (on : p .on ≡ true) (less : q ≡ less
   lent-program g page ins e =
       ap (device q) (lent img (g * pageSize) pageSize (ins .0) zs (cutPage k page) e (cut-length k page (ins .1)))
       ∙ rw (less, far) (sym (act-on (program g page) p img on ins))
+
+-- a page programmed from a header and a payload that are known under other names
+pub framed : (g : ℕ) (d d' : Device) (f h : Frame) (payload written : List ℕ) → f ≡ h → payload ≡ written
+    → d' ≡ act (program g (pageBytes f payload)) d → d' ≡ act (program g (pageBytes h written)) d
+framed g d d' f h payload written e w s =
+    s ∙ ap₂ (λ (x : Frame) (xs : List ℕ). act (program g (pageBytes x xs)) d) e w

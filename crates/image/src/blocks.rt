@@ -53,12 +53,10 @@ fn program_next_keys(
     let mut next = [0u8; Frame::PAYLOAD];
     let first = KEYS_IN_BLOCK * block as usize + KEYS_IN_PAGE * i;
     keys::renew_keys(&mut next, image, old, letters, noise, first);
-    steps::program_key_page(
+    steps::program_page(
         image,
         b * look::PAGES_IN_BLOCK + i,
-        epoch,
-        block,
-        i as u32,
+        Frame::keys(epoch, block, i as u32),
         &next,
         p,
     )
@@ -105,12 +103,10 @@ fn program_part(
 {
     let mut payload = [0u8; Frame::PAYLOAD];
     entries::write_commit_payload(&mut payload, map, letters, i);
-    steps::program_commit_page(
+    steps::program_page(
         image,
         b * look::PAGES_IN_BLOCK + i,
-        epoch,
-        i as u32,
-        covered,
+        Frame::commit(epoch, i as u32, covered),
         &payload,
         p,
     )

@@ -8,7 +8,7 @@ ghost use mathlib.Core.Path.{_≡_};
 ghost use Prim.Native.Nat.{_≤_, _+_, _*_, min};
 ghost use lib.ListN.{length};
 ghost use Rattle.page.specs.Frame.{pageSize, payloadSize};
-ghost use Rattle.page.specs.Page.{nodePage, cutOffPage, keysPage, commitPage};
+ghost use Rattle.page.specs.Page.{pageBytes, nodePage, cutOffPage};
 ghost use Rattle.image.specs.Size.{blockSize};
 ghost use Rattle.image.specs.Step.{program, erase};
 ghost use Rattle.image.specs.Power.{device, act, reach, lessStep};
@@ -97,6 +97,24 @@ pub fn program_node(
     after_step(p)
 }
 
+// Programs page g with a header and a payload that stands there as it is: keys, a part of a commit, a cut-off's spaces.
+pub fn program_page(image: &mut [u8], g: usize, f: Frame, payload: &[u8], p: Power) -> Power
+    requires { ⌜ (g * pageSize + pageSize ≤ length (now image)) × (length (now payload) ≡ payloadSize) ⌝ }
+    ensures { λ r. ⌜ device r (now (image .exit)) ≡ act (program g (pageBytes f (now (payload .entry)))) (device p (now (image .entry))) ⌝ }
+{
+    if !p.on {
+        return p;
+    }
+    let start = g * Frame::PAGE;
+    writers::write_page(
+        &mut image[start..start + Frame::PAGE],
+        f,
+        payload,
+        reach_of(p),
+    );
+    after_step(p)
+}
+
 // Programs page g with a cut-off.
 pub fn program_cut_off(
     image: &mut [u8],
@@ -109,72 +127,12 @@ pub fn program_cut_off(
     requires { ⌜ g * pageSize + pageSize ≤ length (now image) ⌝ }
     ensures { λ r. ⌜ device r (now (image .exit)) ≡ act (program g (cutOffPage sequence file offset)) (device p (now (image .entry))) ⌝ }
 {
-    if !p.on {
-        return p;
-    }
-    let start = g * Frame::PAGE;
-    writers::write_cut_off(
-        &mut image[start..start + Frame::PAGE],
-        sequence,
-        file,
-        offset,
-        reach_of(p),
-    );
-    after_step(p)
-}
-
-// Programs page g as page i of key block 0 or 1, with its keys.
-pub fn program_key_page(
-    image: &mut [u8],
-    g: usize,
-    epoch: u32,
-    block: u32,
-    i: u32,
-    keys: &[u8],
-    p: Power,
-) -> Power
-    requires { ⌜ (g * pageSize + pageSize ≤ length (now image)) × (length (now keys) ≡ payloadSize) ⌝ }
-    ensures { λ r. ⌜ device r (now (image .exit)) ≡ act (program g (keysPage epoch block i (now (keys .entry)))) (device p (now (image .entry))) ⌝ }
-{
-    if !p.on {
-        return p;
-    }
-    let start = g * Frame::PAGE;
-    writers::write_key_page(
-        &mut image[start..start + Frame::PAGE],
-        epoch,
-        block,
-        i,
-        keys,
-        reach_of(p),
-    );
-    after_step(p)
-}
-
-// Programs page g as part i of a commit.
-pub fn program_commit_page(
-    image: &mut [u8],
-    g: usize,
-    epoch: u32,
-    i: u32,
-    covered: u32,
-    payload: &[u8],
-    p: Power,
-) -> Power
-    requires { ⌜ (g * pageSize + pageSize ≤ length (now image)) × (length (now payload) ≡ payloadSize) ⌝ }
-    ensures { λ r. ⌜ device r (now (image .exit)) ≡ act (program g (commitPage epoch i covered (now (payload .entry)))) (device p (now (image .entry))) ⌝ }
-{
-    if !p.on {
-        return p;
-    }
-    let start = g * Frame::PAGE;
-    writers::write_commit_page(
-        &mut image[start..start + Frame::PAGE],
-        epoch,
-        i,
-        covered,
-        payload,
-        reach_of(p),
-    );
-    after_step(p)
+    let spaces = [b' '; Frame::PAYLOAD];
+    program_page(
+        image,
+        g,
+        Frame::cut_off(sequence, file, offset),
+        &spaces,
+        p,
+    )
 }

@@ -66,10 +66,6 @@ module _ (f : Frame) (payload : List ℕ) (h : length payload ≡ payloadSize) w
   page-splice ys e = splice-middle (headerBytes f) payload closing ys headerSize (length-header f) (h ∙ sym e)
 
 -- ---- the pages of each kind
--- what is said of a page of the frame f, said of the frame g that f is
-pub framed : (k : ℕ) (payload page : List ℕ) (f g : Frame) → f ≡ g → page ≡ cutPage k (pageBytes f payload) → page ≡ cutPage k (pageBytes g payload)
-framed k payload page f g e p = p ∙ ap (λ (h : Frame). cutPage k (pageBytes h payload)) e
-
 pub node-length : (sequence file offset position : ℕ) (key payload : List ℕ) → length payload ≡ payloadSize → length (nodePage sequence file offset position key payload) ≡ pageSize
 unfolding nodePage
 node-length sequence file offset position key payload h =

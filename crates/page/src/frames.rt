@@ -11,8 +11,6 @@ impl Frame {
 
     pub const PAYLOAD: usize = 224;
 
-    pub const CLOSING: usize = 2;
-
     pub const CLOSING_AT: usize = 254;
 
     // An erased byte.

@@ -6,7 +6,7 @@ ghost use mathlib.Core.Path.{_≡_};
 ghost use lib.ListN.{length};
 ghost use Rattle.base.specs.Part.{splice};
 ghost use Rattle.page.specs.Frame.{headerSize, payloadSize, pageSize};
-ghost use Rattle.page.specs.Page.{pageBytes, enciphered, nodePage, cutOffPage, keysPage, commitPage, payloadOf, cutPage};
+ghost use Rattle.page.specs.Page.{pageBytes, enciphered, nodePage, payloadOf, cutPage};
 
 // Writes a page whole: header, payload, closing.
 fn write_whole(page: &mut [u8], f: Frame, payload: &[u8])
@@ -65,38 +65,6 @@ pub fn write_node(
     write_whole(page, Frame::node(sequence, file, offset, position), payload);
     encipher(page, key);
     cut(page, k);
-}
-
-// Writes a cut-off's page, its payload spaces.
-pub fn write_cut_off(page: &mut [u8], sequence: u32, file: u32, offset: u32, k: usize)
-    requires { ⌜ length (now page) ≡ pageSize ⌝ }
-    ensures { λ _. ⌜ now (page .exit) ≡ cutPage k (cutOffPage sequence file offset) ⌝ }
-{
-    let spaces = [b' '; Frame::PAYLOAD];
-    write_page(page, Frame::cut_off(sequence, file, offset), &spaces, k);
-}
-
-// Writes page i of a key block, with its 14 keys.
-pub fn write_key_page(page: &mut [u8], epoch: u32, block: u32, i: u32, keys: &[u8], k: usize)
-    requires { ⌜ (length (now page) ≡ pageSize) × (length (now keys) ≡ payloadSize) ⌝ }
-    ensures { λ _. ⌜ now (page .exit) ≡ cutPage k (keysPage epoch block i (now (keys .entry))) ⌝ }
-{
-    write_page(page, Frame::keys(epoch, block, i), keys, k);
-}
-
-// Writes part i of a commit.
-pub fn write_commit_page(
-    page: &mut [u8],
-    epoch: u32,
-    i: u32,
-    covered: u32,
-    payload: &[u8],
-    k: usize,
-)
-    requires { ⌜ (length (now page) ≡ pageSize) × (length (now payload) ≡ payloadSize) ⌝ }
-    ensures { λ _. ⌜ now (page .exit) ≡ cutPage k (commitPage epoch i covered (now (payload .entry))) ⌝ }
-{
-    write_page(page, Frame::commit(epoch, i, covered), payload, k);
 }
 
 // Reads the payload of a node under its key.

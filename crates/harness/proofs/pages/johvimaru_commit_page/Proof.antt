@@ -1,11 +1,10 @@
 -- `pages::johvimaru_commit_page` gives a part of a commit up to byte k, or refuses a length or a part.
-use mathlib.Core.Path.{ap, _∙_}
-use mathlib.Core.List.{List}
-use Prim.Native.Nat.{ℕ}
+use mathlib.Core.Path.{ap}
 use borrow.Author.Tests.{eq-eqb, ne-eqb, lt-ltb, le-ltb}
-use Rattle.page.specs.Page.{commitPage, cutPage}
+use Rattle.page.specs.Page.{commitPage}
 use Rattle.harness.specs.Answer.{answer}
 use Rattle.harness.specs.Page.{commitPageAnswer}
+use Rattle.harness.proofs.Framed.{framed}
 use borrow.Author.Needs.{needs}
 use Rattle.harness.proofs.pages.johvimaru_commit_page.Statement.{statement}
 use Rattle.harness.proofs.pages.johvimaru_commit_page.Tie as tie
@@ -32,25 +31,24 @@ slice-aggregate-write-commit-payload c = search needs
 write-commit-payload-requires : tie.Need-write-commit-payload-requires
 write-commit-payload-requires c κs = search needs
 
-slice-aggregate-write-commit-page : tie.Need-slice-aggregate-write-commit-page
-slice-aggregate-write-commit-page c = search needs
+commit-requires : tie.Need-commit-requires
+commit-requires c κs = search needs
 
-write-commit-page-requires : tie.Need-write-commit-page-requires
-write-commit-page-requires c κs = search needs
+slice-aggregate-write-page : tie.Need-slice-aggregate-write-page
+slice-aggregate-write-page c = search needs
+
+write-page-requires : tie.Need-write-page-requires
+write-page-requires c κs = search needs
 
 same-length : tie.Need-same-length
 same-length c = search needs
 
 returns-5 : tie.Need-returns-5
-unfolding commitPageAnswer
+unfolding commitPageAnswer commitPage
 returns-5 c =
-    let w = c .before .before .before .before .before .before in
-    let e = w .before .before in
-    let a = e .before .before .before .before .before .before .before .args in
+    let e = c .before .before .before .before .before .before .before .before .before in
     rw (eq-eqb _ _ (e .before .before .before .if1 .left), lt-ltb _ _ (e .before .before .if2 .left), eq-eqb _ _ (e .before .if3 .left), eq-eqb _ _ (e .if4 .left))
-    (ap (answer 0)
-    (c .before .before .write-commit-page .ensures
-    ∙ ap (λ (payload : List ℕ). cutPage (a .k) (commitPage (a .epoch) (a .part) (a .covered) payload)) (w .write-commit-payload .ensures)))
+    (ap (answer 0) (framed _ _ _ _ _ _ (c .before .before .before .before .commit .ensures) (c .before .before .before .before .before .before .before .write-commit-payload .ensures) (c .before .before .write-page .ensures)))
 
 pub johvimaru-commit-page-spec : {M : Type 1} → statement M
 johvimaru-commit-page-spec =
@@ -62,7 +60,8 @@ johvimaru-commit-page-spec =
     returns-4
     slice-aggregate-write-commit-payload
     write-commit-payload-requires
-    slice-aggregate-write-commit-page
-    write-commit-page-requires
+    commit-requires
+    slice-aggregate-write-page
+    write-page-requires
     same-length
     returns-5)

@@ -1,8 +1,10 @@
 -- `pages::johvimaru_page_cut_off` gives the page of a cut-off up to byte k, or refuses a length.
-use mathlib.Core.Path.{ap}
+use mathlib.Core.Path.{refl, ap}
 use borrow.Author.Tests.{eq-eqb, ne-eqb}
+use Rattle.page.specs.Page.{cutOffPage}
 use Rattle.harness.specs.Answer.{answer}
 use Rattle.harness.specs.Page.{cutOffAnswer}
+use Rattle.harness.proofs.Framed.{framed}
 use borrow.Author.Needs.{needs}
 use Rattle.harness.proofs.pages.johvimaru_page_cut_off.Statement.{statement}
 use Rattle.harness.proofs.pages.johvimaru_page_cut_off.Tie as tie
@@ -11,16 +13,31 @@ returns : tie.Need-returns
 unfolding cutOffAnswer
 returns c = rw (ne-eqb _ _ (c .if1 .taken))
 
-write-cut-off-requires : tie.Need-write-cut-off-requires
-write-cut-off-requires c κs = search needs
+cut-off-requires : tie.Need-cut-off-requires
+cut-off-requires c κs = search needs
+
+slice-aggregate-write-page : tie.Need-slice-aggregate-write-page
+slice-aggregate-write-page c = search needs
+
+write-page-requires : tie.Need-write-page-requires
+write-page-requires c κs = search needs
 
 same-length : tie.Need-same-length
 same-length c = search needs
 
 returns-2 : tie.Need-returns-2
-unfolding cutOffAnswer
-returns-2 c = rw (eq-eqb _ _ (c .before .before .before .before .if1 .left)) (ap (answer 0) (c .before .before .write-cut-off .ensures))
+unfolding cutOffAnswer cutOffPage
+returns-2 c =
+    rw (eq-eqb _ _ (c .before .before .before .before .before .before .if1 .left))
+    (ap (answer 0) (framed _ _ _ _ _ _ (c .before .before .before .before .cut-off .ensures) refl (c .before .before .write-page .ensures)))
 
 pub johvimaru-page-cut-off-spec : {M : Type 1} → statement M
 johvimaru-page-cut-off-spec =
-    tie.close (tie.spec returns write-cut-off-requires same-length returns-2)
+    tie.close
+    (tie.spec
+    returns
+    cut-off-requires
+    slice-aggregate-write-page
+    write-page-requires
+    same-length
+    returns-2)

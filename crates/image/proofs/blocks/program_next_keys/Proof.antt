@@ -1,4 +1,6 @@
 -- `blocks::program_next_keys` puts the next keys together and programs the page with them.
+use Rattle.page.specs.Page.{keysPage}
+use Rattle.image.proofs.Lent.{framed}
 use borrow.Author.Needs.{needs}
 use Rattle.image.proofs.blocks.program_next_keys.Statement.{statement}
 use Rattle.image.proofs.blocks.program_next_keys.Tie as tie
@@ -18,26 +20,30 @@ slice-aggregate-renew-keys c = search needs
 renew-keys-requires : tie.Need-renew-keys-requires
 renew-keys-requires c κs = search needs
 
-mul-program-key-page : tie.Need-mul-program-key-page
-mul-program-key-page c = search needs
+mul-program-page : tie.Need-mul-program-page
+mul-program-page c = search needs
 
-add-program-key-page : tie.Need-add-program-key-page
-add-program-key-page c = search needs
+add-program-page : tie.Need-add-program-page
+add-program-page c = search needs
 
-cast-program-key-page : tie.Need-cast-program-key-page
-cast-program-key-page c = search needs
+cast-keys : tie.Need-cast-keys
+cast-keys c = search needs
 
-slice-aggregate-program-key-page : tie.Need-slice-aggregate-program-key-page
-slice-aggregate-program-key-page c = search needs
+keys-requires : tie.Need-keys-requires
+keys-requires c κs = search needs
 
-program-key-page-requires : tie.Need-program-key-page-requires
-program-key-page-requires c κs = search needs
+slice-aggregate-program-page : tie.Need-slice-aggregate-program-page
+slice-aggregate-program-page c = search needs
+
+program-page-requires : tie.Need-program-page-requires
+program-page-requires c κs = search needs
 
 same-length : tie.Need-same-length
 same-length c = search needs
 
 returns : tie.Need-returns
-returns c = rw (← c .before .before .before .before .before .before .renew-keys .ensures) (c .before .before .program-key-page .ensures)
+unfolding keysPage
+returns c = framed _ _ _ _ _ _ _ (c .before .before .before .before .keys .ensures) (c .before .before .before .before .before .before .before .renew-keys .ensures) (c .before .before .program-page .ensures)
 
 pub program-next-keys-spec : {M : Type 1} → statement M
 program-next-keys-spec =
@@ -48,10 +54,11 @@ program-next-keys-spec =
     add-first
     slice-aggregate-renew-keys
     renew-keys-requires
-    mul-program-key-page
-    add-program-key-page
-    cast-program-key-page
-    slice-aggregate-program-key-page
-    program-key-page-requires
+    mul-program-page
+    add-program-page
+    cast-keys
+    keys-requires
+    slice-aggregate-program-page
+    program-page-requires
     same-length
     returns)

@@ -1,0 +1,3 @@
+-- Laws of the harness.
+--   Framed   a page written from a header and a payload
+pub mod Framed

@@ -128,11 +128,5 @@ pub fn program_cut_off(
     ensures { λ r. ⌜ device r (now (image .exit)) ≡ act (program g (cutOffPage sequence file offset)) (device p (now (image .entry))) ⌝ }
 {
     let spaces = [b' '; Frame::PAYLOAD];
-    program_page(
-        image,
-        g,
-        Frame::cut_off(sequence, file, offset),
-        &spaces,
-        p,
-    )
+    program_page(image, g, Frame::cut_off(sequence, file, offset), &spaces, p)
 }

@@ -2,34 +2,31 @@
 use Prim.Native.Nat.{ℕ, _+_, _-_, _/_}
 use mathlib.Core.Bool.{Bool, cond, not, _&&_}
 use mathlib.Core.List.{List, [], _∷_, _++_, map}
-use lib.ListN.{length}
 use lib.Dec.{eqb, leb}
 use Rattle.base.specs.Search.{anyFrom, whichFrom}
 use Rattle.page.specs.Plan.{places}
 use Rattle.page.specs.Header.{lastNumber}
 use Rattle.page.specs.Entry.{freeLetter, deletedLetter}
-use Rattle.image.specs.Size.{pagesInBlock, blocks, sizeRight}
+use Rattle.image.specs.Size.{pagesInBlock, blocks}
 use Rattle.image.specs.Look.{blockAt, lowestEmpty, emptyBlocks}
 use Rattle.image.specs.Step.{Step, erase, playAll}
 use Rattle.image.specs.Block.{renewedKey, keyBlockSteps, commitBlockSteps}
 use Rattle.store.specs.Reply.{Test, _else_, verdict}
 use Rattle.store.specs.Kind.{isData}
-use Rattle.store.specs.Record.{Record, withNumbers, pageOf, live, fits}
-use Rattle.store.specs.Outcome.{Outcome, decided}
-use Rattle.store.specs.Format.{noiseSize, buffersRight}
-use Rattle.store.specs.Write.{keysBlock}
+use Rattle.store.specs.Record.{Record, recordOf, withNumbers, pageOf, live}
+use Rattle.store.specs.Outcome.{Outcome, Left, decided}
+use Rattle.store.specs.Format.{formatTests}
+use Rattle.store.specs.Write.{fitTests, keysBlock}
 use Rattle.store.specs.declared.Numbers.{Numbers}
-use Rattle.store.specs.declared.Reply.the-variants.{ImageSize, BufferLength, NoiseLength, RecordUnfit, NoRoom, NumbersSpent}
+use Rattle.store.specs.declared.Reply.the-variants.{NoRoom, NumbersSpent}
 
 abbrev pub commitTests : List ℕ → Record → List ℕ → List Test
 commitTests img r noise =
-    (sizeRight img else ImageSize)
-    ∷ (buffersRight (r .map) (r .letters) else BufferLength)
-    ∷ (eqb (length noise) noiseSize else NoiseLength)
-    ∷ (fits img r else RecordUnfit)
-    ∷ (leb (r .numbers .epoch) lastNumber else NumbersSpent)
+    formatTests img (r .map) (r .letters) noise
+    ++ (fitTests img r
+    ++ ((leb (r .numbers .epoch) lastNumber else NumbersSpent)
     ∷ (leb 1 (emptyBlocks img) else NoRoom)
-    ∷ []
+    ∷ []))
 
 -- ---- replacing one block: a new copy in the lowest empty block, then the old one erased
 unfoldable pub replaceKeys : List ℕ → Record → List ℕ → ℕ → List Step
@@ -100,3 +97,7 @@ unfoldable pub commitOf : List ℕ → Record → List ℕ → Outcome
 commitOf img r noise =
     let s = commitStages noise (begin img (cleaned r)) in
     decided (verdict (commitTests img r noise)) (s .steps) (s .after) [] r []
+
+-- what a commit leaves, whole or cut: the equation of its contracts
+abbrev pub commitLeaves : (Outcome → List ℕ → Left) → List ℕ → List ℕ → List ℕ → Numbers → List ℕ → Left
+commitLeaves form img map letters numbers noise = form (commitOf img (recordOf map letters numbers) noise) img

@@ -1,7 +1,7 @@
 -- Document 01, "Calls and their refusals": Cut-off from an offset.
 use Prim.Native.Nat.{ℕ, _+_, _-_}
 use mathlib.Core.Bool.{Bool}
-use mathlib.Core.List.{List, [], _∷_}
+use mathlib.Core.List.{List, [], _∷_, _++_}
 use lib.ListN.{set}
 use lib.Dec.{leb}
 use Rattle.base.specs.Search.{anyFrom}
@@ -10,15 +10,14 @@ use Rattle.page.specs.Plan.{filePlan, places, countOf}
 use Rattle.page.specs.Header.{lastNumber}
 use Rattle.page.specs.Entry.{none}
 use Rattle.page.specs.Page.{cutOffPage}
-use Rattle.image.specs.Size.{sizeRight}
 use Rattle.image.specs.Step.{Step, program}
 use Rattle.store.specs.Reply.{Test, _else_, verdict}
-use Rattle.store.specs.Record.{Record, withNumbers, live, fits}
-use Rattle.store.specs.Outcome.{Outcome, decided}
+use Rattle.store.specs.Record.{Record, recordOf, withNumbers, live}
+use Rattle.store.specs.Outcome.{Outcome, Left, decided}
 use Rattle.store.specs.Find.{newPage, isFound, foundAt}
-use Rattle.store.specs.Format.{buffersRight}
-use Rattle.store.specs.Write.{fileRight, offsetRight, placeAt, nextSequence, released}
-use Rattle.store.specs.declared.Reply.the-variants.{ImageSize, BufferLength, NoSuchFile, OffsetOutside, RecordUnfit, NothingThere, NoRoom, NumbersSpent}
+use Rattle.store.specs.Write.{placeTests, fitTests, placeAt, nextSequence, released}
+use Rattle.store.specs.declared.Numbers.{Numbers}
+use Rattle.store.specs.declared.Reply.the-variants.{NothingThere, NoRoom, NumbersSpent}
 
 -- the number of places of a file from an offset on
 abbrev pub restOf : ℕ → ℕ → ℕ
@@ -30,15 +29,12 @@ anyLive map file offset = anyFrom (live map) (restOf file offset) (placeAt file 
 
 abbrev pub cutOffTests : List ℕ → Record → ℕ → ℕ → List Test
 cutOffTests img r file offset =
-    (sizeRight img else ImageSize)
-    ∷ (buffersRight (r .map) (r .letters) else BufferLength)
-    ∷ (fileRight file else NoSuchFile)
-    ∷ (offsetRight file offset else OffsetOutside)
-    ∷ (fits img r else RecordUnfit)
-    ∷ (anyLive (r .map) file offset else NothingThere)
+    placeTests img (r .map) (r .letters) file offset
+    ++ (fitTests img r
+    ++ ((anyLive (r .map) file offset else NothingThere)
     ∷ (leb (r .numbers .sequence) lastNumber else NumbersSpent)
     ∷ (isFound (newPage img (r .numbers)) else NoRoom)
-    ∷ []
+    ∷ []))
 
 -- the record without place x: its key, if it had one, is d
 abbrev pub emptied : ℕ → Record → Record
@@ -58,3 +54,7 @@ cutOffOf img r file offset =
     decided (verdict (cutOffTests img r file offset)) (cutOffSteps img r file offset)
     (withNumbers (removed r file offset) (nextSequence (r .numbers))) []
     r []
+
+-- what a cut-off leaves, whole or cut: the equation of its contracts
+abbrev pub cutOffLeaves : (Outcome → List ℕ → Left) → List ℕ → List ℕ → List ℕ → Numbers → ℕ → ℕ → Left
+cutOffLeaves form img map letters numbers file offset = form (cutOffOf img (recordOf map letters numbers) file offset) img

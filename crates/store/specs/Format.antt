@@ -12,7 +12,7 @@ use Rattle.image.specs.Step.{Step, erase}
 use Rattle.image.specs.Block.{keyBlockSteps, commitBlockSteps}
 use Rattle.store.specs.Reply.{Test, _else_, verdict}
 use Rattle.store.specs.Record.{Record, mapSize}
-use Rattle.store.specs.Outcome.{Outcome, decided}
+use Rattle.store.specs.Outcome.{Outcome, Left, decided}
 use Rattle.store.specs.declared.Numbers.{Numbers}
 use Rattle.store.specs.declared.Reply.the-variants.{ImageSize, BufferLength, NoiseLength}
 
@@ -23,12 +23,13 @@ noiseSize = keySize * positions
 abbrev pub buffersRight : List ℕ → List ℕ → Bool
 buffersRight map letters = eqb (length map) mapSize && eqb (length letters) positions
 
+-- refusals 1 and 2 of every call but mount
+abbrev pub lentTests : List ℕ → List ℕ → List ℕ → List Test
+lentTests img map letters = (sizeRight img else ImageSize) ∷ (buffersRight map letters else BufferLength) ∷ []
+
+-- and 3 of those that bring keys; it is all that format tests
 abbrev pub formatTests : List ℕ → List ℕ → List ℕ → List ℕ → List Test
-formatTests img map letters noise =
-    (sizeRight img else ImageSize)
-    ∷ (buffersRight map letters else BufferLength)
-    ∷ (eqb (length noise) noiseSize else NoiseLength)
-    ∷ []
+formatTests img map letters noise = lentTests img map letters ++ ((eqb (length noise) noiseSize else NoiseLength) ∷ [])
 
 -- what a refused format or mount returns: all 0
 abbrev pub noNumbers : Numbers
@@ -57,3 +58,7 @@ formatSteps img noise =
 unfoldable pub formatOf : List ℕ → List ℕ → List ℕ → List ℕ → Outcome
 formatOf img map letters noise =
     decided (verdict (formatTests img map letters noise)) (formatSteps img noise) formatted [] (record { map = map; letters = letters; numbers = noNumbers }) []
+
+-- what a format leaves, whole or cut: the equation of its contracts
+abbrev pub formatLeaves : (Outcome → List ℕ → Left) → List ℕ → List ℕ → List ℕ → List ℕ → Left
+formatLeaves form img map letters noise = form (formatOf img map letters noise) img

@@ -24,7 +24,7 @@ use Rattle.image.specs.Step.{Step, erase}
 use Rattle.store.specs.Reply.{Test, _else_, verdict, numberOf}
 use Rattle.store.specs.Kind.{pageIn, kindOf, keysEpoch, commitEpoch, coveredBy, isEventLetter, isData, isChosen}
 use Rattle.store.specs.Record.{Record, mapSize, isAt, placeFits, namedTimes, keysApart}
-use Rattle.store.specs.Outcome.{Outcome, decided}
+use Rattle.store.specs.Outcome.{Outcome, Left, decided}
 use Rattle.store.specs.Find.{isFound, foundAt}
 use Rattle.store.specs.Format.{buffersRight, noNumbers}
 use Rattle.store.specs.declared.Numbers.{Numbers}
@@ -187,3 +187,7 @@ mountOf img map letters scratch =
     let v = verdict (mountTests img map letters scratch) in
     decided v (mountSteps img) (mounted img) (mountScratch img (foundAt (chosenCommit img)))
     (unmounted v map letters) (cond (fills v) (replicate places 0) scratch)
+
+-- what a mount leaves, whole or cut: the equation of its contracts
+abbrev pub mountLeaves : (Outcome → List ℕ → Left) → List ℕ → List ℕ → List ℕ → List ℕ → Left
+mountLeaves form img map letters scratch = form (mountOf img map letters scratch) img

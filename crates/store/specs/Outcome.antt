@@ -1,9 +1,10 @@
 -- Document 01, "Contracts and cases": what a call leaves, and what its form with n and k leaves.
-use Prim.Native.Nat.{ℕ}
+use Prim.Native.Nat.{ℕ, _+_}
 use mathlib.Core.Bool.{cond}
 use mathlib.Core.List.{List, []}
 use lib.ListN.{length}
 use lib.Dec.{ltb}
+use Rattle.image.specs.Size.{mostBlocks}
 use Rattle.image.specs.Step.{Step, play, playAll}
 use Rattle.store.specs.Reply.{isDone}
 use Rattle.store.specs.Record.{Record, recordOf}
@@ -49,6 +50,10 @@ left n k o img =
 -- the whole call: all its steps
 unfoldable pub leftWhole : Outcome → List ℕ → Left
 leftWhole o img = record { reply = o .reply; image = playAll (o .steps) img; after = o .after; lent = o .lent }
+
+-- no call has more steps than a wipe on the largest image if every block of it were dead
+abbrev pub mostSteps : ℕ
+mostSteps = mostBlocks + 56
 
 -- what stands, in the terms of the code: an answer, and what is in every lent buffer
 abbrev pub standing : Answer → List ℕ → List ℕ → List ℕ → List ℕ → Left

@@ -1,29 +1,18 @@
 -- Document 01, "Calls and their refusals": Read.
 use Prim.Native.Nat.{ℕ}
-use mathlib.Core.List.{List, [], _∷_}
-use lib.ListN.{length}
-use lib.Dec.{eqb}
-use Rattle.page.specs.Frame.{payloadSize}
+use mathlib.Core.List.{List, [], _∷_, _++_}
 use Rattle.page.specs.Page.{enciphered, payloadOf}
-use Rattle.image.specs.Size.{sizeRight}
 use Rattle.image.specs.Look.{pageAt}
 use Rattle.store.specs.Reply.{Test, _else_, verdict}
-use Rattle.store.specs.Record.{Record, pageOf, keyOf, live, fits}
-use Rattle.store.specs.Outcome.{Outcome, decided}
-use Rattle.store.specs.Format.{buffersRight}
-use Rattle.store.specs.Write.{fileRight, offsetRight, placeAt, keyHeld}
-use Rattle.store.specs.declared.Reply.the-variants.{ImageSize, BufferLength, NoSuchFile, OffsetOutside, PayloadLength, RecordUnfit, NothingThere}
+use Rattle.store.specs.Record.{Record, recordOf, pageOf, keyOf, live}
+use Rattle.store.specs.Outcome.{Outcome, Left, decided}
+use Rattle.store.specs.Write.{nodeTests, placeAt, keyHeld}
+use Rattle.store.specs.declared.Numbers.{Numbers}
+use Rattle.store.specs.declared.Reply.the-variants.{NothingThere}
 
 abbrev pub readTests : List ℕ → Record → ℕ → ℕ → List ℕ → List Test
 readTests img r file offset output =
-    (sizeRight img else ImageSize)
-    ∷ (buffersRight (r .map) (r .letters) else BufferLength)
-    ∷ (fileRight file else NoSuchFile)
-    ∷ (offsetRight file offset else OffsetOutside)
-    ∷ (eqb (length output) payloadSize else PayloadLength)
-    ∷ (fits img r else RecordUnfit)
-    ∷ (live (r .map) (placeAt file offset) else NothingThere)
-    ∷ []
+    nodeTests img r file offset output ++ ((live (r .map) (placeAt file offset) else NothingThere) ∷ [])
 
 -- the payload of the place's page, deciphered under the key of its position
 unfoldable pub contentOf : List ℕ → Record → ℕ → List ℕ
@@ -32,3 +21,7 @@ contentOf img r x = enciphered (keyHeld img (r .numbers) (keyOf (r .map) x)) (pa
 unfoldable pub readOf : List ℕ → Record → ℕ → ℕ → List ℕ → Outcome
 readOf img r file offset output =
     decided (verdict (readTests img r file offset output)) [] r (contentOf img r (placeAt file offset)) r output
+
+-- what a read leaves: the equation of its contracts
+abbrev pub readLeaves : (Outcome → List ℕ → Left) → List ℕ → List ℕ → List ℕ → Numbers → ℕ → ℕ → List ℕ → Left
+readLeaves form img map letters numbers file offset output = form (readOf img (recordOf map letters numbers) file offset output) img

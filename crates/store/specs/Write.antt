@@ -1,7 +1,7 @@
 -- Document 01, "Calls and their refusals": Write.
 use Prim.Native.Nat.{ℕ, _+_}
 use mathlib.Core.Bool.{Bool, cond}
-use mathlib.Core.List.{List, [], _∷_}
+use mathlib.Core.List.{List, [], _∷_, _++_}
 use lib.ListN.{length, set}
 use lib.Dec.{eqb, leb, ltb}
 use Rattle.page.specs.Frame.{payloadSize}
@@ -10,20 +10,19 @@ use Rattle.page.specs.Header.{lastNumber}
 use Rattle.page.specs.Key.{keyBlock}
 use Rattle.page.specs.Entry.{usedLetter, deletedLetter}
 use Rattle.page.specs.Page.{nodePage}
-use Rattle.image.specs.Size.{sizeRight}
 use Rattle.image.specs.Look.{blockAt}
 use Rattle.image.specs.Step.{Step, program}
 use Rattle.image.specs.Block.{keyInBlock}
 use Rattle.store.specs.Reply.{Test, _else_, verdict, isDone}
-use Rattle.store.specs.Record.{Record, keyOf, live, fits}
-use Rattle.store.specs.Outcome.{Outcome, decided}
+use Rattle.store.specs.Record.{Record, recordOf, keyOf, live, fits}
+use Rattle.store.specs.Outcome.{Outcome, Left, decided}
 use Rattle.store.specs.Find.{lowestFree, newPage, isFound, foundAt}
-use Rattle.store.specs.Format.{buffersRight}
+use Rattle.store.specs.Format.{lentTests}
 use Rattle.store.specs.declared.Numbers.{Numbers}
 use Rattle.store.specs.declared.Reply.{Reply}
 use Rattle.store.specs.declared.write.Taking.{Taking}
 use Rattle.store.specs.declared.write.Taking.the-variants.{Take, Refuse}
-use Rattle.store.specs.declared.Reply.the-variants.{ImageSize, BufferLength, NoSuchFile, OffsetOutside, PayloadLength, RecordUnfit, NoFreeKey, NoRoom, NumbersSpent}
+use Rattle.store.specs.declared.Reply.the-variants.{NoSuchFile, OffsetOutside, PayloadLength, RecordUnfit, NoFreeKey, NoRoom, NumbersSpent}
 
 -- refusals 4 and 5: file above 13; offset not below the count
 abbrev pub fileRight : ℕ → Bool
@@ -32,38 +31,29 @@ fileRight file = leb file lastFile
 abbrev pub offsetRight : ℕ → ℕ → Bool
 offsetRight file offset = ltb offset (countOf filePlan file)
 
+abbrev pub fileTests : ℕ → ℕ → List Test
+fileTests file offset = (fileRight file else NoSuchFile) ∷ (offsetRight file offset else OffsetOutside) ∷ []
+
 -- the tests that write, read and cut-off begin with
 abbrev pub placeTests : List ℕ → List ℕ → List ℕ → ℕ → ℕ → List Test
-placeTests img map letters file offset =
-    (sizeRight img else ImageSize)
-    ∷ (buffersRight map letters else BufferLength)
-    ∷ (fileRight file else NoSuchFile)
-    ∷ (offsetRight file offset else OffsetOutside)
-    ∷ []
+placeTests img map letters file offset = lentTests img map letters ++ fileTests file offset
+
+-- refusal 7
+abbrev pub fitTests : List ℕ → Record → List Test
+fitTests img r = (fits img r else RecordUnfit) ∷ []
 
 -- the tests that write and read begin with; the buffer is the payload or the output
 abbrev pub nodeTests : List ℕ → Record → ℕ → ℕ → List ℕ → List Test
 nodeTests img r file offset buffer =
-    (sizeRight img else ImageSize)
-    ∷ (buffersRight (r .map) (r .letters) else BufferLength)
-    ∷ (fileRight file else NoSuchFile)
-    ∷ (offsetRight file offset else OffsetOutside)
-    ∷ (eqb (length buffer) payloadSize else PayloadLength)
-    ∷ (fits img r else RecordUnfit)
-    ∷ []
+    placeTests img (r .map) (r .letters) file offset ++ (((eqb (length buffer) payloadSize else PayloadLength) ∷ []) ++ fitTests img r)
 
 abbrev pub writeTests : List ℕ → Record → ℕ → ℕ → List ℕ → List Test
 writeTests img r file offset payload =
-    (sizeRight img else ImageSize)
-    ∷ (buffersRight (r .map) (r .letters) else BufferLength)
-    ∷ (fileRight file else NoSuchFile)
-    ∷ (offsetRight file offset else OffsetOutside)
-    ∷ (eqb (length payload) payloadSize else PayloadLength)
-    ∷ (fits img r else RecordUnfit)
-    ∷ (leb (r .numbers .sequence) lastNumber else NumbersSpent)
+    nodeTests img r file offset payload
+    ++ ((leb (r .numbers .sequence) lastNumber else NumbersSpent)
     ∷ (isFound (lowestFree (r .letters)) else NoFreeKey)
     ∷ (isFound (newPage img (r .numbers)) else NoRoom)
-    ∷ []
+    ∷ [])
 
 -- what the tests of a write hand on: the key position and the page that it takes, or the refusal
 abbrev pub takingOf : Reply → ℕ → ℕ → Taking
@@ -108,3 +98,7 @@ writeOf img r file offset payload =
     decided (verdict (writeTests img r file offset payload)) (writeSteps img r file offset payload)
     (placed r (placeAt file offset) (foundAt (newPage img (r .numbers))) (foundAt (lowestFree (r .letters)))) []
     r []
+
+-- what a write leaves, whole or cut: the equation of its contracts
+abbrev pub writeLeaves : (Outcome → List ℕ → Left) → List ℕ → List ℕ → List ℕ → Numbers → ℕ → ℕ → List ℕ → Left
+writeLeaves form img map letters numbers file offset payload = form (writeOf img (recordOf map letters numbers) file offset payload) img

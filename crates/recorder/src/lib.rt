@@ -7,17 +7,17 @@ use store::replies;
 use store::write;
 ghost use mathlib.Core.Path.{_≡_};
 ghost use mathlib.Core.List.{[]};
+ghost use Rattle.base.specs.Lent.{old, new};
 ghost use Rattle.store.specs.Reply.{numberOf};
-ghost use Rattle.store.specs.Record.{recordOf};
 ghost use Rattle.store.specs.Outcome.{left, leftWhole};
-ghost use Rattle.store.specs.Format.{formatOf};
-ghost use Rattle.store.specs.Write.{writeOf};
-ghost use Rattle.store.specs.Read.{readOf};
+ghost use Rattle.store.specs.Format.{formatLeaves};
+ghost use Rattle.store.specs.Read.{readLeaves};
+ghost use Rattle.store.specs.Write.{writeLeaves};
 ghost use Rattle.recorder.specs.Face.{numbersOf, fiveOf, faced, face};
 
 // The record's numbers, from an array: next sequence, next epoch, key block 0, key block 1, commit block.
 fn numbers_of(five: &[u32; 5]) -> Numbers
-    ensures { λ r. ⌜ r ≡ numbersOf (now (five .entry)) ⌝ }
+    ensures { λ r. ⌜ r ≡ numbersOf (old five) ⌝ }
 {
     Numbers {
         sequence: five[0],
@@ -30,7 +30,7 @@ fn numbers_of(five: &[u32; 5]) -> Numbers
 
 // What a caller gets of an answer: the record's numbers in its array, and the reply's number.
 fn hand_over(answer: Answer, five: &mut [u32; 5]) -> u32
-    ensures { λ r. ⌜ (r ≡ numberOf (answer .reply)) × (now (five .exit) ≡ fiveOf (answer .numbers)) ⌝ }
+    ensures { λ r. ⌜ (r ≡ numberOf (answer .reply)) × (new five ≡ fiveOf (answer .numbers)) ⌝ }
 {
     let n = answer.numbers;
     *five = [n.sequence, n.epoch, n.keys0, n.keys1, n.commit];
@@ -44,13 +44,14 @@ pub extern "C" fn johvimaru_format(
     image: &mut [u8],
     map: &mut [u16],
     letters: &mut [u8],
-    numbers: &mut [u32; 5],
+    five: &mut [u32; 5],
     noise: &[u8],
 ) -> u32
-    ensures { λ r. ⌜ faced r (now (image .exit)) (now (map .exit)) (now (letters .exit)) (now (numbers .exit)) [] ≡ face (leftWhole (formatOf (now (image .entry)) (now (map .entry)) (now (letters .entry)) (now (noise .entry))) (now (image .entry))) ⌝ }
+    ensures { λ r. ⌜ faced r (new image) (new map) (new letters) (new five) []
+        ≡ face (formatLeaves leftWhole (old image) (old map) (old letters) (old noise)) ⌝ }
 {
     let answer = format::format(image, map, letters, noise);
-    hand_over(answer, numbers)
+    hand_over(answer, five)
 }
 
 // A format of which the power lasts for n steps and the first k bytes of the next.
@@ -59,15 +60,16 @@ pub extern "C" fn johvimaru_format_cut(
     image: &mut [u8],
     map: &mut [u16],
     letters: &mut [u8],
-    numbers: &mut [u32; 5],
+    five: &mut [u32; 5],
     noise: &[u8],
     n: u64,
     k: usize,
 ) -> u32
-    ensures { λ r. ⌜ faced r (now (image .exit)) (now (map .exit)) (now (letters .exit)) (now (numbers .exit)) [] ≡ face (left n k (formatOf (now (image .entry)) (now (map .entry)) (now (letters .entry)) (now (noise .entry))) (now (image .entry))) ⌝ }
+    ensures { λ r. ⌜ faced r (new image) (new map) (new letters) (new five) []
+        ≡ face (formatLeaves (left n k) (old image) (old map) (old letters) (old noise)) ⌝ }
 {
     let answer = format::format_cut(image, map, letters, noise, n, k);
-    hand_over(answer, numbers)
+    hand_over(answer, five)
 }
 
 // Writes a payload at a file's offset.
@@ -76,16 +78,17 @@ pub extern "C" fn johvimaru_write(
     image: &mut [u8],
     map: &mut [u16],
     letters: &mut [u8],
-    numbers: &mut [u32; 5],
+    five: &mut [u32; 5],
     file: u32,
     offset: u32,
     payload: &[u8],
 ) -> u32
-    ensures { λ r. ⌜ faced r (now (image .exit)) (now (map .exit)) (now (letters .exit)) (now (numbers .exit)) [] ≡ face (leftWhole (writeOf (now (image .entry)) (recordOf (now (map .entry)) (now (letters .entry)) (numbersOf (now (numbers .entry)))) file offset (now (payload .entry))) (now (image .entry))) ⌝ }
+    ensures { λ r. ⌜ faced r (new image) (new map) (new letters) (new five) [] ≡ face (writeLeaves leftWhole (old image)
+        (old map) (old letters) (numbersOf (old five)) file offset (old payload)) ⌝ }
 {
-    let before = numbers_of(numbers);
+    let before = numbers_of(five);
     let answer = write::write(image, map, letters, before, file, offset, payload);
-    hand_over(answer, numbers)
+    hand_over(answer, five)
 }
 
 // A write of which the power lasts for n steps and the first k bytes of the next.
@@ -94,18 +97,19 @@ pub extern "C" fn johvimaru_write_cut(
     image: &mut [u8],
     map: &mut [u16],
     letters: &mut [u8],
-    numbers: &mut [u32; 5],
+    five: &mut [u32; 5],
     file: u32,
     offset: u32,
     payload: &[u8],
     n: u64,
     k: usize,
 ) -> u32
-    ensures { λ r. ⌜ faced r (now (image .exit)) (now (map .exit)) (now (letters .exit)) (now (numbers .exit)) [] ≡ face (left n k (writeOf (now (image .entry)) (recordOf (now (map .entry)) (now (letters .entry)) (numbersOf (now (numbers .entry)))) file offset (now (payload .entry))) (now (image .entry))) ⌝ }
+    ensures { λ r. ⌜ faced r (new image) (new map) (new letters) (new five) [] ≡ face (writeLeaves (left n k)
+        (old image) (old map) (old letters) (numbersOf (old five)) file offset (old payload)) ⌝ }
 {
-    let before = numbers_of(numbers);
+    let before = numbers_of(five);
     let answer = write::write_cut(image, map, letters, before, file, offset, payload, n, k);
-    hand_over(answer, numbers)
+    hand_over(answer, five)
 }
 
 // Reads the payload at a file's offset into the output.
@@ -114,14 +118,15 @@ pub extern "C" fn johvimaru_read(
     image: &[u8],
     map: &[u16],
     letters: &[u8],
-    numbers: &[u32; 5],
+    five: &[u32; 5],
     file: u32,
     offset: u32,
     output: &mut [u8],
 ) -> u32
-    ensures { λ r. ⌜ faced r (now (image .entry)) (now (map .entry)) (now (letters .entry)) (now (numbers .entry)) (now (output .exit)) ≡ face (leftWhole (readOf (now (image .entry)) (recordOf (now (map .entry)) (now (letters .entry)) (numbersOf (now (numbers .entry)))) file offset (now (output .entry))) (now (image .entry))) ⌝ }
+    ensures { λ r. ⌜ faced r (old image) (old map) (old letters) (old five) (new output) ≡ face (readLeaves leftWhole
+        (old image) (old map) (old letters) (numbersOf (old five)) file offset (old output)) ⌝ }
 {
-    let before = numbers_of(numbers);
+    let before = numbers_of(five);
     let reply = read::read(image, map, letters, before, file, offset, output);
     replies::number(reply)
 }

@@ -14,12 +14,13 @@ ghost use mathlib.Core.Path.{_≡_};
 ghost use mathlib.Core.Bool.{true};
 ghost use mathlib.Core.List.{[]};
 ghost use lib.ListN.{length, replicate};
+ghost use Rattle.base.specs.Lent.{old, new};
 ghost use Rattle.page.specs.Entry.{none};
 ghost use Rattle.image.specs.Size.{sizeRight};
 ghost use Rattle.image.specs.Power.{device, run};
 ghost use Rattle.store.specs.Reply.{verdict};
 ghost use Rattle.store.specs.Outcome.{left, leftWhole, standing};
-ghost use Rattle.store.specs.Format.{noiseSize, noNumbers, formatNumbers, formatted, formatTests, formatSteps, formatOf};
+ghost use Rattle.store.specs.Format.{noiseSize, noNumbers, formatNumbers, formatted, formatTests, formatSteps, formatLeaves};
 ghost use Rattle.store.specs.Taken.{FormatTaken};
 
 // A key's worth of noise for each of the 448 positions.
@@ -62,7 +63,7 @@ fn first_numbers() -> Numbers
 
 // The tests of a format, in order.
 fn refuse_format(image: &[u8], map: &[u16], letters: &[u8], noise: &[u8]) -> Reply
-    ensures { λ r. ⌜ r ≡ verdict (formatTests (now (image .entry)) (now (map .entry)) (now (letters .entry)) (now (noise .entry))) ⌝ }
+    ensures { λ r. ⌜ r ≡ verdict (formatTests (old image) (old map) (old letters) (old noise)) ⌝ }
 {
     if !look::size_right(image) {
         return Reply::ImageSize;
@@ -78,7 +79,7 @@ fn refuse_format(image: &[u8], map: &[u16], letters: &[u8], noise: &[u8]) -> Rep
 
 // Makes every place vacant.
 pub fn clear_map(map: &mut [u16])
-    ensures { λ _. ⌜ now (map .exit) ≡ replicate (length (now (map .entry))) none ⌝ }
+    ensures { λ _. ⌜ new map ≡ replicate (length (old map)) none ⌝ }
 {
     let mut i = 0;
     while i < map.len() {
@@ -89,8 +90,9 @@ pub fn clear_map(map: &mut [u16])
 
 // Erases the image and programs an empty volume. All positions are free, so every key comes from the noise and none from the other key block.
 fn program_volume(image: &mut [u8], map: &[u16], letters: &[u8], noise: &[u8], p: Power) -> Power
-    requires { ⌜ (sizeRight (now image) ≡ true) × (now map ≡ formatted .map) × (now letters ≡ formatted .letters) × (length (now noise) ≡ noiseSize) ⌝ }
-    ensures { λ r. ⌜ device r (now (image .exit)) ≡ run (formatSteps (now (image .entry)) (now (noise .entry))) (device p (now (image .entry))) ⌝ }
+    requires { ⌜ (sizeRight (now image)
+        ≡ true) × (now map ≡ formatted .map) × (now letters ≡ formatted .letters) × (length (now noise) ≡ noiseSize) ⌝ }
+    ensures { λ r. ⌜ device r (new image) ≡ run (formatSteps (old image) (old noise)) (device p (old image)) ⌝ }
 {
     let erased = blocks::erase_all(image, p);
     let first = blocks::program_key_block(
@@ -126,7 +128,8 @@ fn format_taken(
     k: usize,
 ) -> Answer
     requires { ⌜ FormatTaken (now image) (now map) (now letters) (now noise) ⌝ }
-    ensures { λ r. ⌜ standing r (now (image .exit)) (now (map .exit)) (now (letters .exit)) [] ≡ left n k (formatOf (now (image .entry)) (now (map .entry)) (now (letters .entry)) (now (noise .entry))) (now (image .entry)) ⌝ }
+    ensures { λ r. ⌜ standing r (new image) (new map) (new letters) []
+        ≡ formatLeaves (left n k) (old image) (old map) (old letters) (old noise) ⌝ }
 {
     clear_map(map);
     bytes::fill(letters, entries::FREE);
@@ -156,7 +159,8 @@ pub fn format_cut(
     n: u64,
     k: usize,
 ) -> Answer
-    ensures { λ r. ⌜ standing r (now (image .exit)) (now (map .exit)) (now (letters .exit)) [] ≡ left n k (formatOf (now (image .entry)) (now (map .entry)) (now (letters .entry)) (now (noise .entry))) (now (image .entry)) ⌝ }
+    ensures { λ r. ⌜ standing r (new image) (new map) (new letters) []
+        ≡ formatLeaves (left n k) (old image) (old map) (old letters) (old noise) ⌝ }
 {
     let reply = refuse_format(image, map, letters, noise);
     if !replies::is_done(reply) {
@@ -170,7 +174,8 @@ pub fn format_cut(
 
 // Formats the image: an empty volume with keys from the noise, and the record of it.
 pub fn format(image: &mut [u8], map: &mut [u16], letters: &mut [u8], noise: &[u8]) -> Answer
-    ensures { λ r. ⌜ standing r (now (image .exit)) (now (map .exit)) (now (letters .exit)) [] ≡ leftWhole (formatOf (now (image .entry)) (now (map .entry)) (now (letters .entry)) (now (noise .entry))) (now (image .entry)) ⌝ }
+    ensures { λ r. ⌜ standing r (new image) (new map) (new letters) []
+        ≡ formatLeaves leftWhole (old image) (old map) (old letters) (old noise) ⌝ }
 {
     format_cut(image, map, letters, noise, ENOUGH, 0)
 }

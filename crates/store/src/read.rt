@@ -11,6 +11,7 @@ use page::writers;
 ghost use mathlib.Core.Path.{_≡_};
 ghost use Prim.Native.Nat.{_≤_, _<_, _+_, _*_};
 ghost use lib.ListN.{length};
+ghost use Rattle.base.specs.Lent.{old, new};
 ghost use Rattle.page.specs.Frame.{pageSize, payloadSize};
 ghost use Rattle.page.specs.Page.{enciphered, payloadOf};
 ghost use Rattle.page.specs.Plan.{places};
@@ -21,7 +22,7 @@ ghost use Rattle.store.specs.Reply.{verdict};
 ghost use Rattle.store.specs.Record.{recordOf, pageOf};
 ghost use Rattle.store.specs.Outcome.{answered, leftWhole, standing};
 ghost use Rattle.store.specs.Write.{keyHeld};
-ghost use Rattle.store.specs.Read.{contentOf, readTests, readOf};
+ghost use Rattle.store.specs.Read.{contentOf, readTests, readLeaves};
 ghost use Rattle.store.specs.Taken.{Ready};
 
 // The tests of a read, in order.
@@ -34,7 +35,8 @@ fn refuse_read(
     offset: u32,
     output: &[u8],
 ) -> Reply
-    ensures { λ r. ⌜ r ≡ verdict (readTests (now (image .entry)) (recordOf (now (map .entry)) (now (letters .entry)) numbers) file offset (now (output .entry))) ⌝ }
+    ensures { λ r. ⌜ r
+        ≡ verdict (readTests (old image) (recordOf (old map) (old letters) numbers) file offset (old output)) ⌝ }
 {
     let reply = tests::refuse_node(image, map, letters, numbers, file, offset, output);
     if !replies::is_done(reply) {
@@ -49,8 +51,9 @@ fn refuse_read(
 // Reads the payload of page g under the key of position p.
 fn read_node(image: &[u8], numbers: Numbers, g: usize, p: usize, output: &mut [u8])
     requires { ⌜ (g * pageSize + pageSize ≤ length (now image)) × (length (now output) ≡ payloadSize) ⌝ }
-    requires { ⌜ (numbers .keys0 * blockSize + blockSize ≤ length (now image)) × (numbers .keys1 * blockSize + blockSize ≤ length (now image)) ⌝ }
-    ensures { λ _. ⌜ now (output .exit) ≡ enciphered (keyHeld (now (image .entry)) numbers p) (payloadOf (pageAt (now (image .entry)) g)) ⌝ }
+    requires { ⌜ (numbers .keys0 * blockSize + blockSize ≤ length (now image))
+        × (numbers .keys1 * blockSize + blockSize ≤ length (now image)) ⌝ }
+    ensures { λ _. ⌜ new output ≡ enciphered (keyHeld (old image) numbers p) (payloadOf (pageAt (old image) g)) ⌝ }
 {
     let key = record::key_held(image, numbers, p);
     let start = g * Frame::PAGE;
@@ -68,7 +71,7 @@ fn read_place(
 )
     requires { ⌜ Ready (now image) (recordOf (now map) (now letters) numbers) ⌝ }
     requires { ⌜ (x < places) × (pageOf (now map) x < none) × (length (now output) ≡ payloadSize) ⌝ }
-    ensures { λ _. ⌜ now (output .exit) ≡ contentOf (now (image .entry)) (recordOf (now (map .entry)) (now (letters .entry)) numbers) x ⌝ }
+    ensures { λ _. ⌜ new output ≡ contentOf (old image) (recordOf (old map) (old letters) numbers) x ⌝ }
 {
     read_node(
         image,
@@ -89,7 +92,8 @@ pub fn read(
     offset: u32,
     output: &mut [u8],
 ) -> Reply
-    ensures { λ r. ⌜ standing (answered r numbers) (now (image .entry)) (now (map .entry)) (now (letters .entry)) (now (output .exit)) ≡ leftWhole (readOf (now (image .entry)) (recordOf (now (map .entry)) (now (letters .entry)) numbers) file offset (now (output .entry))) (now (image .entry)) ⌝ }
+    ensures { λ r. ⌜ standing (answered r numbers) (old image) (old map) (old letters) (new output)
+        ≡ readLeaves leftWhole (old image) (old map) (old letters) numbers file offset (old output) ⌝ }
 {
     let reply = refuse_read(image, map, letters, numbers, file, offset, output);
     if !replies::is_done(reply) {

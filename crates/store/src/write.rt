@@ -13,11 +13,12 @@ use image::steps;
 use page::headers::LAST_NUMBER;
 ghost use mathlib.Core.Path.{_≡_};
 ghost use mathlib.Core.List.{[]};
+ghost use Rattle.base.specs.Lent.{old, new};
 ghost use Rattle.store.specs.Reply.{verdict};
 ghost use Rattle.store.specs.Record.{recordOf};
 ghost use Rattle.store.specs.Outcome.{left, leftWhole, standing};
 ghost use Rattle.store.specs.Find.{lowestFree, newPage, foundAt};
-ghost use Rattle.store.specs.Write.{writeTests, takingOf, writeOf};
+ghost use Rattle.store.specs.Write.{writeTests, takingOf, writeLeaves};
 ghost use Rattle.store.specs.Taken.{WriteTaken};
 
 // What the tests of a write find: the key position and the page that it takes, or the refusal.
@@ -36,7 +37,8 @@ fn test_write(
     offset: u32,
     payload: &[u8],
 ) -> Taking
-    ensures { λ r. ⌜ r ≡ takingOf (verdict (writeTests (now (image .entry)) (recordOf (now (map .entry)) (now (letters .entry)) numbers) file offset (now (payload .entry)))) (foundAt (lowestFree (now (letters .entry)))) (foundAt (newPage (now (image .entry)) numbers)) ⌝ }
+    ensures { λ r. ⌜ r ≡ takingOf (verdict (writeTests (old image) (recordOf (old map) (old letters) numbers) file
+        offset (old payload))) (foundAt (lowestFree (old letters))) (foundAt (newPage (old image) numbers)) ⌝ }
 {
     let reply = tests::refuse_node(image, map, letters, numbers, file, offset, payload);
     if !replies::is_done(reply) {
@@ -70,7 +72,8 @@ fn write_taken(
 ) -> Answer
     requires { ⌜ WriteTaken (now image) (recordOf (now map) (now letters) numbers) file offset (now payload) ⌝ }
     requires { ⌜ (p ≡ foundAt (lowestFree (now letters))) × (g ≡ foundAt (newPage (now image) numbers)) ⌝ }
-    ensures { λ r. ⌜ standing r (now (image .exit)) (now (map .exit)) (now (letters .exit)) [] ≡ left n k (writeOf (now (image .entry)) (recordOf (now (map .entry)) (now (letters .entry)) numbers) file offset (now (payload .entry))) (now (image .entry)) ⌝ }
+    ensures { λ r. ⌜ standing r (new image) (new map) (new letters) []
+        ≡ writeLeaves (left n k) (old image) (old map) (old letters) numbers file offset (old payload) ⌝ }
 {
     let key = record::key_held(image, numbers, p);
     let power = steps::program_node(
@@ -107,7 +110,8 @@ pub fn write_cut(
     n: u64,
     k: usize,
 ) -> Answer
-    ensures { λ r. ⌜ standing r (now (image .exit)) (now (map .exit)) (now (letters .exit)) [] ≡ left n k (writeOf (now (image .entry)) (recordOf (now (map .entry)) (now (letters .entry)) numbers) file offset (now (payload .entry))) (now (image .entry)) ⌝ }
+    ensures { λ r. ⌜ standing r (new image) (new map) (new letters) []
+        ≡ writeLeaves (left n k) (old image) (old map) (old letters) numbers file offset (old payload) ⌝ }
 {
     match test_write(image, map, letters, numbers, file, offset, payload) {
         Taking::Take(p, g) => write_taken(
@@ -140,7 +144,8 @@ pub fn write(
     offset: u32,
     payload: &[u8],
 ) -> Answer
-    ensures { λ r. ⌜ standing r (now (image .exit)) (now (map .exit)) (now (letters .exit)) [] ≡ leftWhole (writeOf (now (image .entry)) (recordOf (now (map .entry)) (now (letters .entry)) numbers) file offset (now (payload .entry))) (now (image .entry)) ⌝ }
+    ensures { λ r. ⌜ standing r (new image) (new map) (new letters) []
+        ≡ writeLeaves leftWhole (old image) (old map) (old letters) numbers file offset (old payload) ⌝ }
 {
     write_cut(
         image,

@@ -17,7 +17,7 @@ use Rattle.cipher.specs.SBox.{bit, affineBit, affine, sBox}
 use Rattle.cipher.specs.Words.{four, word, xorBytes}
 use Rattle.cipher.specs.Cipher.{subBytes, shiftedColumn, shiftRows, roundKey, addRoundKey, rounds, cipher}
 use Rattle.cipher.specs.KeyExpansion.{subWord, rotWord, power, rcon, temp, schedule, keyExpansion}
-use Rattle.cipher.specs.CounterMode.{counterBlock, keyStream, streamByte, blocks, counterMode}
+use Rattle.cipher.specs.CounterMode.{counterBlock, keyStream, streamByte, streamBlocks, counterMode}
 use Rattle.cipher.proofs.Sums.{length-xor, xor-at, xor-bytes-twice}
 use Rattle.cipher.proofs.Schedule.{length-schedule}
 use Rattle.cipher.proofs.KeyStream as stream
@@ -35,7 +35,7 @@ length-key-stream = stream.length-key-stream
 
 pub length-counter-mode : (w s : List ℕ) → length (counterMode w s) ≡ length s
 unfolding counterMode
-length-counter-mode w s = length-xor s (keyStream w (blocks (length s)))
+length-counter-mode w s = length-xor s (keyStream w (streamBlocks (length s)))
 
 -- ---- the key stream by position: it depends on the round keys and the position alone
 pub key-stream-at : (w : List ℕ) (n i : ℕ) → i < 16 * n → getD (keyStream w n) i 0 ≡ streamByte w i
@@ -60,7 +60,7 @@ xor-stream-at w s n i g h =
 
 pub counter-mode-at : (w s : List ℕ) (i : ℕ) → i < length s → getD (counterMode w s) i 0 ≡ getD s i 0 ⊕ streamByte w i
 unfolding counterMode
-counter-mode-at w s i h = xor-stream-at w s (blocks (length s)) i (omega arith) h
+counter-mode-at w s i h = xor-stream-at w s (streamBlocks (length s)) i (omega arith) h
 
 -- more key stream than the text needs makes no difference
 pub counter-mode-stream : (w s : List ℕ) (n : ℕ) → length s ≤ 16 * n → counterMode w s ≡ xorBytes s (keyStream w n)
@@ -74,8 +74,8 @@ counter-mode-stream w s n h =
 pub counter-mode-twice : (w s : List ℕ) → counterMode w (counterMode w s) ≡ s
 unfolding counterMode
 counter-mode-twice w s =
-    let k = keyStream w (blocks (length s)) in
-    ap (λ (n : ℕ). xorBytes (xorBytes s k) (keyStream w (blocks n))) (length-xor s k) ∙ xor-bytes-twice s k
+    let k = keyStream w (streamBlocks (length s)) in
+    ap (λ (n : ℕ). xorBytes (xorBytes s k) (keyStream w (streamBlocks n))) (length-xor s k) ∙ xor-bytes-twice s k
 
 -- ---- the first n bytes are those of the first n bytes
 pub counter-mode-take : (w s : List ℕ) (n : ℕ) → take n (counterMode w s) ≡ counterMode w (take n s)
@@ -170,7 +170,7 @@ bytes-key-stream w (suc n) p = bytes-append (keyStream w n) (cipher w (counterBl
 
 pub bytes-counter-mode : (w s : List ℕ) → Bytes w → Bytes s → Bytes (counterMode w s)
 unfolding counterMode
-bytes-counter-mode w s p q = bytes-xor s (keyStream w (blocks (length s))) q (bytes-key-stream w (blocks (length s)) p)
+bytes-counter-mode w s p q = bytes-xor s (keyStream w (streamBlocks (length s))) q (bytes-key-stream w (streamBlocks (length s)) p)
 
 -- ---- the key schedule of bytes is bytes
 power-byte : (n : ℕ) → power n < 256

@@ -27,9 +27,9 @@ abbrev pub streamByte : List ℕ → ℕ → ℕ
 streamByte w i = getD (cipher w (counterBlock (i / blockLength))) (i % blockLength) 0
 
 -- the blocks that n bytes take up, the last perhaps in part
-abbrev pub blocks : ℕ → ℕ
-blocks n = (n + (blockLength - 1)) / blockLength
+abbrev pub streamBlocks : ℕ → ℕ
+streamBlocks n = (n + (blockLength - 1)) / blockLength
 
 -- each block of s plus its output block; of the last output block as many bytes as s has left
 unfoldable pub counterMode : List ℕ → List ℕ → List ℕ
-counterMode w s = xorBytes s (keyStream w (blocks (length s)))
+counterMode w s = xorBytes s (keyStream w (streamBlocks (length s)))

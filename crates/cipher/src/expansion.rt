@@ -3,6 +3,7 @@ ghost use mathlib.Core.Path.{_≡_};
 ghost use mathlib.Core.List.{_++_};
 ghost use Prim.Native.Nat.{_≤_};
 ghost use lib.ListN.{length, drop};
+ghost use Rattle.base.specs.Lent.{old, new};
 ghost use Rattle.cipher.specs.Field.{xtime};
 ghost use Rattle.cipher.specs.Table.{sBoxTable};
 ghost use Rattle.cipher.specs.Words.{littleEndian};
@@ -50,7 +51,7 @@ fn next_round_key(sbox: &[u8; 256], k: Columns, constant: u8) -> Columns
 // Puts a block at the front of q.
 fn put_block(q: &mut [u8], block: [u8; 16])
     requires { ⌜ 16 ≤ length (now q) ⌝ }
-    ensures { λ _. ⌜ now (q .exit) ≡ block ++ drop 16 (now (q .entry)) ⌝ }
+    ensures { λ _. ⌜ new q ≡ block ++ drop 16 (old q) ⌝ }
 {
     let mut j: usize = 0;
     while j < BLOCK {

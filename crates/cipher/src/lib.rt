@@ -1,5 +1,6 @@
 // AES-128 (FIPS 197) and its counter mode from counter 0 (SP 800-38A, 6.5).
 ghost use mathlib.Core.Path.{_≡_};
+ghost use Rattle.base.specs.Lent.{old, new};
 ghost use Rattle.cipher.specs.Cipher.{cipher};
 ghost use Rattle.cipher.specs.KeyExpansion.{keyExpansion};
 ghost use Rattle.cipher.specs.CounterMode.{counterMode};
@@ -38,7 +39,7 @@ pub fn encrypt(keys: RoundKeys, block: [u8; 16]) -> [u8; 16]
 
 // Enciphers text in place, or deciphers it: adds the key stream.
 pub fn apply_stream(keys: RoundKeys, text: &mut [u8])
-    ensures { λ _. ⌜ now (text .exit) ≡ counterMode (keys .bytes) (now (text .entry)) ⌝ }
+    ensures { λ _. ⌜ new text ≡ counterMode (keys .bytes) (old text) ⌝ }
 {
     let w = keys.bytes;
     stream::add_key_stream(&S_BOX, &ROUND_TABLE, &w, text)

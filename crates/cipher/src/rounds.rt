@@ -1,6 +1,7 @@
 // The cipher on columns: FIPS 197, 5.1.
 ghost use mathlib.Core.Path.{_≡_};
 ghost use Prim.Native.Nat.{_+_, _*_, _<_, _≤_};
+ghost use Rattle.base.specs.Lent.{old};
 ghost use Rattle.cipher.specs.SBox.{sBox};
 ghost use Rattle.cipher.specs.Table.{sBoxTable, roundTable};
 ghost use Rattle.cipher.specs.Words.{word, byte0, byte1, byte2, byte3, littleEndian};
@@ -58,7 +59,7 @@ fn sub_shift(sbox: &[u8; 256], s: Columns) -> Columns
 // Word i of the round keys.
 fn key_word(w: &[u8; 176], i: usize) -> u32
     requires { ⌜ i < Nb * (Nr + 1) ⌝ }
-    ensures { λ r. ⌜ littleEndian r ≡ word (now (w .entry)) i ⌝ }
+    ensures { λ r. ⌜ littleEndian r ≡ word (old w) i ⌝ }
 {
     let at = 4 * i;
     from_le_bytes(w[at], w[at + 1], w[at + 2], w[at + 3])
@@ -67,7 +68,7 @@ fn key_word(w: &[u8; 176], i: usize) -> u32
 // The key of a round.
 fn round_key(w: &[u8; 176], round: usize) -> Columns
     requires { ⌜ round ≤ Nr ⌝ }
-    ensures { λ r. ⌜ state r ≡ roundKey (now (w .entry)) round ⌝ }
+    ensures { λ r. ⌜ state r ≡ roundKey (old w) round ⌝ }
 {
     let i = 4 * round;
     let c0 = key_word(w, i);
@@ -86,7 +87,7 @@ pub(crate) fn encrypt_columns(
 ) -> Columns
     requires { ⌜ now sbox ≡ sBoxTable ⌝ }
     requires { ⌜ now table ≡ roundTable ⌝ }
-    ensures { λ r. ⌜ state r ≡ cipher (now (w .entry)) (state input) ⌝ }
+    ensures { λ r. ⌜ state r ≡ cipher (old w) (state input) ⌝ }
 {
     let mut s = add(input, round_key(w, 0));
     let mut round: usize = 0;

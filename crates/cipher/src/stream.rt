@@ -1,5 +1,6 @@
 // The counter mode: SP 800-38A, 6.5, from counter 0.
 ghost use mathlib.Core.Path.{_≡_};
+ghost use Rattle.base.specs.Lent.{old, new};
 ghost use Rattle.cipher.specs.Table.{sBoxTable, roundTable};
 ghost use Rattle.cipher.specs.Words.{xorBytes};
 ghost use Rattle.cipher.specs.State.{state};
@@ -36,7 +37,7 @@ fn counter_block(n: u64) -> Columns
 
 // Adds to q as much of a block as q is long.
 fn add_block(q: &mut [u8], block: [u8; 16])
-    ensures { λ _. ⌜ now (q .exit) ≡ xorBytes (now (q .entry)) block ⌝ }
+    ensures { λ _. ⌜ new q ≡ xorBytes (old q) block ⌝ }
 {
     let mut j: usize = 0;
     while j < BLOCK && j < q.len() {
@@ -49,7 +50,7 @@ fn add_block(q: &mut [u8], block: [u8; 16])
 pub(crate) fn add_key_stream(sbox: &[u8; 256], table: &[u32; 256], w: &[u8; 176], text: &mut [u8])
     requires { ⌜ now sbox ≡ sBoxTable ⌝ }
     requires { ⌜ now table ≡ roundTable ⌝ }
-    ensures { λ _. ⌜ now (text .exit) ≡ counterMode (now (w .entry)) (now (text .entry)) ⌝ }
+    ensures { λ _. ⌜ new text ≡ counterMode (old w) (old text) ⌝ }
 {
     let mut at: usize = 0;
     let mut n: u64 = 0;

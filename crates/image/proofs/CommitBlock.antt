@@ -14,12 +14,8 @@ use Rattle.page.proofs.Commits.{payload-length}
 use Rattle.page.proofs.Pages.{commit-length}
 use Rattle.image.specs.Size.{blockSize, pagesInBlock}
 use Rattle.image.specs.Step.{Inside}
-use Rattle.image.specs.Block.{commitBlockSteps}
+use Rattle.image.specs.Block.{commitBlockSteps, commitBlockPage}
 use Rattle.image.proofs.Rows.{rowSteps, row-inside}
-
--- part i of a commit of an epoch and a covered sequence, from map and letters
-abbrev pub commitBlockPage : ℕ → ℕ → List ℕ → List ℕ → ℕ → List ℕ
-commitBlockPage epoch covered map letters i = commitPage epoch i covered (commitPayload map letters i)
 
 module _ (epoch covered : ℕ) (map letters : List ℕ) where
   pub commit-block-steps : (b : ℕ) → commitBlockSteps epoch covered b map letters ≡ rowSteps b (commitBlockPage epoch covered map letters) parts 0

@@ -22,7 +22,7 @@ use Rattle.page.proofs.Pages.{keys-length, key-back}
 use Rattle.image.specs.Size.{blockSize, pagesInBlock}
 use Rattle.image.specs.Look.{blockAt}
 use Rattle.image.specs.Step.{program, Inside, playAll}
-use Rattle.image.specs.Block.{keyInBlock, keysFrom, renewedKey, keyBlockSteps}
+use Rattle.image.specs.Block.{keyInBlock, keysFrom, renewedKey, keyBlockSteps, keyBlockPage}
 use Rattle.image.proofs.Step.{block-length, page-of-block}
 use Rattle.image.proofs.Rows.{rowSteps, row-inside, row-page-done}
 
@@ -115,10 +115,6 @@ module _ (old letters noise : List ℕ) (p : ℕ) where
   renewed-other e = rw (ne-eqb _ _ e)
 
 -- ---- the pages of a key block
--- page i of key block 0 or 1 of an epoch
-abbrev pub keyBlockPage : ℕ → ℕ → (ℕ → List ℕ) → ℕ → List ℕ
-keyBlockPage epoch block key i = keysPage epoch block i (keysFrom key keysInPage (keysInBlock * block + keysInPage * i))
-
 module _ (epoch block : ℕ) (key : ℕ → List ℕ) (sizes : (p : ℕ) → p < positions → length (key p) ≡ keySize) (h : block < 2) where
   keys-size : (i : ℕ) → i < pagesInBlock → length (keysFrom key keysInPage (keysInBlock * block + keysInPage * i)) ≡ payloadSize
   keys-size i l = keys-from-length key keysInPage (keysInBlock * block + keysInPage * i) (λ j a b. sizes j (omega arith))

@@ -30,12 +30,19 @@ keysFrom key (suc n) p = key p ++ keysFrom key n (suc p)
 unfoldable pub renewedKey : List ℕ → List ℕ → List ℕ → ℕ → List ℕ
 renewedKey old letters noise p = cond (eqb (getD letters p 0) usedLetter) (keyInBlock old p) (keyInNoise noise p)
 
--- key block 0 or 1 of an epoch, into block b, from the key of each position
-unfoldable pub keyBlockSteps : ℕ → ℕ → ℕ → (ℕ → List ℕ) → List Step
-keyBlockSteps epoch block b key =
-    listFrom (λ i. program (b * pagesInBlock + i) (keysPage epoch block i (keysFrom key keysInPage (keysInBlock * block + keysInPage * i)))) pagesInBlock 0
+-- page i of key block 0 or 1 of an epoch, from the key of each position
+abbrev pub keyBlockPage : ℕ → ℕ → (ℕ → List ℕ) → ℕ → List ℕ
+keyBlockPage epoch block key i = keysPage epoch block i (keysFrom key keysInPage (keysInBlock * block + keysInPage * i))
 
--- a commit of an epoch and a covered sequence, into block b, from map and letters
+-- the whole key block, into block b
+unfoldable pub keyBlockSteps : ℕ → ℕ → ℕ → (ℕ → List ℕ) → List Step
+keyBlockSteps epoch block b key = listFrom (λ i. program (b * pagesInBlock + i) (keyBlockPage epoch block key i)) pagesInBlock 0
+
+-- part i of a commit of an epoch and a covered sequence, from map and letters
+abbrev pub commitBlockPage : ℕ → ℕ → List ℕ → List ℕ → ℕ → List ℕ
+commitBlockPage epoch covered map letters i = commitPage epoch i covered (commitPayload map letters i)
+
+-- the whole commit, into block b
 unfoldable pub commitBlockSteps : ℕ → ℕ → ℕ → List ℕ → List ℕ → List Step
 commitBlockSteps epoch covered b map letters =
-    listFrom (λ i. program (b * pagesInBlock + i) (commitPage epoch i covered (commitPayload map letters i))) parts 0
+    listFrom (λ i. program (b * pagesInBlock + i) (commitBlockPage epoch covered map letters i)) parts 0

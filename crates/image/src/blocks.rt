@@ -10,19 +10,18 @@ use page::keys::KEYS_IN_PAGE;
 ghost use mathlib.Core.Path.{_≡_};
 ghost use Prim.Native.Nat.{_≤_, _<_, _+_, _*_};
 ghost use lib.ListN.{length};
-ghost use Rattle.page.specs.Plan.{places};
-ghost use Rattle.page.specs.Key.{keySize, keysInPage, keysInBlock, positions};
-ghost use Rattle.page.specs.Entry.{parts, commitPayload};
-ghost use Rattle.page.specs.Page.{keysPage, commitPage};
+ghost use Rattle.base.specs.Lent.{old, new};
+ghost use Rattle.page.specs.Key.{positions, noiseSize};
+ghost use Rattle.page.specs.Entry.{parts, mapSize};
 ghost use Rattle.image.specs.Size.{blockSize, pagesInBlock, blocks};
 ghost use Rattle.image.specs.Look.{blockAt};
 ghost use Rattle.image.specs.Step.{program};
 ghost use Rattle.image.specs.Power.{device, act, run};
-ghost use Rattle.image.specs.Block.{erasesFrom, keysFrom, renewedKey, keyBlockSteps, commitBlockSteps};
+ghost use Rattle.image.specs.Block.{erasesFrom, renewedKey, keyBlockSteps, commitBlockSteps, keyBlockPage, commitBlockPage};
 
 // Erases every block, in order.
 pub fn erase_all(image: &mut [u8], p: Power) -> Power
-    ensures { λ r. ⌜ device r (now (image .exit)) ≡ run (erasesFrom (blocks (now (image .entry))) 0) (device p (now (image .entry))) ⌝ }
+    ensures { λ r. ⌜ device r (new image) ≡ run (erasesFrom (blocks (old image)) 0) (device p (old image)) ⌝ }
 {
     let n = image.len() / look::BLOCK_SIZE;
     let mut q = p;
@@ -34,25 +33,27 @@ pub fn erase_all(image: &mut [u8], p: Power) -> Power
     q
 }
 
-// Programs page i of block b with the next keys of key block 0 or 1, whose last copy is block old.
+// Programs page i of block b with the next keys of key block 0 or 1, whose last copy is block last.
 fn program_next_keys(
     image: &mut [u8],
     b: usize,
     epoch: u32,
     block: u32,
     i: usize,
-    old: usize,
+    last: usize,
     letters: &[u8],
     noise: &[u8],
     p: Power,
 ) -> Power
-    requires { ⌜ (b * blockSize + blockSize ≤ length (now image)) × (old * blockSize + blockSize ≤ length (now image)) × (block < 2) × (i < pagesInBlock) ⌝ }
-    requires { ⌜ (length (now letters) ≡ positions) × (length (now noise) ≡ keySize * positions) ⌝ }
-    ensures { λ r. ⌜ device r (now (image .exit)) ≡ act (program (b * pagesInBlock + i) (keysPage epoch block i (keysFrom (renewedKey (blockAt (now (image .entry)) old) (now (letters .entry)) (now (noise .entry))) keysInPage (keysInBlock * block + keysInPage * i)))) (device p (now (image .entry))) ⌝ }
+    requires { ⌜ (b * blockSize + blockSize ≤ length (now image))
+        × (last * blockSize + blockSize ≤ length (now image)) × (block < 2) × (i < pagesInBlock) ⌝ }
+    requires { ⌜ (length (now letters) ≡ positions) × (length (now noise) ≡ noiseSize) ⌝ }
+    ensures { λ r. ⌜ device r (new image) ≡ act (program (b * pagesInBlock + i) (keyBlockPage epoch block
+        (renewedKey (blockAt (old image) last) (old letters) (old noise)) i)) (device p (old image)) ⌝ }
 {
     let mut next = [0u8; Frame::PAYLOAD];
     let first = KEYS_IN_BLOCK * block as usize + KEYS_IN_PAGE * i;
-    keys::renew_keys(&mut next, image, old, letters, noise, first);
+    keys::renew_keys(&mut next, image, last, letters, noise, first);
     steps::program_page(
         image,
         b * look::PAGES_IN_BLOCK + i,
@@ -62,25 +63,27 @@ fn program_next_keys(
     )
 }
 
-// Programs block b with key block 0 or 1: the keys of used positions from its last copy, block old, all others from noise.
+// Programs block b with key block 0 or 1: the keys of used positions from its last copy, block last, all others from noise.
 pub fn program_key_block(
     image: &mut [u8],
     b: usize,
     epoch: u32,
     block: u32,
-    old: usize,
+    last: usize,
     letters: &[u8],
     noise: &[u8],
     p: Power,
 ) -> Power
-    requires { ⌜ (b * blockSize + blockSize ≤ length (now image)) × (old * blockSize + blockSize ≤ length (now image)) × (block < 2) × (b ≡ old → ⊥) ⌝ }
-    requires { ⌜ (length (now letters) ≡ positions) × (length (now noise) ≡ keySize * positions) ⌝ }
-    ensures { λ r. ⌜ device r (now (image .exit)) ≡ run (keyBlockSteps epoch block b (renewedKey (blockAt (now (image .entry)) old) (now (letters .entry)) (now (noise .entry)))) (device p (now (image .entry))) ⌝ }
+    requires { ⌜ (b * blockSize + blockSize ≤ length (now image))
+        × (last * blockSize + blockSize ≤ length (now image)) × (block < 2) × (b ≡ last → ⊥) ⌝ }
+    requires { ⌜ (length (now letters) ≡ positions) × (length (now noise) ≡ noiseSize) ⌝ }
+    ensures { λ r. ⌜ device r (new image) ≡ run (keyBlockSteps epoch block b
+        (renewedKey (blockAt (old image) last) (old letters) (old noise))) (device p (old image)) ⌝ }
 {
     let mut q = p;
     let mut i = 0;
     while i < look::PAGES_IN_BLOCK {
-        q = program_next_keys(image, b, epoch, block, i, old, letters, noise, q);
+        q = program_next_keys(image, b, epoch, block, i, last, letters, noise, q);
         i += 1;
     }
     q
@@ -98,8 +101,9 @@ fn program_part(
     p: Power,
 ) -> Power
     requires { ⌜ (b * blockSize + blockSize ≤ length (now image)) × (i < parts) ⌝ }
-    requires { ⌜ (length (now map) ≡ places + places) × (length (now letters) ≡ positions) ⌝ }
-    ensures { λ r. ⌜ device r (now (image .exit)) ≡ act (program (b * pagesInBlock + i) (commitPage epoch i covered (commitPayload (now (map .entry)) (now (letters .entry)) i))) (device p (now (image .entry))) ⌝ }
+    requires { ⌜ (length (now map) ≡ mapSize) × (length (now letters) ≡ positions) ⌝ }
+    ensures { λ r. ⌜ device r (new image) ≡ act (program (b * pagesInBlock + i)
+        (commitBlockPage epoch covered (old map) (old letters) i)) (device p (old image)) ⌝ }
 {
     let mut payload = [0u8; Frame::PAYLOAD];
     entries::write_commit_payload(&mut payload, map, letters, i);
@@ -123,8 +127,9 @@ pub fn program_commit_block(
     p: Power,
 ) -> Power
     requires { ⌜ b * blockSize + blockSize ≤ length (now image) ⌝ }
-    requires { ⌜ (length (now map) ≡ places + places) × (length (now letters) ≡ positions) ⌝ }
-    ensures { λ r. ⌜ device r (now (image .exit)) ≡ run (commitBlockSteps epoch covered b (now (map .entry)) (now (letters .entry))) (device p (now (image .entry))) ⌝ }
+    requires { ⌜ (length (now map) ≡ mapSize) × (length (now letters) ≡ positions) ⌝ }
+    ensures { λ r. ⌜ device r (new image)
+        ≡ run (commitBlockSteps epoch covered b (old map) (old letters)) (device p (old image)) ⌝ }
 {
     let mut q = p;
     let mut i = 0;

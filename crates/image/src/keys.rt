@@ -9,8 +9,9 @@ use page::keys::KEYS_IN_PAGE;
 ghost use mathlib.Core.Path.{_≡_};
 ghost use Prim.Native.Nat.{_≤_, _<_, _+_, _*_};
 ghost use lib.ListN.{length};
+ghost use Rattle.base.specs.Lent.{old, new};
 ghost use Rattle.page.specs.Frame.{payloadSize};
-ghost use Rattle.page.specs.Key.{keySize, keysInPage, positions};
+ghost use Rattle.page.specs.Key.{keySize, keysInPage, positions, noiseSize};
 ghost use Rattle.image.specs.Size.{blockSize};
 ghost use Rattle.image.specs.Look.{blockAt};
 ghost use Rattle.image.specs.Block.{keyInBlock, keysFrom, renewedKey};
@@ -18,20 +19,20 @@ ghost use Rattle.image.specs.Block.{keyInBlock, keysFrom, renewedKey};
 // The key of position p in the key block at block b.
 pub fn key_in_block(image: &[u8], b: usize, p: usize) -> [u8; 16]
     requires { ⌜ b * blockSize + blockSize ≤ length (now image) ⌝ }
-    ensures { λ r. ⌜ r ≡ keyInBlock (blockAt (now (image .entry)) b) p ⌝ }
+    ensures { λ r. ⌜ r ≡ keyInBlock (blockAt (old image) b) p ⌝ }
 {
     let start = b * look::BLOCK_SIZE + Frame::PAGE * keys::page_of(p);
     keys::key_in_page(&image[start..start + Frame::PAGE], keys::slot_of(p))
 }
 
 // Writes the next key of position p: the old one where the position is used, else that of the noise.
-fn renew_key(dst: &mut [u8], image: &[u8], old: usize, letters: &[u8], noise: &[u8], p: usize)
-    requires { ⌜ (length (now dst) ≡ keySize) × (old * blockSize + blockSize ≤ length (now image)) ⌝ }
-    requires { ⌜ (length (now letters) ≡ positions) × (length (now noise) ≡ keySize * positions) × (p < positions) ⌝ }
-    ensures { λ _. ⌜ now (dst .exit) ≡ renewedKey (blockAt (now (image .entry)) old) (now (letters .entry)) (now (noise .entry)) p ⌝ }
+fn renew_key(dst: &mut [u8], image: &[u8], last: usize, letters: &[u8], noise: &[u8], p: usize)
+    requires { ⌜ (length (now dst) ≡ keySize) × (last * blockSize + blockSize ≤ length (now image)) ⌝ }
+    requires { ⌜ (length (now letters) ≡ positions) × (length (now noise) ≡ noiseSize) × (p < positions) ⌝ }
+    ensures { λ _. ⌜ new dst ≡ renewedKey (blockAt (old image) last) (old letters) (old noise) p ⌝ }
 {
     if letters[p] == entries::USED {
-        let key = key_in_block(image, old, p);
+        let key = key_in_block(image, last, p);
         bytes::copy(dst, &key);
     } else {
         let at = KEY_SIZE * p;
@@ -43,14 +44,16 @@ fn renew_key(dst: &mut [u8], image: &[u8], old: usize, letters: &[u8], noise: &[
 pub fn renew_keys(
     dst: &mut [u8],
     image: &[u8],
-    old: usize,
+    last: usize,
     letters: &[u8],
     noise: &[u8],
     first: usize,
 )
-    requires { ⌜ (length (now dst) ≡ payloadSize) × (old * blockSize + blockSize ≤ length (now image)) ⌝ }
-    requires { ⌜ (length (now letters) ≡ positions) × (length (now noise) ≡ keySize * positions) × (first + keysInPage ≤ positions) ⌝ }
-    ensures { λ _. ⌜ now (dst .exit) ≡ keysFrom (renewedKey (blockAt (now (image .entry)) old) (now (letters .entry)) (now (noise .entry))) keysInPage first ⌝ }
+    requires { ⌜ (length (now dst) ≡ payloadSize) × (last * blockSize + blockSize ≤ length (now image)) ⌝ }
+    requires { ⌜ (length (now letters)
+        ≡ positions) × (length (now noise) ≡ noiseSize) × (first + keysInPage ≤ positions) ⌝ }
+    ensures { λ _. ⌜ new dst
+        ≡ keysFrom (renewedKey (blockAt (old image) last) (old letters) (old noise)) keysInPage first ⌝ }
 {
     let mut j = 0;
     while j < KEYS_IN_PAGE {
@@ -58,7 +61,7 @@ pub fn renew_keys(
         renew_key(
             &mut dst[at..at + KEY_SIZE],
             image,
-            old,
+            last,
             letters,
             noise,
             first + j,

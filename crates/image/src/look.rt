@@ -5,6 +5,7 @@ use page::forms;
 ghost use mathlib.Core.Path.{_≡_};
 ghost use Prim.Native.Nat.{_≤_, _+_, _*_};
 ghost use lib.ListN.{length};
+ghost use Rattle.base.specs.Lent.{old};
 ghost use Rattle.page.specs.Frame.{pageSize};
 ghost use Rattle.image.specs.Size.{blockSize, blocks, sizeRight};
 ghost use Rattle.image.specs.Look.{formAt, pageEmpty, blockEmpty, lowestEmpty, emptyBlocks};
@@ -21,7 +22,7 @@ const MOST_BLOCKS: usize = 256;
 
 // Whether the image is 8 to 256 full blocks.
 pub fn size_right(image: &[u8]) -> bool
-    ensures { λ r. ⌜ r ≡ sizeRight (now (image .entry)) ⌝ }
+    ensures { λ r. ⌜ r ≡ sizeRight (old image) ⌝ }
 {
     let n = image.len() / BLOCK_SIZE;
     if image.len() % BLOCK_SIZE != 0 {
@@ -36,7 +37,7 @@ pub fn size_right(image: &[u8]) -> bool
 // The form of page g.
 pub fn form_at(image: &[u8], g: usize) -> Form
     requires { ⌜ g * pageSize + pageSize ≤ length (now image) ⌝ }
-    ensures { λ r. ⌜ r ≡ formAt (now (image .entry)) g ⌝ }
+    ensures { λ r. ⌜ r ≡ formAt (old image) g ⌝ }
 {
     let at = g * Frame::PAGE;
     forms::form(&image[at..at + Frame::PAGE])
@@ -45,7 +46,7 @@ pub fn form_at(image: &[u8], g: usize) -> Form
 // Whether page g is empty.
 pub fn page_empty(image: &[u8], g: usize) -> bool
     requires { ⌜ g * pageSize + pageSize ≤ length (now image) ⌝ }
-    ensures { λ r. ⌜ r ≡ pageEmpty (now (image .entry)) g ⌝ }
+    ensures { λ r. ⌜ r ≡ pageEmpty (old image) g ⌝ }
 {
     let start = g * Frame::PAGE;
     forms::is_empty(&image[start..start + Frame::PAGE])
@@ -54,7 +55,7 @@ pub fn page_empty(image: &[u8], g: usize) -> bool
 // Whether block b is empty.
 pub fn block_empty(image: &[u8], b: usize) -> bool
     requires { ⌜ b * blockSize + blockSize ≤ length (now image) ⌝ }
-    ensures { λ r. ⌜ r ≡ blockEmpty (now (image .entry)) b ⌝ }
+    ensures { λ r. ⌜ r ≡ blockEmpty (old image) b ⌝ }
 {
     let start = b * BLOCK_SIZE;
     forms::is_empty(&image[start..start + BLOCK_SIZE])
@@ -62,7 +63,7 @@ pub fn block_empty(image: &[u8], b: usize) -> bool
 
 // The lowest empty block, or the number of blocks where there is none.
 pub fn lowest_empty(image: &[u8]) -> usize
-    ensures { λ r. ⌜ (r ≡ lowestEmpty (now (image .entry))) × (r ≤ blocks (now (image .entry))) ⌝ }
+    ensures { λ r. ⌜ (r ≡ lowestEmpty (old image)) × (r ≤ blocks (old image)) ⌝ }
 {
     let n = image.len() / BLOCK_SIZE;
     let mut b = 0;
@@ -77,7 +78,7 @@ pub fn lowest_empty(image: &[u8]) -> usize
 
 // How many blocks are empty.
 pub fn empty_blocks(image: &[u8]) -> usize
-    ensures { λ r. ⌜ (r ≡ emptyBlocks (now (image .entry))) × (r ≤ blocks (now (image .entry))) ⌝ }
+    ensures { λ r. ⌜ (r ≡ emptyBlocks (old image)) × (r ≤ blocks (old image)) ⌝ }
 {
     let n = image.len() / BLOCK_SIZE;
     let mut b = 0;

@@ -7,6 +7,7 @@ use page::writers;
 ghost use mathlib.Core.Path.{_≡_};
 ghost use Prim.Native.Nat.{_≤_, _+_, _*_, min};
 ghost use lib.ListN.{length};
+ghost use Rattle.base.specs.Lent.{old, new};
 ghost use Rattle.page.specs.Frame.{pageSize, payloadSize};
 ghost use Rattle.page.specs.Page.{pageBytes, nodePage, cutOffPage};
 ghost use Rattle.image.specs.Size.{blockSize};
@@ -54,7 +55,7 @@ fn smaller(a: usize, b: usize) -> usize
 // Erases block b.
 pub fn erase_block(image: &mut [u8], b: usize, p: Power) -> Power
     requires { ⌜ b * blockSize + blockSize ≤ length (now image) ⌝ }
-    ensures { λ r. ⌜ device r (now (image .exit)) ≡ act (erase b) (device p (now (image .entry))) ⌝ }
+    ensures { λ r. ⌜ device r (new image) ≡ act (erase b) (device p (old image)) ⌝ }
 {
     if !p.on {
         return p;
@@ -78,7 +79,8 @@ pub fn program_node(
     p: Power,
 ) -> Power
     requires { ⌜ (g * pageSize + pageSize ≤ length (now image)) × (length (now payload) ≡ payloadSize) ⌝ }
-    ensures { λ r. ⌜ device r (now (image .exit)) ≡ act (program g (nodePage sequence file offset position key (now (payload .entry)))) (device p (now (image .entry))) ⌝ }
+    ensures { λ r. ⌜ device r (new image)
+        ≡ act (program g (nodePage sequence file offset position key (old payload))) (device p (old image)) ⌝ }
 {
     if !p.on {
         return p;
@@ -100,7 +102,7 @@ pub fn program_node(
 // Programs page g with a header and a payload that stands there as it is: keys, a part of a commit, a cut-off's spaces.
 pub fn program_page(image: &mut [u8], g: usize, f: Frame, payload: &[u8], p: Power) -> Power
     requires { ⌜ (g * pageSize + pageSize ≤ length (now image)) × (length (now payload) ≡ payloadSize) ⌝ }
-    ensures { λ r. ⌜ device r (now (image .exit)) ≡ act (program g (pageBytes f (now (payload .entry)))) (device p (now (image .entry))) ⌝ }
+    ensures { λ r. ⌜ device r (new image) ≡ act (program g (pageBytes f (old payload))) (device p (old image)) ⌝ }
 {
     if !p.on {
         return p;
@@ -125,7 +127,7 @@ pub fn program_cut_off(
     p: Power,
 ) -> Power
     requires { ⌜ g * pageSize + pageSize ≤ length (now image) ⌝ }
-    ensures { λ r. ⌜ device r (now (image .exit)) ≡ act (program g (cutOffPage sequence file offset)) (device p (now (image .entry))) ⌝ }
+    ensures { λ r. ⌜ device r (new image) ≡ act (program g (cutOffPage sequence file offset)) (device p (old image)) ⌝ }
 {
     let spaces = [b' '; Frame::PAYLOAD];
     program_page(image, g, Frame::cut_off(sequence, file, offset), &spaces, p)

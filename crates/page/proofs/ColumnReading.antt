@@ -13,13 +13,9 @@ use borrow.Author.Tests.{eqb-true, ltb-true, leb-true, leb-false, le-leb, eq-eqb
 use Rattle.base.proofs.Choice.{and-true, and-intro, true-false}
 use Rattle.base.proofs.Eachs.{same-false}
 use Rattle.page.specs.Frame.{space}
-use Rattle.page.specs.Column.{zeroDigit, column, columns, spell, digit, valueAfter, numberIn}
+use Rattle.page.specs.Column.{zeroDigit, column, columns, spell, digit, isDigit, valueAfter, numberIn}
 use Rattle.page.specs.declared.Number.the-variants.{Is, Misspelt}
 use Rattle.page.proofs.Column.{drop-columns, last-column, last-differs, digit-lt, value-column, value-columns, number-spell}
-
--- whether a byte is a digit
-abbrev pub isDigit : ℕ → Bool
-isDigit b = leb zeroDigit b && leb b (zeroDigit + 9)
 
 -- ---- one byte
 -- a digit is the byte of its value

@@ -23,8 +23,8 @@ use Rattle.page.specs.Frame.{payloadSize}
 use Rattle.page.specs.Plan.{places}
 use Rattle.page.specs.Key.{positions}
 use Rattle.page.specs.Header.{lastPosition}
-use Rattle.page.specs.Column.{spell, columns, numberIn}
-use Rattle.page.specs.Entry.{isLetter, entrySize, entriesInPart, lastPage, firstEntryPart, parts, none, vacantEntry, entryBytes, andThen, entryOf, isEntry, entryPart, entryAt, entriesFrom, commitPayload, validPayload}
+use Rattle.page.specs.Column.{spell, columns, numberIn, numberThen}
+use Rattle.page.specs.Entry.{isLetter, entrySize, entriesInPart, lastPage, firstEntryPart, parts, none, vacantEntry, entryBytes, entryOf, isEntry, entryPart, entryAt, entriesFrom, commitPayload, validPayload}
 use Rattle.page.specs.declared.Number.{Number}
 use Rattle.page.specs.declared.Number.the-variants.{Is as IsNumber, Misspelt as NoNumber}
 use Rattle.page.specs.declared.Entry.{Entry}
@@ -70,7 +70,7 @@ entry-none key = refl
 
 -- one spelling: what is read as an entry is that entry's bytes, and no others
 abbrev read : Bool → Number → Number → Entry
-read b m n = cond b Vacant (andThen m λ page. andThen n λ key. cond (leb page lastPage && leb key lastPosition) (At page key) Misspelt)
+read b m n = cond b Vacant (numberThen m Misspelt λ page. numberThen n Misspelt λ key. cond (leb page lastPage && leb key lastPosition) (At page key) Misspelt)
 
 module _ (xs : List ℕ) where
   pub entry-is : (page key : ℕ) → length xs ≡ entrySize → entryOf xs ≡ At page key
@@ -115,49 +115,49 @@ module _ (xs : List ℕ) where
 
 -- ---- the entries of a map
 -- a map's entry of place x
-abbrev pub entryIn : List ℕ → ℕ → List ℕ
-entryIn map x = entryBytes (getD map x none) (getD map (places + x) none)
+abbrev pub entryFor : List ℕ → ℕ → List ℕ
+entryFor map x = entryBytes (getD map x none) (getD map (places + x) none)
 
 module _ (map : List ℕ) where
   pub entries-length : (n x : ℕ) → length (entriesFrom map n x) ≡ entrySize * n
   unfolding entriesFrom
   entries-length zero x = refl
   entries-length (suc n) x =
-      omega (arith, length-append (entryIn map x) (entriesFrom map n (suc x)), entry-length (getD map x none) (getD map (places + x) none), entries-length n (suc x))
+      omega (arith, length-append (entryFor map x) (entriesFrom map n (suc x)), entry-length (getD map x none) (getD map (places + x) none), entries-length n (suc x))
 
   -- one more entry, at the end
-  entries-more : (n x : ℕ) → entriesFrom map (suc n) x ≡ entriesFrom map n x ++ entryIn map (x + n)
+  entries-more : (n x : ℕ) → entriesFrom map (suc n) x ≡ entriesFrom map n x ++ entryFor map (x + n)
   unfolding entriesFrom
   entries-more zero x = rw (add-zero, append-nil)
   entries-more (suc n) x =
       let k : suc x + n ≡ x + suc n = omega arith in
-      ap (λ (t : List ℕ). entryIn map x ++ t) (entries-more n (suc x) ∙ ap (λ (y : ℕ). entriesFrom map n (suc x) ++ entryIn map y) k)
-      ∙ sym (append-assoc (entryIn map x) (entriesFrom map n (suc x)) (entryIn map (x + suc n)))
+      ap (λ (t : List ℕ). entryFor map x ++ t) (entries-more n (suc x) ∙ ap (λ (y : ℕ). entriesFrom map n (suc x) ++ entryFor map y) k)
+      ∙ sym (append-assoc (entryFor map x) (entriesFrom map n (suc x)) (entryFor map (x + suc n)))
 
-  pub entries-next : (n x : ℕ) → entriesFrom map (n + 1) x ≡ entriesFrom map n x ++ entryIn map (x + n)
+  pub entries-next : (n x : ℕ) → entriesFrom map (n + 1) x ≡ entriesFrom map n x ++ entryFor map (x + n)
   entries-next n x = rw add-one (entries-more n x)
 
-  pub part-entries : (n x j : ℕ) → j < n → part (entriesFrom map n x) (entrySize * j) entrySize ≡ entryIn map (x + j)
+  pub part-entries : (n x j : ℕ) → j < n → part (entriesFrom map n x) (entrySize * j) entrySize ≡ entryFor map (x + j)
   unfolding entriesFrom
   part-entries zero x j h = absurd (omega arith)
   part-entries (suc n) x zero h =
-      rw add-zero (part-front (entryIn map x) (entriesFrom map n (suc x)) entrySize (entry-length (getD map x none) (getD map (places + x) none)))
+      rw add-zero (part-front (entryFor map x) (entriesFrom map n (suc x)) entrySize (entry-length (getD map x none) (getD map (places + x) none)))
   part-entries (suc n) x (suc j) h =
       let k : entrySize * suc j ≡ entrySize + entrySize * j = omega arith in
       let m : suc x + j ≡ x + suc j = omega arith in
       rw k
-      (part-past (entryIn map x) (entriesFrom map n (suc x)) entrySize (entrySize * j) entrySize (entry-length (getD map x none) (getD map (places + x) none))
-      ∙ part-entries n (suc x) j (omega arith) ∙ ap (entryIn map) m)
+      (part-past (entryFor map x) (entriesFrom map n (suc x)) entrySize (entrySize * j) entrySize (entry-length (getD map x none) (getD map (places + x) none))
+      ∙ part-entries n (suc x) j (omega arith) ∙ ap (entryFor map) m)
 
 -- one more entry written, after those before it
-pub write-next : (map dst dst₀ ys : List ℕ) (j x : ℕ) → dst ≡ entriesFrom map j x ++ drop (entrySize * j) dst₀ → ys ≡ entryIn map (x + j)
+pub write-next : (map dst dst₀ ys : List ℕ) (j x : ℕ) → dst ≡ entriesFrom map j x ++ drop (entrySize * j) dst₀ → ys ≡ entryFor map (x + j)
     → putMid (entrySize * j) ((entrySize * j + entrySize) - entrySize * j) dst ys ≡ entriesFrom map (j + 1) x ++ drop (entrySize * (j + 1)) dst₀
 write-next map dst dst₀ ys j x d e =
     let k : (entrySize * j + entrySize) - entrySize * j ≡ entrySize = omega arith in
     let m : entrySize * (j + 1) ≡ entrySize * j + entrySize = omega arith in
     rw (d, e, k, m, entries-next map j x)
-    (put-next (entriesFrom map j x) (drop (entrySize * j) dst₀) (entryIn map (x + j)) (entrySize * j) entrySize (entries-length map j x)
-    ∙ ap (λ (t : List ℕ). (entriesFrom map j x ++ entryIn map (x + j)) ++ t) (drop-drop entrySize (entrySize * j) dst₀))
+    (put-next (entriesFrom map j x) (drop (entrySize * j) dst₀) (entryFor map (x + j)) (entrySize * j) entrySize (entries-length map j x)
+    ∙ ap (λ (t : List ℕ). (entriesFrom map j x ++ entryFor map (x + j)) ++ t) (drop-drop entrySize (entrySize * j) dst₀))
 
 -- ---- the payload of a commit's part
 pub payload-length : (map letters : List ℕ) (i : ℕ) → length letters ≡ positions → length (commitPayload map letters i) ≡ payloadSize
@@ -181,13 +181,13 @@ unfolding commitPayload
 letters-back map letters h = part-halves letters payloadSize payloadSize h
 
 -- a place's entry, in its part
-pub entry-back : (map letters : List ℕ) (x : ℕ) → part (commitPayload map letters (entryPart x)) (entryAt x) entrySize ≡ entryIn map x
+pub entry-back : (map letters : List ℕ) (x : ℕ) → part (commitPayload map letters (entryPart x)) (entryAt x) entrySize ≡ entryFor map x
 unfolding commitPayload
 entry-back map letters x =
     let k : entriesInPart * (firstEntryPart + x / entriesInPart - firstEntryPart) ≡ entriesInPart * (x / entriesInPart) = omega arith in
     let m : entriesInPart * (x / entriesInPart) + x % entriesInPart ≡ x = omega arith in
     rw (le-ltb (firstEntryPart + x / entriesInPart) firstEntryPart (omega arith), k)
-    (part-entries map entriesInPart (entriesInPart * (x / entriesInPart)) (x % entriesInPart) (omega arith) ∙ ap (entryIn map) m)
+    (part-entries map entriesInPart (entriesInPart * (x / entriesInPart)) (x % entriesInPart) (omega arith) ∙ ap (entryFor map) m)
 
 -- ---- valid payloads
 pub valid-letter : (i : ℕ) (payload : List ℕ) (j : ℕ) → i < firstEntryPart → validPayload i payload ≡ true → j < payloadSize → isLetter (getD payload j 0) ≡ true

@@ -13,8 +13,8 @@ use Rattle.base.proofs.Parts.{put-next}
 use Rattle.base.proofs.Choice.{and-true}
 use Rattle.base.proofs.Eachs.{same-true, same-refl, each-append}
 use Rattle.page.specs.Frame.{headerSize, colonSpace}
-use Rattle.page.specs.Column.{spell, numberIn}
-use Rattle.page.specs.Header.{inRange, headerBytes, andThen, headerOf}
+use Rattle.page.specs.Column.{spell, numberIn, numberThen}
+use Rattle.page.specs.Header.{inRange, headerBytes, isKind, headerOf}
 use Rattle.page.specs.declared.Number.{Number}
 use Rattle.page.specs.declared.Number.the-variants.{Is as IsNumber, Misspelt}
 use Rattle.page.specs.declared.Frame.{Frame}
@@ -22,7 +22,7 @@ use Rattle.page.specs.declared.Header.{Header}
 use Rattle.page.specs.declared.Header.the-variants.{Is, Invalid}
 use Rattle.page.proofs.Slices.{part-front, part-past, part-back}
 use Rattle.page.proofs.Column.{length-spell, number-spell, number-part, bytes-spell}
-use Rattle.page.proofs.Ranges.{isKind, other-kind, in-range-fits}
+use Rattle.page.proofs.Ranges.{other-kind, in-range-fits}
 
 -- ---- lengths
 module _ (f : Frame) where
@@ -104,24 +104,24 @@ withSecond xs number unit part' key second =
     cond (same (part xs 28 2) colonSpace && inRange f) (Is f) Invalid
 
 abbrev withKey : List ℕ → ℕ → ℕ → ℕ → ℕ → Header
-withKey xs number unit part' key = andThen (numberIn (part xs 20 8)) (withSecond xs number unit part' key)
+withKey xs number unit part' key = numberThen (numberIn (part xs 20 8)) Invalid (withSecond xs number unit part' key)
 
 abbrev withPart : List ℕ → ℕ → ℕ → ℕ → Header
-withPart xs number unit part' = andThen (numberIn (part xs 16 4)) (withKey xs number unit part')
+withPart xs number unit part' = numberThen (numberIn (part xs 16 4)) Invalid (withKey xs number unit part')
 
 abbrev withUnit : List ℕ → ℕ → ℕ → Header
-withUnit xs number unit = andThen (numberIn (part xs 12 4)) (withPart xs number unit)
+withUnit xs number unit = numberThen (numberIn (part xs 12 4)) Invalid (withPart xs number unit)
 
 abbrev withNumber : List ℕ → ℕ → Header
-withNumber xs number = andThen (numberIn (part xs 9 3)) (withUnit xs number)
+withNumber xs number = numberThen (numberIn (part xs 9 3)) Invalid (withUnit xs number)
 
-andThen-is : (n : Number) (g : ℕ → Header) (f : Frame) → andThen n g ≡ Is f → (k : ℕ) × (n ≡ IsNumber k) × (g k ≡ Is f)
-andThen-is (IsNumber k) g f e = (k, refl, e)
-andThen-is Misspelt g f e = absurd (let z : _≡_ {A = ℕ} 0 1 = cc in omega arith)
+then-is : (n : Number) (g : ℕ → Header) (f : Frame) → numberThen n Invalid g ≡ Is f → (k : ℕ) × (n ≡ IsNumber k) × (g k ≡ Is f)
+then-is (IsNumber k) g f e = (k, refl, e)
+then-is Misspelt g f e = absurd (let z : _≡_ {A = ℕ} 0 1 = cc in omega arith)
 
-andThen-invalid : (n : Number) (g : ℕ → Header) → ((k : ℕ) → g k ≡ Invalid) → andThen n g ≡ Invalid
-andThen-invalid (IsNumber k) g h = h k
-andThen-invalid Misspelt g h = refl
+then-invalid : (n : Number) (g : ℕ → Header) → ((k : ℕ) → g k ≡ Invalid) → numberThen n Invalid g ≡ Invalid
+then-invalid (IsNumber k) g h = h k
+then-invalid Misspelt g h = refl
 
 cond-is : (b : Bool) (g f : Frame) → cond b (Is g) Invalid ≡ Is f → (b ≡ true) × (g ≡ f)
 cond-is true g f e = (refl, cc)
@@ -145,11 +145,11 @@ spelt-header xs f s = rw (s .number, s .unit, s .part', s .key, s .second, s .co
 pub header-spelt : (xs : List ℕ) (f : Frame) → headerOf xs ≡ Is f → Spelt xs f
 unfolding headerOf
 header-spelt xs f e =
-    let a = andThen-is (numberIn (part xs 1 8)) (withNumber xs) f e in
-    let b = andThen-is (numberIn (part xs 9 3)) (withUnit xs (a .0)) f (a .2) in
-    let c = andThen-is (numberIn (part xs 12 4)) (withPart xs (a .0) (b .0)) f (b .2) in
-    let d = andThen-is (numberIn (part xs 16 4)) (withKey xs (a .0) (b .0) (c .0)) f (c .2) in
-    let g = andThen-is (numberIn (part xs 20 8)) (withSecond xs (a .0) (b .0) (c .0) (d .0)) f (d .2) in
+    let a = then-is (numberIn (part xs 1 8)) (withNumber xs) f e in
+    let b = then-is (numberIn (part xs 9 3)) (withUnit xs (a .0)) f (a .2) in
+    let c = then-is (numberIn (part xs 12 4)) (withPart xs (a .0) (b .0)) f (b .2) in
+    let d = then-is (numberIn (part xs 16 4)) (withKey xs (a .0) (b .0) (c .0)) f (c .2) in
+    let g = then-is (numberIn (part xs 20 8)) (withSecond xs (a .0) (b .0) (c .0) (d .0)) f (d .2) in
     let h : Frame = record { kind = getD xs 0 0; number = a .0; unit = b .0; part = c .0; key = d .0; second = g .0 } in
     let i = cond-is (same (part xs 28 2) colonSpace && inRange h) h f (g .2) in
     let t = and-true (same (part xs 28 2) colonSpace) (inRange h) (i .0) in
@@ -169,11 +169,11 @@ header-spelt xs f e =
 invalid-by : (xs : List ℕ) → ((n u p k s : ℕ) → withSecond xs n u p k s ≡ Invalid) → headerOf xs ≡ Invalid
 unfolding headerOf
 invalid-by xs h =
-    andThen-invalid (numberIn (part xs 1 8)) (withNumber xs) λ n.
-    andThen-invalid (numberIn (part xs 9 3)) (withUnit xs n) λ u.
-    andThen-invalid (numberIn (part xs 12 4)) (withPart xs n u) λ p.
-    andThen-invalid (numberIn (part xs 16 4)) (withKey xs n u p) λ k.
-    andThen-invalid (numberIn (part xs 20 8)) (withSecond xs n u p k) (h n u p k)
+    then-invalid (numberIn (part xs 1 8)) (withNumber xs) λ n.
+    then-invalid (numberIn (part xs 9 3)) (withUnit xs n) λ u.
+    then-invalid (numberIn (part xs 12 4)) (withPart xs n u) λ p.
+    then-invalid (numberIn (part xs 16 4)) (withKey xs n u p) λ k.
+    then-invalid (numberIn (part xs 20 8)) (withSecond xs n u p k) (h n u p k)
 
 pub no-kind : (xs : List ℕ) → isKind (getD xs 0 0) ≡ false → headerOf xs ≡ Invalid
 no-kind xs h =

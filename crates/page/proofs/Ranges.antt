@@ -8,7 +8,7 @@ use lib.Dec.{eqb, leb, ltb}
 use borrow.Author.Tests.{eqb-true, eq-eqb, leb-true, le-leb, ltb-true, lt-ltb}
 use Rattle.base.proofs.Choice.{and-true, and-intro, true-false}
 use Rattle.page.specs.Plan.{filePlan, lastFile, places, countOf, startOf}
-use Rattle.page.specs.Header.{nodeLetter, cutOffLetter, keysLetter, commitLetter, lastNumber, lastPosition, lastKeyBlock, lastKeyPage, lastPart, within, nodeFrame, cutOffFrame, keysFrame, commitFrame, inPlan, nodeRanges, cutOffRanges, keysRanges, commitRanges, inRange}
+use Rattle.page.specs.Header.{nodeLetter, cutOffLetter, keysLetter, commitLetter, lastNumber, lastPosition, lastKeyBlock, lastKeyPage, lastPart, within, nodeFrame, cutOffFrame, keysFrame, commitFrame, inPlan, nodeRanges, cutOffRanges, keysRanges, commitRanges, inRange, isKind}
 use Rattle.page.specs.declared.Frame.{Frame}
 use Rattle.page.proofs.Plans.{place-at, plan-below}
 
@@ -44,10 +44,6 @@ pub record CommitRange (f : Frame) : Type 0 where
   pub part : f .part ≤ lastPart
   pub key : f .key ≡ 0
   pub covered : f .second ≤ lastNumber
-
--- whether a byte is one of the four kind letters
-abbrev pub isKind : ℕ → Bool
-isKind b = eqb b nodeLetter || eqb b cutOffLetter || eqb b keysLetter || eqb b commitLetter
 
 -- ---- tests and facts
 pub within-true : (low high n : ℕ) → within low high n ≡ true → (low ≤ n) × (n ≤ high)

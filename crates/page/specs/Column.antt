@@ -1,9 +1,9 @@
 -- Document 01, "Page forms": a number in columns is decimal, right-justified with spaces, without leading zeros.
 use Prim.Native.Nat.{ℕ, zero, suc, _+_, _*_, _-_, _/_, _%_}
 use mathlib.Core.List.{List, [], _∷_}
-use mathlib.Core.Bool.{cond}
+use mathlib.Core.Bool.{Bool, cond, _&&_}
 use lib.ListN.{length}
-use lib.Dec.{eqb, ltb}
+use lib.Dec.{eqb, leb, ltb}
 use Rattle.base.specs.Each.{same}
 use Rattle.page.specs.Frame.{space}
 use Rattle.page.specs.declared.Number.{Number}
@@ -30,6 +30,10 @@ spell w n = columns (w - 1) (n / 10) ((zeroDigit + n % 10) ∷ [])
 abbrev pub digit : ℕ → ℕ
 digit b = cond (ltb b zeroDigit) 0 (cond (ltb (zeroDigit + 9) b) 0 (b - zeroDigit))
 
+-- whether a byte is a digit
+abbrev pub isDigit : ℕ → Bool
+isDigit b = leb zeroDigit b && leb b (zeroDigit + 9)
+
 -- the decimal value of bytes that follow the number n
 unfoldable pub valueAfter : ℕ → List ℕ → ℕ
 valueAfter n [] = n
@@ -38,3 +42,8 @@ valueAfter n (b ∷ bs) = valueAfter (n * 10 + digit b) bs
 -- the number that columns hold: the one whose spelling they are
 unfoldable pub numberIn : List ℕ → Number
 numberIn xs = let n = valueAfter 0 xs in cond (same (spell (length xs) n) xs) (Is n) Misspelt
+
+-- what is made of the number that columns hold, or of columns that hold none
+abbrev pub numberThen : {A : Type 0} → Number → A → (ℕ → A) → A
+numberThen (Is n) otherwise f = f n
+numberThen Misspelt otherwise f = otherwise

@@ -8,7 +8,7 @@ use Rattle.base.specs.Part.{part}
 use Rattle.base.specs.Each.{same}
 use Rattle.base.specs.Search.{allFrom}
 use Rattle.page.specs.Frame.{payloadSize}
-use Rattle.page.specs.Column.{spell, numberIn}
+use Rattle.page.specs.Column.{spell, numberIn, numberThen}
 use Rattle.page.specs.Plan.{places}
 use Rattle.page.specs.Header.{lastPosition}
 use Rattle.page.specs.declared.Number.{Number}
@@ -61,16 +61,12 @@ vacantEntry = 0x20 ∷ 0x20 ∷ 0x20 ∷ 0x2d ∷ 0x20 ∷ 0x20 ∷ 0x20 ∷ 0x2
 unfoldable pub entryBytes : ℕ → ℕ → List ℕ
 entryBytes page key = cond (eqb page none) vacantEntry (spell entryWidth page ++ spell entryWidth key)
 
-abbrev pub andThen : Number → (ℕ → Entry) → Entry
-andThen (IsNumber n) f = f n
-andThen NoNumber f = Misspelt
-
 -- the entry that 8 bytes are
 unfoldable pub entryOf : List ℕ → Entry
 entryOf xs =
     cond (same xs vacantEntry) Vacant
-    (andThen (numberIn (part xs 0 entryWidth)) λ page.
-    andThen (numberIn (part xs entryWidth entryWidth)) λ key.
+    (numberThen (numberIn (part xs 0 entryWidth)) Misspelt λ page.
+    numberThen (numberIn (part xs entryWidth entryWidth)) Misspelt λ key.
     cond (leb page lastPage && leb key lastPosition) (At page key) Misspelt)
 
 abbrev pub isEntry : Entry → Bool
@@ -86,7 +82,11 @@ abbrev pub entryAt : ℕ → ℕ
 entryAt x = entrySize * (x % entriesInPart)
 
 -- ---- payloads
--- the entries of n places from x on; a map has 224 pages, then 224 keys
+-- a map has a page for each place, then a key for each
+abbrev pub mapSize : ℕ
+mapSize = places + places
+
+-- the entries of n places from x on
 unfoldable pub entriesFrom : List ℕ → ℕ → ℕ → List ℕ
 entriesFrom map zero x = []
 entriesFrom map (suc n) x = entryBytes (getD map x none) (getD map (places + x) none) ++ entriesFrom map n (suc x)

@@ -1,13 +1,13 @@
 -- Document 01, "Page forms": the fields of a header, their ranges for each kind, and its 30 bytes.
 use Prim.Native.Nat.{ℕ}
-use mathlib.Core.Bool.{Bool, false, cond, _&&_}
+use mathlib.Core.Bool.{Bool, false, cond, _&&_, _||_}
 use mathlib.Core.List.{List, _∷_, _++_}
 use lib.ListN.{length, getD}
 use lib.Dec.{eqb, leb, ltb}
 use Rattle.base.specs.Part.{part}
 use Rattle.base.specs.Each.{same}
 use Rattle.page.specs.Frame.{colonSpace}
-use Rattle.page.specs.Column.{spell, numberIn}
+use Rattle.page.specs.Column.{spell, numberIn, numberThen}
 use Rattle.page.specs.Plan.{filePlan, lastFile, countOf}
 use Rattle.page.specs.declared.Number.{Number}
 use Rattle.page.specs.declared.Number.the-variants.{Is as IsNumber, Misspelt}
@@ -140,17 +140,17 @@ headerBytes f =
     ++ (spell partWidth (f .part)
     ++ (spell keyWidth (f .key) ++ (spell secondWidth (f .second) ++ colonSpace)))))
 
-abbrev pub andThen : Number → (ℕ → Header) → Header
-andThen (IsNumber n) f = f n
-andThen Misspelt f = Invalid
+-- whether a byte is one of the four kind letters
+abbrev pub isKind : ℕ → Bool
+isKind b = eqb b nodeLetter || eqb b cutOffLetter || eqb b keysLetter || eqb b commitLetter
 
 -- the header that 30 bytes are: every field spelt right and in its range
 unfoldable pub headerOf : List ℕ → Header
 headerOf xs =
-    andThen (numberIn (part xs numberAt numberWidth)) λ number.
-    andThen (numberIn (part xs unitAt unitWidth)) λ unit.
-    andThen (numberIn (part xs partAt partWidth)) λ part'.
-    andThen (numberIn (part xs keyAt keyWidth)) λ key.
-    andThen (numberIn (part xs secondAt secondWidth)) λ second.
+    numberThen (numberIn (part xs numberAt numberWidth)) Invalid λ number.
+    numberThen (numberIn (part xs unitAt unitWidth)) Invalid λ unit.
+    numberThen (numberIn (part xs partAt partWidth)) Invalid λ part'.
+    numberThen (numberIn (part xs keyAt keyWidth)) Invalid λ key.
+    numberThen (numberIn (part xs secondAt secondWidth)) Invalid λ second.
     let f : Frame = record { kind = getD xs kindAt 0; number = number; unit = unit; part = part'; key = key; second = second } in
     cond (same (part xs colonAt (length colonSpace)) colonSpace && inRange f) (Is f) Invalid

@@ -32,6 +32,10 @@ keySlot p = p % keysInPage
 unfoldable pub keyInPage : List ℕ → ℕ → List ℕ
 keyInPage page slot = part page (headerSize + keySize * slot) keySize
 
+-- a key's worth of noise for each position: 7,168 bytes
+abbrev pub noiseSize : ℕ
+noiseSize = keySize * positions
+
 -- position p's 16 bytes of noise
 unfoldable pub keyInNoise : List ℕ → ℕ → List ℕ
 keyInNoise noise p = part noise (keySize * p) keySize

@@ -4,10 +4,10 @@ ghost use mathlib.Core.Path.{_≡_};
 ghost use mathlib.Core.Bool.{_&&_};
 ghost use Prim.Native.Nat.{suc, _+_, _≤_, _<_};
 ghost use lib.ListN.{length, getD, drop};
-ghost use lib.Dec.{leb};
+ghost use Rattle.base.specs.Lent.{old, new};
 ghost use Rattle.base.specs.Part.{part, splice};
 ghost use Rattle.page.specs.Frame.{space};
-ghost use Rattle.page.specs.Column.{zeroDigit, column, columns, spell, digit, numberIn};
+ghost use Rattle.page.specs.Column.{zeroDigit, column, columns, spell, digit, isDigit, numberIn};
 
 const SPACE: u8 = 0x20;
 
@@ -33,7 +33,7 @@ fn column_of(m: u32) -> u8
 // Writes n into the w columns of dst.
 pub fn put(dst: &mut [u8], w: usize, n: u32)
     requires { ⌜ (length (now dst) ≡ w) × (1 ≤ w) ⌝ }
-    ensures { λ _. ⌜ now (dst .exit) ≡ spell w n ⌝ }
+    ensures { λ _. ⌜ new dst ≡ spell w n ⌝ }
 {
     let mut i = w - 1;
     dst[i] = digit_byte(n % 10);
@@ -48,7 +48,7 @@ pub fn put(dst: &mut [u8], w: usize, n: u32)
 // Writes n into the w columns of dst from at on.
 pub fn put_at(dst: &mut [u8], at: usize, w: usize, n: u32)
     requires { ⌜ (at + w ≤ length (now dst)) × (1 ≤ w) ⌝ }
-    ensures { λ _. ⌜ now (dst .exit) ≡ splice (now (dst .entry)) at (spell w n) ⌝ }
+    ensures { λ _. ⌜ new dst ≡ splice (old dst) at (spell w n) ⌝ }
 {
     put(&mut dst[at..at + w], w, n);
 }
@@ -68,7 +68,7 @@ fn digit_of(b: u8) -> u32
 
 // Whether b is a digit.
 fn is_digit(b: u8) -> bool
-    ensures { λ r. ⌜ r ≡ (leb zeroDigit b && leb b (zeroDigit + 9)) ⌝ }
+    ensures { λ r. ⌜ r ≡ isDigit b ⌝ }
 {
     (ZERO <= b) & (b <= NINE)
 }
@@ -76,9 +76,9 @@ fn is_digit(b: u8) -> bool
 // How many columns on the left of src are spaces, the last column not counted.
 fn spaces(src: &[u8]) -> usize
     requires { ⌜ 1 ≤ length (now src) ⌝ }
-    ensures { λ r. ⌜ r < length (now (src .entry)) ⌝ }
-    ensures { λ r. ⌜ columns r 0 (drop r (now (src .entry))) ≡ now (src .entry) ⌝ }
-    ensures { λ r. ⌜ (suc r < length (now (src .entry)) → getD (now (src .entry)) r 0 ≡ space → ⊥) ⌝ }
+    ensures { λ r. ⌜ r < length (old src) ⌝ }
+    ensures { λ r. ⌜ columns r 0 (drop r (old src)) ≡ old src ⌝ }
+    ensures { λ r. ⌜ (suc r < length (old src) → getD (old src) r 0 ≡ space → ⊥) ⌝ }
 {
     let last = src.len() - 1;
     let mut i = 0;
@@ -94,7 +94,7 @@ fn spaces(src: &[u8]) -> usize
 // The number that the columns of src hold: after the spaces digits, of which the first is 0 in the last column only.
 pub fn get(src: &[u8]) -> Number
     requires { ⌜ (1 ≤ length (now src)) × (length (now src) ≤ 8) ⌝ }
-    ensures { λ r. ⌜ r ≡ numberIn (now (src .entry)) ⌝ }
+    ensures { λ r. ⌜ r ≡ numberIn (old src) ⌝ }
 {
     let last = src.len() - 1;
     let first = spaces(src);
@@ -119,7 +119,7 @@ pub fn get(src: &[u8]) -> Number
 // The number that the w columns of src from at on hold.
 pub fn get_at(src: &[u8], at: usize, w: usize) -> Number
     requires { ⌜ (at + w ≤ length (now src)) × (1 ≤ w) × (w ≤ 8) ⌝ }
-    ensures { λ r. ⌜ r ≡ numberIn (part (now (src .entry)) at w) ⌝ }
+    ensures { λ r. ⌜ r ≡ numberIn (part (old src) at w) ⌝ }
 {
     get(&src[at..at + w])
 }

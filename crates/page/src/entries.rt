@@ -9,6 +9,7 @@ use crate::plan;
 ghost use mathlib.Core.Path.{_≡_};
 ghost use Prim.Native.Nat.{_≤_, _<_, _+_, _*_};
 ghost use lib.ListN.{length, getD};
+ghost use Rattle.base.specs.Lent.{old, new};
 ghost use Rattle.base.specs.Part.{part};
 ghost use Rattle.base.specs.Search.{allFrom};
 ghost use Rattle.page.specs.Frame.{payloadSize};
@@ -49,7 +50,7 @@ pub fn is_letter(b: u8) -> bool
 // Writes the entry of a page and a key, as a map has them.
 pub fn write_entry(dst: &mut [u8], page: u16, key: u16)
     requires { ⌜ length (now dst) ≡ entrySize ⌝ }
-    ensures { λ _. ⌜ now (dst .exit) ≡ entryBytes page key ⌝ }
+    ensures { λ _. ⌜ new dst ≡ entryBytes page key ⌝ }
 {
     if page == NONE {
         bytes::copy(dst, b"   -   -");
@@ -62,7 +63,7 @@ pub fn write_entry(dst: &mut [u8], page: u16, key: u16)
 // The entry that 8 bytes are.
 pub fn read_entry(src: &[u8]) -> Entry
     requires { ⌜ length (now src) ≡ entrySize ⌝ }
-    ensures { λ r. ⌜ r ≡ entryOf (now (src .entry)) ⌝ }
+    ensures { λ r. ⌜ r ≡ entryOf (old src) ⌝ }
 {
     if bytes::same(src, b"   -   -") {
         return Entry::Vacant;
@@ -84,8 +85,9 @@ pub fn read_entry(src: &[u8]) -> Entry
 
 // Writes the entries of a map's places from first on, as many as a part holds.
 fn write_entries(dst: &mut [u8], map: &[u16], first: usize)
-    requires { ⌜ (length (now dst) ≡ payloadSize) × (length (now map) ≡ places + places) × (first + entriesInPart ≤ places) ⌝ }
-    ensures { λ _. ⌜ now (dst .exit) ≡ entriesFrom (now (map .entry)) entriesInPart first ⌝ }
+    requires { ⌜ (length (now dst)
+        ≡ payloadSize) × (length (now map) ≡ places + places) × (first + entriesInPart ≤ places) ⌝ }
+    ensures { λ _. ⌜ new dst ≡ entriesFrom (old map) entriesInPart first ⌝ }
 {
     let mut j = 0;
     while j < ENTRIES_IN_PART {
@@ -98,8 +100,9 @@ fn write_entries(dst: &mut [u8], map: &[u16], first: usize)
 
 // Writes the payload of a commit's part i.
 pub fn write_commit_payload(dst: &mut [u8], map: &[u16], letters: &[u8], i: usize)
-    requires { ⌜ (length (now dst) ≡ payloadSize) × (length (now map) ≡ places + places) × (length (now letters) ≡ positions) × (i < parts) ⌝ }
-    ensures { λ _. ⌜ now (dst .exit) ≡ commitPayload (now (map .entry)) (now (letters .entry)) i ⌝ }
+    requires { ⌜ (length (now dst)
+        ≡ payloadSize) × (length (now map) ≡ places + places) × (length (now letters) ≡ positions) × (i < parts) ⌝ }
+    ensures { λ _. ⌜ new dst ≡ commitPayload (old map) (old letters) i ⌝ }
 {
     if i < FIRST_ENTRY_PART {
         let at = Frame::PAYLOAD * i;
@@ -112,7 +115,7 @@ pub fn write_commit_payload(dst: &mut [u8], map: &[u16], letters: &[u8], i: usiz
 // Whether every byte of a payload is a letter.
 fn all_letters(payload: &[u8]) -> bool
     requires { ⌜ length (now payload) ≡ payloadSize ⌝ }
-    ensures { λ r. ⌜ r ≡ allFrom (λ j. isLetter (getD (now (payload .entry)) j 0)) payloadSize 0 ⌝ }
+    ensures { λ r. ⌜ r ≡ allFrom (λ j. isLetter (getD (old payload) j 0)) payloadSize 0 ⌝ }
 {
     let mut j = 0;
     while j < Frame::PAYLOAD {
@@ -127,7 +130,7 @@ fn all_letters(payload: &[u8]) -> bool
 // Whether 8 bytes are an entry.
 fn is_entry(src: &[u8]) -> bool
     requires { ⌜ length (now src) ≡ entrySize ⌝ }
-    ensures { λ r. ⌜ r ≡ isEntry (entryOf (now (src .entry))) ⌝ }
+    ensures { λ r. ⌜ r ≡ isEntry (entryOf (old src)) ⌝ }
 {
     match read_entry(src) {
         Entry::At(_, _) => true,
@@ -139,7 +142,8 @@ fn is_entry(src: &[u8]) -> bool
 // Whether a payload holds entries throughout.
 fn all_entries(payload: &[u8]) -> bool
     requires { ⌜ length (now payload) ≡ payloadSize ⌝ }
-    ensures { λ r. ⌜ r ≡ allFrom (λ j. isEntry (entryOf (part (now (payload .entry)) (entrySize * j) entrySize))) entriesInPart 0 ⌝ }
+    ensures { λ r. ⌜ r
+        ≡ allFrom (λ j. isEntry (entryOf (part (old payload) (entrySize * j) entrySize))) entriesInPart 0 ⌝ }
 {
     let mut j = 0;
     while j < ENTRIES_IN_PART {
@@ -155,7 +159,7 @@ fn all_entries(payload: &[u8]) -> bool
 // Whether a payload is valid as that of a commit's part i.
 pub fn valid_payload(payload: &[u8], i: usize) -> bool
     requires { ⌜ length (now payload) ≡ payloadSize ⌝ }
-    ensures { λ r. ⌜ r ≡ validPayload i (now (payload .entry)) ⌝ }
+    ensures { λ r. ⌜ r ≡ validPayload i (old payload) ⌝ }
 {
     if i < FIRST_ENTRY_PART {
         all_letters(payload)

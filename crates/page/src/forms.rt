@@ -6,12 +6,13 @@ use crate::bytes;
 use crate::headers;
 ghost use mathlib.Core.Path.{_≡_};
 ghost use lib.ListN.{length};
+ghost use Rattle.base.specs.Lent.{old};
 ghost use Rattle.page.specs.Frame.{pageSize};
 ghost use Rattle.page.specs.Form.{isEmpty, closed, formOf};
 
 // Whether all bytes are FFh.
 pub fn is_empty(bytes: &[u8]) -> bool
-    ensures { λ r. ⌜ r ≡ isEmpty (now (bytes .entry)) ⌝ }
+    ensures { λ r. ⌜ r ≡ isEmpty (old bytes) ⌝ }
 {
     let mut i = 0;
     while i < bytes.len() {
@@ -26,7 +27,7 @@ pub fn is_empty(bytes: &[u8]) -> bool
 // Whether a page's closing is right.
 fn is_closed(page: &[u8]) -> bool
     requires { ⌜ length (now page) ≡ pageSize ⌝ }
-    ensures { λ r. ⌜ r ≡ closed (now (page .entry)) ⌝ }
+    ensures { λ r. ⌜ r ≡ closed (old page) ⌝ }
 {
     bytes::same(&page[Frame::CLOSING_AT..Frame::PAGE], b"\r\n")
 }
@@ -34,7 +35,7 @@ fn is_closed(page: &[u8]) -> bool
 // The form of a page.
 pub fn form(page: &[u8]) -> Form
     requires { ⌜ length (now page) ≡ pageSize ⌝ }
-    ensures { λ r. ⌜ r ≡ formOf (now (page .entry)) ⌝ }
+    ensures { λ r. ⌜ r ≡ formOf (old page) ⌝ }
 {
     match headers::read_header(&page[0..Frame::HEADER]) {
         Header::Is(f) => {

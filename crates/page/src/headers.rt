@@ -9,11 +9,11 @@ use crate::plan;
 ghost use mathlib.Core.Path.{_≡_};
 ghost use mathlib.Core.Bool.{true, _||_};
 ghost use lib.ListN.{length};
-ghost use lib.Dec.{eqb};
+ghost use Rattle.base.specs.Lent.{old, new};
 ghost use Rattle.base.specs.Part.{part};
 ghost use Rattle.base.specs.Each.{same};
 ghost use Rattle.page.specs.Frame.{headerSize, colonSpace};
-ghost use Rattle.page.specs.Header.{nodeLetter, cutOffLetter, keysLetter, commitLetter, lastNumber, within, inPlan, nodeRanges, cutOffRanges, keysRanges, commitRanges, inRange, headerBytes, headerOf};
+ghost use Rattle.page.specs.Header.{lastNumber, isKind, within, inPlan, nodeRanges, cutOffRanges, keysRanges, commitRanges, inRange, headerBytes, headerOf};
 
 // Where each number's columns start and how many there are; the kind letter is before them, colon and space after them.
 const NUMBER_AT: usize = 1;
@@ -119,7 +119,7 @@ pub fn in_range(f: Frame) -> bool
 // Writes the header of f into the 30 bytes of dst.
 pub fn write_header(dst: &mut [u8], f: Frame)
     requires { ⌜ length (now dst) ≡ headerSize ⌝ }
-    ensures { λ _. ⌜ now (dst .exit) ≡ headerBytes f ⌝ }
+    ensures { λ _. ⌜ new dst ≡ headerBytes f ⌝ }
 {
     columns::put_at(dst, NUMBER_AT, NUMBER_COLUMNS, f.number);
     columns::put_at(dst, UNIT_AT, UNIT_COLUMNS, f.unit);
@@ -132,7 +132,7 @@ pub fn write_header(dst: &mut [u8], f: Frame)
 
 // Whether b is one of the four kind letters.
 fn is_kind(b: u8) -> bool
-    ensures { λ r. ⌜ r ≡ (eqb b nodeLetter || eqb b cutOffLetter || eqb b keysLetter || eqb b commitLetter) ⌝ }
+    ensures { λ r. ⌜ r ≡ isKind b ⌝ }
 {
     (b == Frame::NODE_LETTER)
         | (b == Frame::CUT_OFF_LETTER)
@@ -143,7 +143,7 @@ fn is_kind(b: u8) -> bool
 // The header that 30 bytes are which end in colon and space.
 fn read_fields(src: &[u8]) -> Header
     requires { ⌜ (length (now src) ≡ headerSize) × (same (part (now src) 28 2) colonSpace ≡ true) ⌝ }
-    ensures { λ r. ⌜ r ≡ headerOf (now (src .entry)) ⌝ }
+    ensures { λ r. ⌜ r ≡ headerOf (old src) ⌝ }
 {
     let kind = src[0];
     let Number::Is(number) = columns::get_at(src, NUMBER_AT, NUMBER_COLUMNS) else {
@@ -179,7 +179,7 @@ fn read_fields(src: &[u8]) -> Header
 // The header that 30 bytes are. The kind letter and the end are looked at first: most bytes that are no header fail there.
 pub fn read_header(src: &[u8]) -> Header
     requires { ⌜ length (now src) ≡ headerSize ⌝ }
-    ensures { λ r. ⌜ r ≡ headerOf (now (src .entry)) ⌝ }
+    ensures { λ r. ⌜ r ≡ headerOf (old src) ⌝ }
 {
     if !is_kind(src[0]) {
         return Header::Invalid;

@@ -4,6 +4,7 @@ use crate::bytes;
 ghost use mathlib.Core.Path.{_≡_};
 ghost use Prim.Native.Nat.{_<_};
 ghost use lib.ListN.{length};
+ghost use Rattle.base.specs.Lent.{old};
 ghost use Rattle.page.specs.Frame.{pageSize};
 ghost use Rattle.page.specs.Key.{keysInPage, keyBlock, keyPage, keySlot, keyInPage};
 
@@ -17,6 +18,9 @@ pub const KEYS_IN_BLOCK: usize = 224;
 pub const POSITIONS: usize = 448;
 
 pub const LAST_POSITION: u32 = 447;
+
+// A key's worth of noise for each position.
+pub const NOISE_SIZE: usize = KEY_SIZE * POSITIONS;
 
 // The key block of position p.
 pub fn block_of(p: usize) -> usize
@@ -42,7 +46,7 @@ pub fn slot_of(p: usize) -> usize
 // The key in a slot of a key page.
 pub fn key_in_page(page: &[u8], slot: usize) -> [u8; 16]
     requires { ⌜ (length (now page) ≡ pageSize) × (slot < keysInPage) ⌝ }
-    ensures { λ r. ⌜ r ≡ keyInPage (now (page .entry)) slot ⌝ }
+    ensures { λ r. ⌜ r ≡ keyInPage (old page) slot ⌝ }
 {
     let at = Frame::HEADER + KEY_SIZE * slot;
     let mut key = [0u8; 16];

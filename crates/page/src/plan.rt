@@ -29,6 +29,9 @@ pub const LAST_FILE: u32 = 13;
 // The sum of the counts.
 pub const PLACES: usize = 224;
 
+// A map has a page and a key for each place.
+pub const MAP_SIZE: usize = PLACES + PLACES;
+
 // How many nodes a file holds; none where there is no such file.
 pub fn count(file: u32) -> u32
     ensures { λ r. ⌜ r ≡ countOf filePlan file ⌝ }

@@ -4,6 +4,7 @@ use crate::bytes;
 use crate::headers;
 ghost use mathlib.Core.Path.{_≡_};
 ghost use lib.ListN.{length};
+ghost use Rattle.base.specs.Lent.{old, new};
 ghost use Rattle.base.specs.Part.{splice};
 ghost use Rattle.page.specs.Frame.{headerSize, payloadSize, pageSize};
 ghost use Rattle.page.specs.Page.{pageBytes, enciphered, nodePage, payloadOf, cutPage};
@@ -11,7 +12,7 @@ ghost use Rattle.page.specs.Page.{pageBytes, enciphered, nodePage, paylo
 // Writes a page whole: header, payload, closing.
 fn write_whole(page: &mut [u8], f: Frame, payload: &[u8])
     requires { ⌜ (length (now page) ≡ pageSize) × (length (now payload) ≡ payloadSize) ⌝ }
-    ensures { λ _. ⌜ now (page .exit) ≡ pageBytes f (now (payload .entry)) ⌝ }
+    ensures { λ _. ⌜ new page ≡ pageBytes f (old payload) ⌝ }
 {
     headers::write_header(&mut page[0..Frame::HEADER], f);
     bytes::copy(&mut page[Frame::HEADER..Frame::CLOSING_AT], payload);
@@ -21,7 +22,7 @@ fn write_whole(page: &mut [u8], f: Frame, payload: &[u8])
 // Leaves of a page what a program that is cut after k bytes leaves.
 fn cut(page: &mut [u8], k: usize)
     requires { ⌜ length (now page) ≡ pageSize ⌝ }
-    ensures { λ _. ⌜ now (page .exit) ≡ cutPage k (now (page .entry)) ⌝ }
+    ensures { λ _. ⌜ new page ≡ cutPage k (old page) ⌝ }
 {
     if k < Frame::PAGE {
         bytes::fill(&mut page[k..], Frame::ERASED);
@@ -31,7 +32,7 @@ fn cut(page: &mut [u8], k: usize)
 // Enciphers a page's payload in place.
 fn encipher(page: &mut [u8], key: [u8; 16])
     requires { ⌜ length (now page) ≡ pageSize ⌝ }
-    ensures { λ _. ⌜ now (page .exit) ≡ splice (now (page .entry)) headerSize (enciphered key (payloadOf (now (page .entry)))) ⌝ }
+    ensures { λ _. ⌜ new page ≡ splice (old page) headerSize (enciphered key (payloadOf (old page))) ⌝ }
 {
     cipher::apply_stream(
         cipher::expand(key),
@@ -42,7 +43,7 @@ fn encipher(page: &mut [u8], key: [u8; 16])
 // Writes a page of a frame and a payload, as a program that is cut after k bytes.
 pub fn write_page(page: &mut [u8], f: Frame, payload: &[u8], k: usize)
     requires { ⌜ (length (now page) ≡ pageSize) × (length (now payload) ≡ payloadSize) ⌝ }
-    ensures { λ _. ⌜ now (page .exit) ≡ cutPage k (pageBytes f (now (payload .entry))) ⌝ }
+    ensures { λ _. ⌜ new page ≡ cutPage k (pageBytes f (old payload)) ⌝ }
 {
     write_whole(page, f, payload);
     cut(page, k);
@@ -60,7 +61,7 @@ pub fn write_node(
     k: usize,
 )
     requires { ⌜ (length (now page) ≡ pageSize) × (length (now payload) ≡ payloadSize) ⌝ }
-    ensures { λ _. ⌜ now (page .exit) ≡ cutPage k (nodePage sequence file offset position key (now (payload .entry))) ⌝ }
+    ensures { λ _. ⌜ new page ≡ cutPage k (nodePage sequence file offset position key (old payload)) ⌝ }
 {
     write_whole(page, Frame::node(sequence, file, offset, position), payload);
     encipher(page, key);
@@ -70,7 +71,7 @@ pub fn write_node(
 // Reads the payload of a node under its key.
 pub fn read_payload(page: &[u8], key: [u8; 16], out: &mut [u8])
     requires { ⌜ (length (now page) ≡ pageSize) × (length (now out) ≡ payloadSize) ⌝ }
-    ensures { λ _. ⌜ now (out .exit) ≡ enciphered key (payloadOf (now (page .entry))) ⌝ }
+    ensures { λ _. ⌜ new out ≡ enciphered key (payloadOf (old page)) ⌝ }
 {
     bytes::copy(out, &page[Frame::HEADER..Frame::CLOSING_AT]);
     cipher::apply_stream(cipher::expand(key), out);

@@ -70,21 +70,21 @@ entry-sequence (At page key) = refl
 entry-sequence NoEntry = refl
 entry-sequence Misspelt = refl
 
-abbrev sequenceOf : Decision → ℕ
-sequenceOf d = d .sequence
+abbrev decidingSequence : Decision → ℕ
+decidingSequence d = d .sequence
 
 -- the sequence of a decision is its event's
 pub event-sequence : (img : List ℕ) (s x n : ℕ) (d : Decision) (e : ByEvent img s x n d) → d .sequence ≡ e .header .number
 event-sequence img s x n d e =
-    ap sequenceOf (e .given)
-    ∙ cond-ap sequenceOf (sets x (e .header)) (setBy (e .page) (e .header)) (cutBy (e .header))
+    ap decidingSequence (e .given)
+    ∙ cond-ap decidingSequence (sets x (e .header)) (setBy (e .page) (e .header)) (cutBy (e .header))
     ∙ cond-same (sets x (e .header)) (e .header .number)
 
 module _ (img : List ℕ) (s x : ℕ) (entry : Entry) where
   -- page n is no event, or one of a lower sequence: the decision stays
   stays : (n : ℕ) (d : Decision) → Decided img s x entry n d → ((f : Frame) → Event img s x n f → f .number < d .sequence) → Decided img s x entry (suc n) d
   stays n d (inl e) low =
-      let z : d .sequence ≡ 0 = ap sequenceOf (e .given) ∙ entry-sequence entry in
+      let z : d .sequence ≡ 0 = ap decidingSequence (e .given) ∙ entry-sequence entry in
       inl
       (record {
         none-above = λ g f h v.
@@ -195,7 +195,7 @@ entry-decides img c x no-event = go (deciding-event img c x)
   where
     go : Decided img (coveredIn img c) x (entryIn img c x) (pages img) (decision img c x)
         → (decision img c x ≡ byEntry (entryIn img c x)) × (decision img c x .sequence ≡ 0)
-    go (inl e) = (e .given, ap sequenceOf (e .given) ∙ entry-sequence (entryIn img c x))
+    go (inl e) = (e .given, ap decidingSequence (e .given) ∙ entry-sequence (entryIn img c x))
     go (inr e) = absurd (no-event (e .page) (e .header) (e .inside) (e .event))
 
 -- an event of highest sequence, on the highest page of those, decides
@@ -270,7 +270,7 @@ module _ (img img' : List ℕ) (c c' : ℕ) (same : (x : ℕ) → x < places →
 
   pub mount-scratch-agree : mountScratch img c ≡ mountScratch img' c'
   unfolding mountScratch
-  mount-scratch-agree = listFrom-agree _ _ places 0 (λ x h k. ap sequenceOf (same x (omega arith)))
+  mount-scratch-agree = listFrom-agree _ _ places 0 (λ x h k. ap decidingSequence (same x (omega arith)))
 
 -- ---- a place that an event decided fits by itself
 sets-is : (x : ℕ) (f : Frame) → sets x f ≡ true → (f .kind ≡ nodeLetter) × (placeOf filePlan (f .unit) (f .part) ≡ PlaceAt x)
@@ -308,7 +308,7 @@ module _ (img : List ℕ) (c : ℕ) where
       by-kind e false t = vacant-fits img (mountMap img c) x (cut-vacant x h e t)
 
       go : Decided img (coveredIn img c) x (entryIn img c x) (pages img) (decision img c x) → placeFits img (mountMap img c) x ≡ true
-      go (inl e) = absurd (decided (ap sequenceOf (e .given) ∙ entry-sequence (entryIn img c x)))
+      go (inl e) = absurd (decided (ap decidingSequence (e .given) ∙ entry-sequence (entryIn img c x)))
       go (inr e) = by-kind e (sets x (e .header)) refl
 
   -- so the live entries fit exactly where all places do

@@ -1,11 +1,12 @@
 -- Document 01, "Calls and their refusals": Format.
-use Prim.Native.Nat.{ℕ, _*_}
+use Prim.Native.Nat.{ℕ}
 use mathlib.Core.Bool.{Bool, _&&_}
 use mathlib.Core.List.{List, [], _∷_, _++_}
 use lib.ListN.{length, replicate}
 use lib.Dec.{eqb}
 use Rattle.base.specs.Fold.{listFrom}
-use Rattle.page.specs.Key.{keySize, positions, keyInNoise}
+use Rattle.page.specs.Key.{positions, keyInNoise}
+pub use Rattle.page.specs.Key.{noiseSize}
 use Rattle.page.specs.Entry.{none, freeLetter}
 use Rattle.image.specs.Size.{sizeRight, blocks}
 use Rattle.image.specs.Step.{Step, erase}
@@ -15,10 +16,6 @@ use Rattle.store.specs.Record.{Record, mapSize}
 use Rattle.store.specs.Outcome.{Outcome, Left, decided}
 use Rattle.store.specs.declared.Numbers.{Numbers}
 use Rattle.store.specs.declared.Reply.the-variants.{ImageSize, BufferLength, NoiseLength}
-
--- a key's worth of noise for each position: 7,168 bytes
-abbrev pub noiseSize : ℕ
-noiseSize = keySize * positions
 
 abbrev pub buffersRight : List ℕ → List ℕ → Bool
 buffersRight map letters = eqb (length map) mapSize && eqb (length letters) positions

@@ -9,6 +9,7 @@ use Rattle.page.specs.Plan.{filePlan, places, placeOf}
 use Rattle.page.specs.Header.{nodeLetter, within, lastNumber}
 use Rattle.page.specs.Key.{positions}
 use Rattle.page.specs.Entry.{none, isLetter, usedLetter}
+pub use Rattle.page.specs.Entry.{mapSize}
 use Rattle.page.specs.declared.Form.{Form}
 use Rattle.page.specs.declared.Form.the-variants.{Empty, Whole, Torn, Spoilt}
 use Rattle.page.specs.declared.Place.{Place}
@@ -28,9 +29,6 @@ recordOf map letters n = record { map = map; letters = letters; numbers = n }
 
 abbrev pub withNumbers : Record → Numbers → Record
 withNumbers r n = record { map = r .map; letters = r .letters; numbers = n }
-
-abbrev pub mapSize : ℕ
-mapSize = 448
 
 -- the page and the key position of place x
 abbrev pub pageOf : List ℕ → ℕ → ℕ

@@ -10,6 +10,7 @@ use image::blocks;
 use image::look;
 use page::bytes;
 use page::entries;
+use page::keys::NOISE_SIZE;
 ghost use mathlib.Core.Path.{_≡_};
 ghost use mathlib.Core.Bool.{true};
 ghost use mathlib.Core.List.{[]};
@@ -22,9 +23,6 @@ ghost use Rattle.store.specs.Reply.{verdict};
 ghost use Rattle.store.specs.Outcome.{left, leftWhole, standing};
 ghost use Rattle.store.specs.Format.{noiseSize, noNumbers, formatNumbers, formatted, formatTests, formatSteps, formatLeaves};
 ghost use Rattle.store.specs.Taken.{FormatTaken};
-
-// A key's worth of noise for each of the 448 positions.
-const NOISE_SIZE: usize = 7168;
 
 // The epoch of a new volume, and the blocks of its key blocks and its commit.
 const FIRST_EPOCH: u32 = 1;

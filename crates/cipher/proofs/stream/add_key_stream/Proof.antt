@@ -8,7 +8,7 @@ use lib.ListN.{length}
 use borrow.Author.Needs.{needs}
 use Rattle.cipher.specs.Words.{xorBytes}
 use Rattle.cipher.specs.Cipher.{cipher}
-use Rattle.cipher.specs.CounterMode.{blocks, keyStream, counterMode}
+use Rattle.cipher.specs.CounterMode.{streamBlocks, keyStream, counterMode}
 use Rattle.cipher.proofs.Sums.{xor-nil}
 use Rattle.cipher.proofs.KeyStream.{key-stream-more}
 use Rattle.cipher.proofs.stream.add_key_stream.Statement.{statement}
@@ -76,7 +76,7 @@ unfolding counterMode
 returns c =
     let a = c .before .before .before .args in
     let l = c .before .loop in
-    let n : l .n ≡ blocks (length (now (a .text))) = omega arith in
+    let n : l .n ≡ streamBlocks (length (now (a .text))) = omega arith in
     l .inv .3 ∙ ap (λ (m : ℕ). xorBytes (now (a .text)) (keyStream (now (a .w)) m)) n
 
 pub add-key-stream-spec : {M : Type 1} → statement M

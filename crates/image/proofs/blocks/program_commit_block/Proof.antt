@@ -7,10 +7,9 @@ use denote.Ref.{now}
 use borrow.Author.Needs.{needs}
 use Rattle.page.specs.Entry.{parts}
 use Rattle.image.specs.Power.{device, run}
-use Rattle.image.specs.Block.{commitBlockSteps}
+use Rattle.image.specs.Block.{commitBlockSteps, commitBlockPage}
 use Rattle.image.proofs.Rows.{rowStep, rowSteps}
 use Rattle.image.proofs.Runs.{run-next, run-none}
-use Rattle.image.proofs.CommitBlock.{commitBlockPage}
 use Rattle.image.proofs.blocks.program_commit_block.Statement.{statement}
 use Rattle.image.proofs.blocks.program_commit_block.Tie as tie
 

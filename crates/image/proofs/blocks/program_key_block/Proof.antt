@@ -9,10 +9,10 @@ use Rattle.page.specs.Frame.{pageSize}
 use Rattle.image.specs.Size.{pagesInBlock}
 use Rattle.image.specs.Look.{blockAt}
 use Rattle.image.specs.Power.{device, act, run}
-use Rattle.image.specs.Block.{renewedKey, keyBlockSteps}
+use Rattle.image.specs.Block.{renewedKey, keyBlockSteps, keyBlockPage}
 use Rattle.image.proofs.Rows.{rowStep, rowSteps}
 use Rattle.image.proofs.Runs.{run-next, run-none, block-done-other}
-use Rattle.image.proofs.KeyBlock.{keyBlockPage, key-page-size, renewed-at-length}
+use Rattle.image.proofs.KeyBlock.{key-page-size, renewed-at-length}
 use Rattle.image.proofs.blocks.program_key_block.Statement.{statement}
 use Rattle.image.proofs.blocks.program_key_block.Tie as tie
 
@@ -45,15 +45,15 @@ loop-again c =
     let w = c .before .before .program-next-keys in
     let a = c .before .before .before .before .before .before .before .before .before .args in
     let pre = c .before .before .before .before .before .before .before .before .before .pre in
-    let key = renewedKey (blockAt (now (a .image)) (a .old)) (now (a .letters)) (now (a .noise)) in
+    let key = renewedKey (blockAt (now (a .image)) (a .last)) (now (a .letters)) (now (a .noise)) in
     let page = keyBlockPage (a .epoch) (a .block) key in
     let size : length (page (l .i)) ≡ pageSize =
     key-page-size (a .epoch) (a .block) key
-    (renewed-at-length (now (a .image)) (now (a .letters)) (now (a .noise)) (a .old) (omega arith) (omega arith)) (omega arith) (l .i) (omega arith) in
+    (renewed-at-length (now (a .image)) (now (a .letters)) (now (a .noise)) (a .last) (omega arith) (omega arith)) (omega arith) (l .i) (omega arith) in
     let e : device (w .result) (w .last .0) ≡ act (rowStep (a .b) page (l .i)) (device (l .q) (l .image)) = rw (l .inv .2) at (w .ensures) in (
       omega arith,
       w .kept .0 ∙ l .inv .1,
-      block-done-other (rowStep (a .b) page (l .i)) (l .q) (w .result) (l .image) (w .last .0) (a .old) e (omega arith, size) (λ f. omega arith) ∙ l .inv .2,
+      block-done-other (rowStep (a .b) page (l .i)) (l .q) (w .result) (l .image) (w .last .0) (a .last) e (omega arith, size) (λ f. omega arith) ∙ l .inv .2,
       l .inv .3 ∙ run-next (rowStep (a .b) page) pagesInBlock (l .i) (device (l .q) (l .image)) (device (w .result) (w .last .0)) (omega arith) e,
     )
 

@@ -17,11 +17,11 @@ use Rattle.store.proofs.kinds.key_block_whole.Statement.{statement}
 use Rattle.store.proofs.kinds.key_block_whole.Tie as tie
 
 -- page i of the block is page i of key block q of epoch e
-abbrev keyPage : List ℕ → ℕ → ℕ → ℕ → ℕ → Bool
-keyPage img b q e i = wholeWith (keysFrame e q i) (formAt img (pageIn b i))
+abbrev keysWhole : List ℕ → ℕ → ℕ → ℕ → ℕ → Bool
+keysWhole img b q e i = wholeWith (keysFrame e q i) (formAt img (pageIn b i))
 
 abbrev Inv-loop : tie.InvT-loop
-Inv-loop image b q e page₀ page = (page ≤ pagesInBlock) × (keyBlockWhole image b q e ≡ allFrom (keyPage image b q e) (pagesInBlock - page) page)
+Inv-loop image b q e page₀ page = (page ≤ pagesInBlock) × (keyBlockWhole image b q e ≡ allFrom (keysWhole image b q e) (pagesInBlock - page) page)
 
 abbrev μ-loop : tie.MeasureT-loop
 μ-loop image b q e page₀ page = pagesInBlock - page

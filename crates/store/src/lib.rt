@@ -6,6 +6,7 @@ mod kinds;
 pub mod read;
 mod record;
 pub mod replies;
+mod strays;
 mod survey;
 mod tests;
 pub mod write;

@@ -4,6 +4,7 @@ mod fit;
 pub mod format;
 mod kinds;
 pub mod read;
+mod rebuild;
 mod record;
 pub mod replies;
 mod strays;

@@ -17,7 +17,7 @@ ghost use Rattle.page.specs.Entry.{parts, validPayload};
 ghost use Rattle.page.specs.Page.{payloadOf};
 ghost use Rattle.image.specs.Size.{blockSize, pagesInBlock};
 ghost use Rattle.image.specs.Look.{pageAt, pageEmpty, formAt};
-ghost use Rattle.store.specs.Kind.{pageIn, sameFrame, wholeWith, keyBlockWhole, partWhole, kindBy, kindOf, keysEpoch, commitEpoch, coveredBy, isEventLetter, headed, hasEvents, isChosen, isData};
+ghost use Rattle.store.specs.Kind.{pageIn, sameFrame, wholeWith, keyBlockWhole, partWhole, isBlockLetter, kindBy, kindOf, keysEpoch, commitEpoch, coveredBy, isEventLetter, headed, hasEvents, isChosen, isData};
 
 // Whether two headers are the same, field by field.
 fn same_frame(f: Frame, h: Frame) -> bool
@@ -166,12 +166,22 @@ fn kind_by(image: &[u8], b: usize, f: Frame) -> Kind
     }
 }
 
-// What block b is; outside the image it is nothing of its own.
+// Whether a kind letter is K or C.
+fn is_block_letter(kind: u8) -> bool
+    ensures { λ r. ⌜ r ≡ isBlockLetter kind ⌝ }
+{
+    (kind == Frame::KEYS_LETTER) | (kind == Frame::COMMIT_LETTER)
+}
+
+// What block b is; outside the image it is nothing of its own. What is none is mostly told by its first byte.
 pub fn kind_of(image: &[u8], b: usize) -> Kind
     requires { ⌜ length (now image) % blockSize ≡ 0 ⌝ }
     ensures { λ r. ⌜ r ≡ kindOf (now (image .entry)) b ⌝ }
 {
     if image.len() / BLOCK_SIZE <= b {
+        return Kind::Other;
+    }
+    if !is_block_letter(image[b * BLOCK_SIZE]) {
         return Kind::Other;
     }
     match look::form_at(image, b * PAGES_IN_BLOCK) {

@@ -4,8 +4,11 @@ mod fit;
 pub mod format;
 mod kinds;
 pub mod read;
+mod rebuild;
 mod record;
 pub mod replies;
+mod strays;
+mod survey;
 mod tests;
 pub mod write;
 

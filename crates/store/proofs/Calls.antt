@@ -1,4 +1,4 @@
--- What the code of write, read and format needs where a call is taken, and that it leaves what the call's definition says.
+-- What the code of write, cut-off, read and format needs where a call is taken, and that it leaves what the call's definition says.
 use Prim.Native.Nat.{ℕ, _+_, _*_, _<_, _≤_}
 use native.Mathlib.Omega.{arith}
 use native.Mathlib.Decide.{decLt}
@@ -12,7 +12,7 @@ use Rattle.page.specs.Frame.{pageSize}
 use Rattle.page.specs.Plan.{filePlan, places}
 use Rattle.page.specs.Key.{positions, keyInNoise}
 use Rattle.page.specs.Entry.{none, freeLetter, usedLetter}
-use Rattle.page.specs.Page.{nodePage}
+use Rattle.page.specs.Page.{nodePage, cutOffPage}
 use Rattle.page.proofs.Plans.{place-at, plan-below}
 use Rattle.image.specs.Size.{blockSize, blocks}
 use Rattle.image.specs.Look.{blockAt}
@@ -23,19 +23,20 @@ use Rattle.image.specs.declared.Power.{Power}
 use Rattle.image.proofs.Looks.{sized, block-inside}
 use Rattle.image.proofs.Runs.{run-one, run-append}
 use Rattle.store.specs.Reply.{verdict, isDone}
-use Rattle.store.specs.Record.{Record, recordOf, pageOf, keyOf, live}
+use Rattle.store.specs.Record.{Record, recordOf, withNumbers, pageOf, keyOf, live}
 use Rattle.store.specs.Outcome.{Outcome, left, leftWhole}
 use Rattle.store.specs.Find.{lowestFree, newPage, foundAt}
 use Rattle.store.specs.Format.{noNumbers, formatted, formatTests, formatSteps, formatOf}
-use Rattle.store.specs.Write.{placeAt, keyHeld, placed, writeTests, takingOf, writeSteps, writeOf}
+use Rattle.store.specs.Write.{placeAt, keyHeld, nextSequence, placed, writeTests, takingOf, writeSteps, writeOf}
+use Rattle.store.specs.CutOff.{cutOffTests, removed, cutOffSteps, cutOffOf}
 use Rattle.store.specs.Read.{contentOf, readTests, readOf}
-use Rattle.store.specs.Taken.{Ready, Planned, FormatTaken, WriteTaken, ReadTaken}
+use Rattle.store.specs.Taken.{Ready, Planned, FormatTaken, WriteTaken, ReadTaken, CutOffTaken}
 use Rattle.store.specs.declared.Reply.{Reply}
 use Rattle.store.specs.declared.Reply.the-variants.{Done, PowerCut}
 use Rattle.store.specs.declared.write.Taking.the-variants.{Take, Refuse}
-use Rattle.store.proofs.Verdicts.{done-true, format-reply, format-taken, format-done, write-reply, write-taken, write-done, read-reply, read-taken}
-use Rattle.store.proofs.Outcomes.{stepless, leaves, left-stepless, format-outcome, format-refused, write-outcome, write-refused, read-outcome, read-refused}
-use Rattle.store.proofs.Counts.{format-count, write-count}
+use Rattle.store.proofs.Verdicts.{done-true, format-reply, format-taken, format-done, write-reply, write-taken, write-done, read-reply, read-taken, cut-off-reply, cut-off-taken, cut-off-done}
+use Rattle.store.proofs.Outcomes.{stepless, leaves, left-stepless, format-outcome, format-refused, write-outcome, write-refused, read-outcome, read-refused, cut-off-outcome, cut-off-refused}
+use Rattle.store.proofs.Counts.{format-count, write-count, cut-off-count}
 use Rattle.store.proofs.Finds.{found-is, lowest-free, write-page-is-empty}
 use Rattle.store.proofs.Fits.{fits-is, fit-inside, live-key, live-page}
 use Rattle.store.proofs.Cuts.{run-left, taken-few}
@@ -112,6 +113,39 @@ module _ (img : List ℕ) (r : Record) (file offset : ℕ) (payload : List ℕ) 
   write-few =
       taken-few 1 (writeOf img r file offset payload) (λ e. rw (write-outcome img r file offset payload e) (omega (arith, write-count img r file offset payload)))
       (λ d. rw (write-refused img r file offset payload d))
+
+-- ---- cut-off
+-- a call whose tests refuse leaves all as it was
+pub refused-left : (n k : ℕ) {o : Outcome} (img : List ℕ) (r : Record) (v : Reply) → v ≡ o .reply → isDone v ≡ false
+    → (isDone (o .reply) ≡ false → o ≡ stepless (o .reply) r []) → leaves v img r [] ≡ left n k o img
+refused-left n k img r v e d s = rw e (sym (left-stepless n k img (s (ap isDone (sym e) ∙ d))))
+
+module _ (img : List ℕ) (r : Record) (file offset : ℕ) where
+  pub cut-off-refuse : (n k : ℕ) (v : Reply) → v ≡ verdict (cutOffTests img r file offset) → isDone v ≡ false → leaves v img r [] ≡ left n k (cutOffOf img r file offset) img
+  cut-off-refuse n k v e d = refused-left n k img r v (e ∙ sym (cut-off-reply img r file offset)) d (cut-off-refused img r file offset)
+
+  pub cut-off-take : verdict (cutOffTests img r file offset) ≡ Done → CutOffTaken img r file offset
+  cut-off-take e = cut-off-taken img r file offset (cut-off-reply img r file offset ∙ e)
+
+  pub cut-off-inside : (g : ℕ) → CutOffTaken img r file offset → g ≡ foundAt (newPage img (r .numbers)) → g * pageSize + pageSize ≤ length img
+  cut-off-inside g t f =
+      let i = write-page-is-empty img (r .numbers) (foundAt (newPage img (r .numbers))) (found-is (newPage img (r .numbers)) (t .room)) .0 in
+      omega arith
+
+  -- what the work leaves
+  pub cut-off-left : (n k g : ℕ) (img' : List ℕ) (q : Power) {s : Record} → CutOffTaken img r file offset → g ≡ foundAt (newPage img (r .numbers))
+      → device q img' ≡ act (program g (cutOffPage (r .numbers .sequence) file offset)) (device (powerFor n k) img)
+      → s ≡ removed r file offset → leaves (cond (q .on) Done PowerCut) img' (withNumbers s (nextSequence (r .numbers))) [] ≡ left n k (cutOffOf img r file offset) img
+  unfolding cutOffSteps
+  cut-off-left n k g img' q t f d e =
+      let o = cut-off-outcome img r file offset (cut-off-done img r file offset t) in
+      let s = run-one (program g (cutOffPage (r .numbers .sequence) file offset)) (device (powerFor n k) img) in
+      rw e (run-left n k img img' q o (rw (← f) (d ∙ sym s)))
+
+  pub cut-off-few : length (cutOffOf img r file offset .steps) ≤ 1
+  cut-off-few =
+      taken-few 1 (cutOffOf img r file offset) (λ e. rw (cut-off-outcome img r file offset e) (omega (arith, cut-off-count img r file offset)))
+      (λ d. rw (cut-off-refused img r file offset d))
 
 -- ---- read
 -- a call without steps leaves the image

@@ -202,7 +202,7 @@ unchanged r = record { mapKept = refl; lettersKept = refl }
 onward-kept : {r s t : Record} → AsLong r s → AsLong s t → AsLong r t
 onward-kept a b = record { mapKept = b .mapKept ∙ a .mapKept; lettersKept = b .lettersKept ∙ a .lettersKept }
 
-released-length : (map letters : List ℕ) (x : ℕ) → length (released map letters x) ≡ length letters
+pub released-length : (map letters : List ℕ) (x : ℕ) → length (released map letters x) ≡ length letters
 released-length map letters x = go (live map x)
   where
     go : (b : Bool) → length (cond b (set letters (keyOf map x) deletedLetter) letters) ≡ length letters

@@ -1,15 +1,26 @@
 -- The map and the letters as the code reads and changes them.
-use Prim.Native.Nat.{ℕ, _+_, _^_, _<_}
+use Prim.Native.Nat.{ℕ, _+_, _-_, _^_, _<_, _≤_}
 use native.Mathlib.Omega.{arith}
-use mathlib.Core.Path.{_≡_}
+use native.Mathlib.Decide.{ℕ-discrete}
+use mathlib.Core.Path.{_≡_, refl, sym, _∙_}
 use mathlib.Core.Bool.{true, false}
 use mathlib.Core.List.{List}
-use lib.ListN.{length, getD}
-use borrow.Author.Tests.{lt-ltb, le-ltb}
-use Rattle.page.specs.Plan.{places}
+use lib.ListN.{length, getD, set, length-set}
+use lib.Seq.{getD-set-same, getD-set-other}
+use borrow.Author.Tests.{lt-ltb, le-ltb, ltb-true}
+use Rattle.base.specs.Fold.{foldFrom}
+use Rattle.base.specs.Search.{anyFrom}
+use Rattle.base.proofs.Folds.{fold-next, fold-none}
+use Rattle.page.specs.Plan.{filePlan, lastFile, places, countOf, startOf}
+use Rattle.page.specs.Key.{positions}
 use Rattle.page.specs.Entry.{none}
+use Rattle.page.proofs.Plans.{plan-length, plan-sum, start-after}
 use Rattle.page.proofs.Slices.{getD-there}
-use Rattle.store.specs.Record.{pageOf, keyOf, live}
+use Rattle.store.specs.Record.{Record, recordOf, mapSize, pageOf, keyOf, live}
+use Rattle.store.specs.Write.{placeAt, released}
+use Rattle.store.specs.CutOff.{anyLive, emptied, removed}
+use Rattle.store.specs.declared.Numbers.{Numbers}
+use Rattle.store.proofs.Outcomes.{released-length}
 
 -- a place in the map, read with any default
 module _ (map : List ℕ) (x : ℕ) where
@@ -25,3 +36,68 @@ module _ (map : List ℕ) (x : ℕ) where
 
   pub read-live : x < length map → getD map x 0 < 2 ^ 16 → (getD map x 0 ≡ none → ⊥) → live map x ≡ true
   read-live h b e = lt-ltb (pageOf map x) none (omega (arith, page-read h))
+
+-- ---- the places of a file end where the next file's begin
+pub file-end : (file : ℕ) → file ≤ lastFile → startOf filePlan file + countOf filePlan file ≤ places
+file-end file h =
+    let f : file < length filePlan = omega (arith, plan-length) in
+    omega (arith, start-after filePlan file (length filePlan) f, plan-sum)
+
+-- ---- places made vacant one after the other
+-- the keys of live places are positions
+abbrev pub KeysBelow : List ℕ → Type 0
+KeysBelow map = (x : ℕ) → x < places → live map x ≡ true → keyOf map x < positions
+
+-- so it stays where place x becomes vacant: it is live no more, and the others keep page and key
+pub vacated-keys : (map : List ℕ) (x : ℕ) → length map ≡ mapSize → x < places → KeysBelow map → KeysBelow (set (set map x none) (places + x) none)
+vacated-keys map x size h keys y k l =
+    elim (ℕ-discrete y x) [
+      | yes e ↦
+          let p : pageOf (set (set map x none) (places + x) none) y ≡ none
+          = rw e (getD-set-other (set map x none) (places + x) x none none (λ z. omega arith) ∙ getD-set-same map x none none (omega arith)) in
+          absurd (omega (arith, ltb-true (pageOf (set (set map x none) (places + x) none) y) none l))
+      | no e ↦
+          let p : pageOf (set (set map x none) (places + x) none) y ≡ pageOf map y
+          = getD-set-other (set map x none) (places + x) y none none (λ z. omega arith) ∙ getD-set-other map x y none none e in
+          let q : keyOf (set (set map x none) (places + x) none) y ≡ keyOf map y
+          = getD-set-other (set map x none) (places + x) (places + y) none none (λ z. omega arith) ∙ getD-set-other map x (places + y) none none (λ z. omega arith) in
+          let m : live map y ≡ true = lt-ltb (pageOf map y) none (omega (arith, ltb-true (pageOf (set (set map x none) (places + x) none) y) none l)) in
+          omega (arith, keys y k m)
+    ]
+
+-- ---- the places of a file from an offset on, as the code goes through them: x goes up to the file's end
+module _ (file offset end x : ℕ) (last : end ≡ startOf filePlan file + countOf filePlan file) (first : x ≡ placeAt file offset) where
+  from-here : end - x ≡ countOf filePlan file - offset
+  from-here = omega arith
+
+  pub removed-from : (r : Record) → removed r file offset ≡ foldFrom emptied (end - x) x r
+  unfolding removed
+  removed-from r = rw (from-here, first)
+
+  pub live-from : (map : List ℕ) → anyLive map file offset ≡ anyFrom (live map) (end - x) x
+  unfolding anyLive
+  live-from map = rw (from-here, first)
+
+-- the places before x are vacant, those from x on still to be
+pub record Removing (file offset end : ℕ) (map₀ letters₀ map letters : List ℕ) (x : ℕ) : Type 0 where
+  pub bound : x ≤ end
+  pub mapFull : length map ≡ mapSize
+  pub lettersFull : length letters ≡ positions
+  pub keys : KeysBelow map
+  pub rest : (n : Numbers) → removed (recordOf map₀ letters₀ n) file offset ≡ foldFrom emptied (end - x) x (recordOf map letters n)
+
+module _ (file offset end : ℕ) (map₀ letters₀ map letters : List ℕ) (x : ℕ) where
+  pub removing-next : (map' letters' : List ℕ) → Removing file offset end map₀ letters₀ map letters x → x < end → end ≤ places
+      → map' ≡ set (set map x none) (places + x) none → letters' ≡ released map letters x
+      → Removing file offset end map₀ letters₀ map' letters' (x + 1)
+  removing-next map' letters' r h l a b =
+      record {
+        bound = omega arith;
+        mapFull = rw a (length-set (set map x none) (places + x) none ∙ length-set map x none ∙ r .mapFull);
+        lettersFull = rw b (released-length map letters x ∙ r .lettersFull);
+        keys = rw a (vacated-keys map x (r .mapFull) (omega arith) (r .keys));
+        rest = λ n. r .rest n ∙ fold-next emptied end x (recordOf map letters n) (recordOf map' letters' n) h (rw (a, b));
+      }
+
+  pub removing-done : Removing file offset end map₀ letters₀ map letters x → end ≤ x → (n : Numbers) → recordOf map letters n ≡ removed (recordOf map₀ letters₀ n) file offset
+  removing-done r h n = sym (r .rest n ∙ fold-none emptied end x (recordOf map letters n) h)

@@ -3,7 +3,7 @@ use Prim.Native.Nat.{ℕ}
 use mathlib.Core.Path.{_≡_, refl, sym, ap, _∙_}
 use mathlib.Core.Bool.{Bool, true, false, cond, not}
 use mathlib.Core.List.{List, [], _∷_, _++_}
-use lib.ListN.{length, drop}
+use lib.ListN.{length, take, drop}
 use borrow.Author.Tests.{eqb-true, not-true, not-false}
 use Rattle.base.specs.Each.{Each}
 use Rattle.base.proofs.Choice.{true-false}
@@ -13,8 +13,11 @@ use Rattle.store.specs.Reply.{Test, verdict, isDone}
 use Rattle.store.specs.Record.{Record}
 use Rattle.store.specs.Write.{placeTests, nodeTests, writeTests, takingOf}
 use Rattle.store.specs.Read.{readTests}
+use Rattle.store.specs.CutOff.{cutOffTests}
+use Rattle.store.specs.Find.{newPage, isFound}
 use Rattle.store.specs.Taken.{Buffers, Ready, Planned}
 use Rattle.store.specs.declared.Reply.{Reply}
+use Rattle.store.specs.declared.Reply.the-variants.{Done, NoRoom}
 use Rattle.store.specs.declared.write.Taking.the-variants.{Refuse}
 use Rattle.store.proofs.Verdicts.{Passes, Refuses, verdict-pass, verdict-done, done-true, buffers-true, ready-true, planned-true}
 
@@ -89,3 +92,25 @@ module _ (img : List ℕ) (r : Record) (file offset : ℕ) (buffer : List ℕ) {
 
 pub taking-refused : (v : Reply) (p g : ℕ) → isDone v ≡ false → takingOf v p g ≡ Refuse v
 taking-refused v p g e = rw e
+
+-- ---- cut-off: the tests of the place, the record and what follows; the last looks for a page
+module _ (img : List ℕ) (r : Record) (file offset : ℕ) {v : Reply} where
+  pub cut-off-refused-first : v ≡ verdict (placeTests img (r .map) (r .letters) file offset) → isDone v ≡ false → verdict (take 7 (cutOffTests img r file offset)) ≡ v
+  cut-off-refused-first = refuses-first (placeTests img (r .map) (r .letters) file offset) (drop 4 (take 7 (cutOffTests img r file offset)))
+
+  pub cut-off-goes-on : v ≡ verdict (placeTests img (r .map) (r .letters) file offset) → isDone v ≡ true
+      → verdict (take 7 (cutOffTests img r file offset)) ≡ verdict (drop 4 (take 7 (cutOffTests img r file offset)))
+  cut-off-goes-on =
+      passes-first (placeTests img (r .map) (r .letters) file offset) (drop 4 (take 7 (cutOffTests img r file offset))) (refl, (refl, (refl, (refl, tt))))
+
+  pub cut-off-refused-early : v ≡ verdict (take 7 (cutOffTests img r file offset)) → isDone v ≡ false → v ≡ verdict (cutOffTests img r file offset)
+  cut-off-refused-early e d = sym (refuses-first (take 7 (cutOffTests img r file offset)) (drop 7 (cutOffTests img r file offset)) e d)
+
+  pub cut-off-by-page : v ≡ verdict (take 7 (cutOffTests img r file offset)) → isDone v ≡ true
+      → verdict (cutOffTests img r file offset) ≡ cond (isFound (newPage img (r .numbers))) Done NoRoom
+  cut-off-by-page =
+      passes-first (take 7 (cutOffTests img r file offset)) (drop 7 (cutOffTests img r file offset)) (refl, (refl, (refl, (refl, (refl, (refl, (refl, tt)))))))
+
+  pub cut-off-sized : v ≡ verdict (take 7 (cutOffTests img r file offset)) → isDone v ≡ true → sizeRight img ≡ true
+  cut-off-sized e d =
+      verdict-done (take 7 (cutOffTests img r file offset)) (refl, (refl, (refl, (refl, (refl, (refl, (refl, tt))))))) (sym e ∙ done-true _ d) .0

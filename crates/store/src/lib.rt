@@ -1,4 +1,5 @@
 // The store: block kinds, the working record and its fit, and the calls of document 01.
+pub mod cut_off;
 mod find;
 mod fit;
 pub mod format;

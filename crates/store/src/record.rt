@@ -1,4 +1,4 @@
-// The working record: the place of a node, the key of a position, and what a write changes.
+// The working record: the place of a node, the key of a position, and what write and cut-off change.
 use crate::Numbers;
 use image::keys;
 use page::entries;
@@ -7,15 +7,17 @@ use page::plan;
 use page::plan::PLACES;
 ghost use mathlib.Core.Path.{_≡_};
 ghost use mathlib.Core.Bool.{true};
-ghost use Prim.Native.Nat.{_≤_, _<_, _+_, _*_};
+ghost use Prim.Native.Nat.{ℕ, _≤_, _<_, _+_, _*_};
 ghost use lib.ListN.{length, set};
-ghost use Rattle.page.specs.Plan.{places};
+ghost use Rattle.page.specs.Plan.{filePlan, lastFile, places, countOf, startOf};
 ghost use Rattle.page.specs.Key.{positions};
 ghost use Rattle.page.specs.Header.{lastNumber};
 ghost use Rattle.page.specs.Entry.{none, usedLetter};
 ghost use Rattle.image.specs.Size.{blockSize};
-ghost use Rattle.store.specs.Record.{mapSize, keyOf, live};
+ghost use Rattle.store.specs.declared.Numbers.{Numbers as RecordNumbers};
+ghost use Rattle.store.specs.Record.{recordOf, mapSize, keyOf, live};
 ghost use Rattle.store.specs.Write.{placeAt, keysBlock, keyHeld, nextSequence, released};
+ghost use Rattle.store.specs.CutOff.{removed, anyLive};
 ghost use Rattle.store.specs.Taken.{Planned};
 
 // The place of a file and an offset below its count.
@@ -24,6 +26,14 @@ pub fn place_at(file: u32, offset: u32) -> usize
     ensures { λ r. ⌜ (r ≡ placeAt file offset) × (r < places) ⌝ }
 {
     (plan::start(file) + offset) as usize
+}
+
+// The place after a file's last.
+fn place_after(file: u32) -> usize
+    requires { ⌜ file ≤ lastFile ⌝ }
+    ensures { λ r. ⌜ (r ≡ startOf filePlan file + countOf filePlan file) × (r ≤ places) ⌝ }
+{
+    (plan::start(file) + plan::count(file)) as usize
 }
 
 // The block of key block 0 or 1.
@@ -70,6 +80,45 @@ pub fn set_place(map: &mut [u16], letters: &mut [u8], x: usize, g: usize, p: usi
     map[x] = g as u16;
     map[PLACES + x] = p as u16;
     letters[p] = entries::USED;
+}
+
+// Makes place x vacant.
+fn empty_place(map: &mut [u16], letters: &mut [u8], x: usize)
+    requires { ⌜ (length (now map) ≡ mapSize) × (length (now letters) ≡ positions) × (x < places) × (live (now map) x ≡ true → keyOf (now map) x < positions) ⌝ }
+    ensures { λ _. ⌜ (now (map .exit) ≡ set (set (now (map .entry)) x none) (places + x) none) × (now (letters .exit) ≡ released (now (map .entry)) (now (letters .entry)) x) ⌝ }
+{
+    release(map, letters, x);
+    map[x] = entries::NONE;
+    map[PLACES + x] = entries::NONE;
+}
+
+// Makes the places of a file vacant from an offset on.
+pub fn remove(map: &mut [u16], letters: &mut [u8], file: u32, offset: u32)
+    requires { ⌜ (length (now map) ≡ mapSize) × (length (now letters) ≡ positions) × Planned file offset × ((x : ℕ) → x < places → live (now map) x ≡ true → keyOf (now map) x < positions) ⌝ }
+    ensures { λ _. ⌜ ((n : RecordNumbers) → recordOf (now (map .exit)) (now (letters .exit)) n ≡ removed (recordOf (now (map .entry)) (now (letters .entry)) n) file offset) ⌝ }
+{
+    let end = place_after(file);
+    let mut x = place_at(file, offset);
+    while x < end {
+        empty_place(map, letters, x);
+        x += 1;
+    }
+}
+
+// Whether a place of a file from an offset on has a node.
+pub fn any_live(map: &[u16], file: u32, offset: u32) -> bool
+    requires { ⌜ (length (now map) ≡ mapSize) × Planned file offset ⌝ }
+    ensures { λ r. ⌜ r ≡ anyLive (now (map .entry)) file offset ⌝ }
+{
+    let end = place_after(file);
+    let mut x = place_at(file, offset);
+    while x < end {
+        if map[x] != entries::NONE {
+            return true;
+        }
+        x += 1;
+    }
+    false
 }
 
 // The numbers after a sequence was used.

@@ -1,9 +1,12 @@
 // Replies and their numbers.
+use crate::Answer;
+use crate::Numbers;
 use crate::Reply;
 use image::Power;
 ghost use mathlib.Core.Path.{_≡_};
 ghost use mathlib.Core.Bool.{cond};
 ghost use Rattle.store.specs.Reply.{numberOf, isDone};
+ghost use Rattle.store.specs.Outcome.{answered};
 ghost use Rattle.store.specs.declared.Reply.the-variants.{Done, PowerCut};
 
 // Document 01's number of a reply.
@@ -42,4 +45,14 @@ pub fn taken(p: Power) -> Reply
     ensures { λ r. ⌜ r ≡ cond (p .on) Done PowerCut ⌝ }
 {
     if p.on { Reply::Done } else { Reply::PowerCut }
+}
+
+// The answer of a call that is refused, or that leaves the record's numbers.
+pub fn refused(r: Reply, numbers: Numbers) -> Answer
+    ensures { λ a. ⌜ a ≡ answered r numbers ⌝ }
+{
+    Answer {
+        reply: r,
+        numbers: numbers,
+    }
 }

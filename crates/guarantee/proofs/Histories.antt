@@ -86,6 +86,10 @@ next m h e p =
       here = end-then _ (h .events) e ∙ ap (λ (n : Machine). step n e) (h .here);
     }
 
+pub along : (m : Machine) → History m → (es : List Event) → Allowed m es → History (endOf m es)
+along m h [] a = h
+along m h (e ∷ es) a = along (step m e) (next m h e (a .0, a .1)) es (a .2)
+
 -- ---- the one theorem, at the end of a list and at a call
 pub at-end : (m : Machine) → History m → T (m .on) → AtRest m
 at-end m h =
@@ -117,9 +121,12 @@ mounting-permitted m e p = (go (m .on) (isMount (e .call)) (p .0), p .1)
     go true b t = tt
     go false b t = t
 
+mounts-allowed : (m : Machine) (ms : List Event) → Each Mounting ms → Allowed m ms
+mounts-allowed m [] p = tt
+mounts-allowed m (e ∷ ms) p = let may = mounting-permitted m e (p .0) in (may .0, may .1, mounts-allowed (step m e) ms (p .1))
+
 pub remounted : (m : Machine) → History m → (ms : List Event) → Each Mounting ms → History (endOf m ms)
-remounted m h [] p = h
-remounted m h (e ∷ ms) p = remounted (step m e) (next m h e (mounting-permitted m e (p .0))) ms (p .1)
+remounted m h ms p = along m h ms (mounts-allowed m ms p)
 
 -- the book takes no note of them
 mounting-book : (m : Machine) (e : Event) → T (isMount (e .call)) → step m e .book ≡ m .book

@@ -26,6 +26,27 @@ use Rattle.guarantee.proofs.Main.{calls-next}
 use Rattle.guarantee.proofs.Histories.{endOf, History, while-on, next, along, standing}
 use Rattle.guarantee.proofs.Slips.{taken-free}
 
+-- ---- what a purge renews
+-- a position that is not u has a key of call now
+abbrev pub Renewed : ℕ → ℕ → Book → Type 0
+Renewed p now b = (b .mark p ≡ usedLetter → ⊥) → b .bringer p ≡ now
+
+pub renewed-both : (p now : ℕ) → p < positions → (b : Book) → Renewed p now (bookRenewed now 1 (bookRenewed now 0 b))
+unfolding bookRenewed
+renewed-both p now below b free =
+    let u = ne-eqb (b .mark p) usedLetter free in
+    rw u (go (eqb (keyBlock p) 1) refl (eqb (keyBlock p) 0) refl)
+  where
+    go : (s : Bool) → eqb (keyBlock p) 1 ≡ s → (t : Bool) → eqb (keyBlock p) 0 ≡ t → cond (s && true) now (cond (t && true) now (b .bringer p)) ≡ now
+    go true d t e = refl
+    go false d true e = refl
+    go false d false e = absurd (omega (arith, eqb-false (keyBlock p) 1 d, eqb-false (keyBlock p) 0 e))
+
+-- a commit, or the commit in a wipe, that comes to its end
+pub committed-renewed : (p now i : ℕ) → p < positions → (b : Book) → (b .mark p ≡ usedLetter → ⊥) → bookCommitted now i (replied Done) b .bringer p ≡ now
+unfolding bookCommitted bookFreed bookRenewed
+committed-renewed p now i below b free = renewed-both p now below b free
+
 -- ---- the book alone
 -- the key that call c brought to position p is used up: as long as p has it, p is not marked f
 abbrev pub UsedUp : ℕ → ℕ → Book → Type 0
@@ -64,22 +85,7 @@ module _ (p c : ℕ) where
         go true e f = omega arith
         go false e f = h e f
 
-    -- a position that is not u has a key of this call
-    abbrev Renewed : Book → Type 0
-    Renewed b = (b .mark p ≡ usedLetter → ⊥) → b .bringer p ≡ now
-
-    renewed-both : p < positions → (b : Book) → Renewed (bookRenewed now 1 (bookRenewed now 0 b))
-    unfolding bookRenewed
-    renewed-both below b free =
-        let u = ne-eqb (b .mark p) usedLetter free in
-        rw (u) (go (eqb (keyBlock p) 1) refl (eqb (keyBlock p) 0) refl)
-      where
-        go : (s : Bool) → eqb (keyBlock p) 1 ≡ s → (t : Bool) → eqb (keyBlock p) 0 ≡ t → cond (s && true) now (cond (t && true) now (b .bringer p)) ≡ now
-        go true d t e = refl
-        go false d true e = refl
-        go false d false e = absurd (omega (arith, eqb-false (keyBlock p) 1 d, eqb-false (keyBlock p) 0 e))
-
-    freed-used : (b : Book) → Renewed b → UsedUp p c (bookFreed b)
+    freed-used : (b : Book) → Renewed p now b → UsedUp p c (bookFreed b)
     unfolding bookFreed
     freed-used b renewed e f = go (ℕ-discrete (b .mark p) usedLetter)
       where
@@ -101,7 +107,7 @@ module _ (p c : ℕ) where
     committed-used below i fate b h = go (madeWhole fate (commitDone i)) refl
       where
         go : (t : Bool) → madeWhole fate (commitDone i) ≡ t → UsedUp p c (onlyIf t bookFreed (onlyIf (madeWhole fate (keysDone i 1)) (bookRenewed now 1) (onlyIf (madeWhole fate (keysDone i 0)) (bookRenewed now 0) b)))
-        go true e = rw (whole-before fate i 0 (omega arith) e, whole-before fate i 1 (omega arith) e) (freed-used (bookRenewed now 1 (bookRenewed now 0 b)) (renewed-both below b))
+        go true e = rw (whole-before fate i 0 (omega arith) e, whole-before fate i 1 (omega arith) e) (freed-used (bookRenewed now 1 (bookRenewed now 0 b)) (renewed-both p now below b))
         go false e = only-used (madeWhole fate (keysDone i 1)) (bookRenewed now 1) (renewed-used 1) _ (only-used (madeWhole fate (keysDone i 0)) (bookRenewed now 0) (renewed-used 0) b h)
 
     entered-used : p < positions → (call : Call) (fate : Fate) (b : Book) → UsedUp p c b → UsedUp p c (entered now call fate b)

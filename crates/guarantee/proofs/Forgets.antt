@@ -2,11 +2,11 @@
 -- depend on these keys. What was enciphered under them is noise from then on, wherever a copy of it may stand.
 use Prim.Native.Nat.{ℕ, _<_}
 use native.Mathlib.Omega.{arith}
-use mathlib.Core.Path.{_≡_, refl, sym, ap, subst, _∙_}
+use mathlib.Core.Path.{_≡_, refl, ap, _∙_}
 use mathlib.Core.Logic.{_⊎_, inl, inr}
-use mathlib.Core.Bool.{Bool, true, false, cond, not, _&&_}
+use mathlib.Core.Bool.{Bool, true, false, cond, _&&_}
 use mathlib.Core.List.{List}
-use mathlib.Core.Option.{Option, some}
+use mathlib.Core.Option.{some}
 use lib.Dec.{T, eqb, ltb}
 use lib.ListN.{length, getD}
 use borrow.Author.Tests.{eq-eqb, ne-eqb}
@@ -14,15 +14,15 @@ use Rattle.base.proofs.Choice.{and-intro}
 use Rattle.base.proofs.Searches.{any-intro}
 use Rattle.page.specs.Plan.{places}
 use Rattle.page.specs.Key.{positions}
-use Rattle.page.specs.Entry.{usedLetter, deletedLetter}
+use Rattle.page.specs.Entry.{deletedLetter}
 use Rattle.store.specs.Reply.{numberOf}
 use Rattle.store.specs.Outcome.{left}
 use Rattle.store.specs.Mount.{removes}
 use Rattle.store.specs.Wipe.{wipeOf}
 use Rattle.store.specs.declared.Reply.{Reply}
 use Rattle.store.specs.declared.Reply.the-variants.{Done, PowerCut}
-use Rattle.guarantee.specs.Call.{Call, commit, wipe, Event, replied}
-use Rattle.guarantee.specs.Book.{Book, Holding, isAtPosition, heldAmong, bookRemoved, wipeCommitAt, bookCommitted, entered}
+use Rattle.guarantee.specs.Call.{commit, wipe, Event, replied}
+use Rattle.guarantee.specs.Book.{Book, Holding, isAtPosition, heldAmong, bookRemoved, wipeCommitAt, entered}
 use Rattle.guarantee.specs.Origin.{Origin, keyByte}
 use Rattle.guarantee.specs.Machine.{Machine, step, outcomeAt, leftAt}
 use Rattle.guarantee.specs.Statement.{OfDeadKey}

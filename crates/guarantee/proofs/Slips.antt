@@ -25,13 +25,13 @@ use Rattle.store.specs.Read.{readOf}
 use Rattle.store.specs.declared.Reply.the-variants.{Done}
 use Rattle.store.proofs.Verdicts.{verdict-done}
 use Rattle.store.proofs.Counts.{write-steps}
-use Rattle.guarantee.specs.Call.{Call, mount, write, wipe, Event, lentRight}
+use Rattle.guarantee.specs.Call.{mount, write, wipe, Event, lentRight}
 use Rattle.guarantee.specs.Book.{Book, Holding, lowestMarked, bookSpent, bookRemoved, entered}
 use Rattle.guarantee.specs.Origin.{cipher}
 use Rattle.guarantee.specs.Machine.{Machine, step}
 use Rattle.guarantee.specs.Replies.{anyFree, bookTests}
 use Rattle.guarantee.specs.Statement.{MapHas, ReadGives}
-use Rattle.guarantee.proofs.Histories.{endOf, Permitted, History, while-on, next, at-end, at-call, Mounting, mounting-permitted, remounted, remounted-book}
+use Rattle.guarantee.proofs.Histories.{History, while-on, next, at-end, at-call, Mounting, mounting-permitted, remounted, remounted-book}
 use Rattle.guarantee.proofs.InOrOut.{FilesAre, afterCall, wipe-in-or-out}
 
 -- ---- the key that a write takes

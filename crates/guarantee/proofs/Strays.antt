@@ -2,27 +2,26 @@
 use Prim.Native.Nat.{ℕ, _-_, _/_, _%_, _<_}
 use native.Mathlib.Omega.{arith}
 use native.Mathlib.Decide.{ℕ-discrete}
-use mathlib.Core.Path.{_≡_, refl, sym, ap, subst, _∙_}
+use mathlib.Core.Path.{_≡_, refl, sym, ap, _∙_}
 use mathlib.Core.Logic.{_⊎_, inl, inr}
 use mathlib.Core.Bool.{Bool, true, false, cond, not, _&&_, _||_}
 use mathlib.Core.List.{List, [], _∷_, _++_, map}
 use lib.Dec.{eqb}
 use lib.ListN.{length}
-use borrow.Author.Tests.{eq-eqb, ne-eqb, eqb-true, eqb-false}
+use borrow.Author.Tests.{ne-eqb, eqb-false}
 use Rattle.base.specs.Each.{Each}
 use Rattle.base.specs.Search.{whichFrom}
 use Rattle.base.proofs.Choice.{true-false}
 use Rattle.base.proofs.Searches.{any-intro, any-agree}
 use Rattle.base.proofs.Eachs.{each-map}
 use Rattle.page.specs.Entry.{parts}
-use Rattle.image.specs.Size.{blockSize, pagesInBlock, blocks}
-use Rattle.image.specs.Look.{blockAt, pageAt, blockEmpty, formAt, lowestEmpty}
+use Rattle.image.specs.Size.{pagesInBlock, blocks}
+use Rattle.image.specs.Look.{blockAt, blockEmpty, formAt, lowestEmpty}
 use Rattle.image.specs.Block.{renewedKey, keyBlockSteps, commitBlockSteps}
 use Rattle.image.specs.Step.{Step, program, erase, Inside, Legal, AllLegal, whole, playAll}
 use Rattle.image.proofs.CommitBlock.{commitBlockPage, commit-block-steps}
 use Rattle.image.proofs.KeyBlock.{keyBlockPage, key-block-steps}
 use Rattle.image.proofs.Rows.{row-in-no-other}
-use Rattle.image.proofs.Looks.{block-inside}
 use Rattle.image.proofs.Empties.{block-empty-same, erase-empties}
 use Rattle.image.proofs.Forms.{form-same}
 use Rattle.image.proofs.Plays.{playAll-append, playAll-cons, playAll-nil}
@@ -34,7 +33,7 @@ use Rattle.store.specs.Write.{keysBlock}
 use Rattle.store.specs.Commit.{replaceKeys, replaceCommit, withKeys, withCommit, Stage, begin, onward, keysReplaced, commitReplaced, isDead, deadErased, commitStages}
 use Rattle.store.specs.declared.Numbers.{Numbers}
 use Rattle.store.proofs.LegalSteps.{legal-length}
-use Rattle.guarantee.proofs.Loosenings.{In, which-in, which-each}
+use Rattle.guarantee.proofs.Loosenings.{which-in, which-each}
 use Rattle.guarantee.proofs.Room.{sweep-empties}
 
 -- ---- the statement
@@ -52,7 +51,7 @@ neat-stray img r neat b h = go (isChosen r b) refl (hasEvents img b) refl
     go false c false e = rw (neat b h c e)
 
 -- ---- chosen blocks
-chosen-not : (r : Numbers) (b : ℕ) → isChosen r b ≡ false → (b ≡ r .keys0 → ⊥) × (b ≡ r .keys1 → ⊥) × (b ≡ r .commit → ⊥)
+pub chosen-not : (r : Numbers) (b : ℕ) → isChosen r b ≡ false → (b ≡ r .keys0 → ⊥) × (b ≡ r .keys1 → ⊥) × (b ≡ r .commit → ⊥)
 chosen-not r b = go (eqb b (r .keys0)) refl (eqb b (r .keys1)) refl (eqb b (r .commit)) refl
   where
     go : (x : Bool) → eqb b (r .keys0) ≡ x → (y : Bool) → eqb b (r .keys1) ≡ y → (z : Bool) → eqb b (r .commit) ≡ z → x || y || z ≡ false → (b ≡ r .keys0 → ⊥) × (b ≡ r .keys1 → ⊥) × (b ≡ r .commit → ⊥)
@@ -188,7 +187,7 @@ keys-neatly noise q img s before =
     moved true n nb b c = let d = chosen-not (record { sequence = n .sequence; epoch = n .epoch; keys0 = nb; keys1 = n .keys1; commit = n .commit }) b c in (d .0, λ o. not-chosen n b o (d .1) (d .2))
     moved false n nb b c = let d = chosen-not (record { sequence = n .sequence; epoch = n .epoch; keys0 = n .keys0; keys1 = nb; commit = n .commit }) b c in (d .1, λ o. not-chosen n b (d .0) o (d .2))
 
-commit-neatly : (img : List ℕ) (s : Stage) → Neatly img s → Neatly img (commitReplaced s)
+pub commit-neatly : (img : List ℕ) (s : Stage) → Neatly img s → Neatly img (commitReplaced s)
 unfolding commitReplaced replaceCommit
 commit-neatly img s before =
     let nb = lowestEmpty (s .image) in

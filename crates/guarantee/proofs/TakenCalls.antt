@@ -1,11 +1,11 @@
 -- Which calls of a list are sure to be taken: commit and wipe, never short of a block; and after any format a mount, a write, a commit and a wipe, cut ones too.
-use Prim.Native.Nat.{ℕ, _+_, _*_, _<_, _≤_}
+use Prim.Native.Nat.{ℕ, _+_, _<_, _≤_}
 use native.Mathlib.Omega.{arith}
 use native.Mathlib.Decide.{decLe}
-use mathlib.Core.Path.{_≡_, refl, sym, ap, _∙_}
+use mathlib.Core.Path.{_≡_, refl, sym, _∙_}
 use mathlib.Core.Bool.{Bool, true, false, not, _||_}
 use mathlib.Core.List.{List, []}
-use lib.Dec.{T, eqb, leb, ltb}
+use lib.Dec.{T, eqb}
 use lib.ListN.{length}
 use borrow.Author.Tests.{eq-eqb, le-leb, lt-ltb}
 use Rattle.base.specs.Search.{anyFrom}
@@ -13,12 +13,12 @@ use Rattle.base.proofs.Choice.{true-false}
 use Rattle.base.proofs.Searches.{count-unique}
 use Rattle.page.specs.Frame.{payloadSize}
 use Rattle.page.specs.Header.{lastNumber}
-use Rattle.image.specs.Size.{sizeRight, blocks, pagesInBlock}
+use Rattle.image.specs.Size.{sizeRight, blocks}
 use Rattle.image.specs.Look.{blockEmpty, emptyBlocks}
 use Rattle.image.specs.Step.{playAll}
 use Rattle.image.proofs.Looks.{sized}
 use Rattle.store.specs.Reply.{Test, numberOf, verdict}
-use Rattle.store.specs.Outcome.{left, leftWhole}
+use Rattle.store.specs.Outcome.{leftWhole}
 use Rattle.store.specs.Format.{noiseSize, buffersRight, formatSteps}
 use Rattle.store.specs.Mount.{mountOf}
 use Rattle.store.specs.Write.{fileRight, offsetRight, writeOf}
@@ -29,7 +29,6 @@ use Rattle.store.specs.declared.Reply.the-variants.{Done, NoRoom}
 use Rattle.store.proofs.Verdicts.{verdict-passed, verdict-among}
 use Rattle.store.proofs.Counts.{write-steps, replacedSteps, commit-steps}
 use Rattle.guarantee.specs.Call.{Call, mount, write, commit, wipe, Event, isMount, lentRight}
-use Rattle.guarantee.specs.Book.{firstBook}
 use Rattle.guarantee.specs.Machine.{Machine, start, step, outcomeAt}
 use Rattle.guarantee.specs.Replies.{anyFree, hasRoom, roomLeft, bookTests}
 use Rattle.guarantee.proofs.Sounds.{is-true}

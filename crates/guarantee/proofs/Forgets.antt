@@ -93,6 +93,7 @@ module _ (m : Machine) (h : History m) (on : T (m .on)) (noise : List ℕ) (file
             let p = r .holding .position in
             let other : eqb (m .book .bringer p) (step m wiping .book .bringer p) ≡ false = ne-eqb (m .book .bringer p) (step m wiping .book .bringer p) (λ z. omega (arith, removed-renewed o r below, standing m h .settled .sound .begun p)) in
             rw (r .origin, other) tt
+
         go : (a : ℕ) → (getD img a 0 ≡ getD (m .image) a 0) ⊎ OfRemovedKey m file offset (m .origin a) → (getD img a 0 ≡ getD (m .image) a 0) ⊎ OfDeadKey (step m wiping .book) (m .origin a)
         go a (inl q) = inl q
         go a (inr r) = inr (dead (m .origin a) r (at-end m h on .slotted a (r .holding .position) (m .book .bringer (r .holding .position)) (r .byte) (r .origin) .0))

@@ -99,6 +99,7 @@ module _ (m : Machine) (h : History m) (on : T (m .on)) (n k : ℕ) (ms : List E
           → ReadGives (readWiped f o output) output (m .book .content (placeAt f o)) ⊎ (T t × ReadGives (readWiped f o output) output none)
       gone true r = inr (tt, r)
       gone false r = inl r
+
       go : FilesAre wiped (m .book .content) ⊎ FilesAre wiped (bookRemoved file offset (m .book) .content)
           → ReadGives (readWiped f o output) output (m .book .content (placeAt f o)) ⊎ (T (removes file offset (placeAt f o)) × ReadGives (readWiped f o output) output none)
       go (inl as-was) = inl (as-was .reads f o output fr or l)

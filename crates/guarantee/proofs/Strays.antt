@@ -33,6 +33,7 @@ use Rattle.store.specs.Write.{keysBlock}
 use Rattle.store.specs.Commit.{replaceKeys, replaceCommit, withKeys, withCommit, Stage, begin, onward, keysReplaced, commitReplaced, isDead, deadErased, commitStages}
 use Rattle.store.specs.declared.Numbers.{Numbers}
 use Rattle.store.proofs.LegalSteps.{legal-length}
+use Rattle.guarantee.proofs.NumberedCalls.{legal-rest}
 use Rattle.guarantee.proofs.Loosenings.{which-in, which-each}
 use Rattle.guarantee.proofs.Room.{sweep-empties}
 
@@ -86,11 +87,6 @@ legal-first : (ss ts : List Step) (img : List ℕ) → AllLegal img (ss ++ ts) �
 legal-first [] ts img l = tt
 legal-first (s ∷ ss) ts img l = (l .0, legal-first ss ts (whole s img) (l .1))
 
-legal-rest : (ss ts : List Step) (img : List ℕ) → AllLegal img (ss ++ ts) → AllLegal (playAll ss img) ts
-unfolding playAll
-legal-rest [] ts img l = l
-legal-rest (s ∷ ss) ts img l = legal-rest ss ts (whole s img) (l .1)
-
 -- a block that they leave alone
 legal-other : (ss : List Step) (img : List ℕ) (b : ℕ) → AllLegal img ss → Each (λ (s : Step). blockOf s ≡ b → ⊥) ss → blockAt (playAll ss img) b ≡ blockAt img b
 unfolding playAll
@@ -120,6 +116,7 @@ sweep-neat p img r legal rest b h c e = go (p b) refl
   where
     within : b < blocks img
     within = let same = legal-length (map erase (whichFrom p (blocks img) 0)) img legal in rw same at h
+
     go : (t : Bool) → p b ≡ t → blockEmpty (playAll (map erase (whichFrom p (blocks img) 0)) img) b ≡ true
     go true q =
         sweep-empties (whichFrom p (blocks img) 0) img b (which-each (λ (d : ℕ). d < blocks img) p (blocks img) 0 (λ d a l z. omega arith))
@@ -166,9 +163,10 @@ begin-neatly img r neat = (sym (playAll-nil img), λ l. neat)
 
 onward-neatly : (img : List ℕ) (s : Stage) (more : List Step) (r : Record) → Neatly img s → (Neat (s .image) (s .after .numbers) → AllLegal (s .image) more → Neat (playAll more (s .image)) (r .numbers))
     → Neatly img (onward s more r)
-onward-neatly img s more r before here =
-    (ap (playAll more) (before .0) ∙ sym (playAll-append (s .steps) more img),
-    λ l. here (before .1 (legal-first (s .steps) more img l)) (rw (before .0) (legal-rest (s .steps) more img l)))
+onward-neatly img s more r before here = (
+  ap (playAll more) (before .0) ∙ sym (playAll-append (s .steps) more img),
+  λ l. here (before .1 (legal-first (s .steps) more img l)) (rw (before .0) (legal-rest (s .steps) more img l)),
+)
 
 keys-neatly : (noise : List ℕ) (q : ℕ) (img : List ℕ) (s : Stage) → Neatly img s → Neatly img (keysReplaced noise q s)
 unfolding keysReplaced replaceKeys

@@ -1,0 +1,203 @@
+-- A mount after a call that finished gives the record that the call left, and has no steps: what a finished call leaves needs no mending.
+use Prim.Native.Nat.{ℕ, _≤_}
+use native.Mathlib.Omega.{arith}
+use mathlib.Core.Path.{_≡_, refl, sym, ap, subst, _∙_}
+use mathlib.Core.Bool.{Bool, true, false, not, _||_}
+use mathlib.Core.List.{List, [], _∷_}
+use lib.Dec.{T, ltb}
+use lib.ListN.{length}
+use borrow.Author.Tests.{ltb-false}
+use Rattle.base.proofs.Choice.{true-false}
+use Rattle.base.proofs.Searches.{count-zero}
+use Rattle.page.specs.Page.{nodePage, cutOffPage}
+use Rattle.image.specs.Size.{sizeRight, blocks}
+use Rattle.image.specs.Step.{Step, AllLegal, playAll}
+use Rattle.image.proofs.Plays.{play-all, playAll-nil}
+use Rattle.image.proofs.Forms.{form-program}
+use Rattle.store.specs.Kind.{headed}
+use Rattle.store.specs.Reply.{isDone}
+use Rattle.store.specs.Record.{Record}
+use Rattle.store.specs.Outcome.{Outcome, left, leftWhole}
+use Rattle.store.specs.Format.{noiseSize, buffersRight, formatNumbers}
+use Rattle.store.specs.Mount.{isStray, mountNumbers, mounted, mountOf}
+use Rattle.store.specs.Write.{nextSequence, writeSteps, writeOf}
+use Rattle.store.specs.CutOff.{removed, cutOffSteps, cutOffOf}
+use Rattle.store.specs.Commit.{Stage, begin, cleaned, commitStages, commitOf}
+use Rattle.store.specs.Wipe.{removedFirst, wipeOf}
+use Rattle.store.specs.declared.Reply.the-variants.{Done}
+use Rattle.store.proofs.Counts.{mount-steps}
+use Rattle.store.proofs.Legals.{write-legal, cut-off-legal, mount-legal, commit-legal, wipe-legal}
+use Rattle.store.proofs.Outcomes.{mount-outcome, write-outcome, write-refused, read-stepless, cut-off-outcome, cut-off-refused, commit-outcome, commit-refused, wipe-outcome, wipe-refused}
+use Rattle.store.proofs.Verdicts.{done-true, write-taken, cut-off-taken}
+use Rattle.guarantee.specs.Call.{Call, mount, write, read, cutOff, commit, wipe, Event, outcomeOf, isMount, lentRight}
+use Rattle.guarantee.specs.Book.{Book}
+use Rattle.guarantee.specs.Origin.{Origin}
+use Rattle.guarantee.specs.Machine.{Machine, start, step, outcomeAt, Allowed}
+use Rattle.guarantee.proofs.Sounds.{Sound, Tight, is-true}
+use Rattle.guarantee.proofs.Writes.{ranges as node-ranges, sealed-length}
+use Rattle.guarantee.proofs.CutOffCall.{ranges as cut-off-ranges, spaces-length}
+use Rattle.guarantee.proofs.RemovedBooks.{removed-numbers}
+use Rattle.guarantee.proofs.AnchoredCalls.{or-on}
+use Rattle.guarantee.proofs.FormatCall.{format-taken}
+use Rattle.guarantee.proofs.Room.{format-empty, format-length}
+use Rattle.guarantee.proofs.Strays.{Neat, neat-stray, chosen-not, program-neat, mount-neat, Neatly, begin-neatly, commit-neatly, stages-neatly}
+use Rattle.guarantee.proofs.Histories.{endOf, Permitted, History, history, next, standing}
+use Rattle.guarantee.proofs.Slips.{copy-before-erase}
+
+-- ---- call by call
+abbrev NeatAfter : List ℕ → Outcome → Type 0
+NeatAfter img o = Neat (playAll (o .steps) img) (o .after .numbers)
+
+-- a call that is refused leaves all as it was
+by-reply : (img : List ℕ) (r : Record) (o : Outcome) → Neat img (r .numbers) → (o .reply ≡ Done → NeatAfter img o) → (isDone (o .reply) ≡ false → (o .steps ≡ []) × (o .after ≡ r)) → NeatAfter img o
+by-reply img r o neat done refused = go (isDone (o .reply)) refl
+  where
+    go : (t : Bool) → isDone (o .reply) ≡ t → NeatAfter img o
+    go true q = done (done-true (o .reply) q)
+    go false q = let f = refused q in rw (f .0, f .1, playAll-nil img) neat
+
+module _ (img : List ℕ) (b : Book) (o : ℕ → Origin) (noise : ℕ → List ℕ) (c : ℕ) (s : Sound img b o noise c c) (tight : Tight img b o) (neat : Neat img (mounted img .numbers)) where
+  write-neat : (file offset : ℕ) (payload : List ℕ) → NeatAfter img (writeOf img (mounted img) file offset payload)
+  unfolding writeSteps nodePage
+  write-neat file offset payload =
+      by-reply img (mounted img) (writeOf img (mounted img) file offset payload) neat
+      (λ d.
+      let e = write-outcome img (mounted img) file offset payload d in
+      let t = write-taken img (mounted img) file offset payload d in
+      let legal : AllLegal img (writeSteps img (mounted img) file offset payload) = subst (λ (o : Outcome). AllLegal img (o .steps)) e (write-legal img (mounted img) file offset payload) in
+      subst (NeatAfter img) (sym e)
+      (program-neat img (mounted img .numbers) (nextSequence (mounted img .numbers)) _ _ legal
+      (ap headed (form-program _ _ _ img (node-ranges img b o noise c s tight file offset payload t (λ j. j)) (sealed-length img b o noise c s tight file offset payload t (λ j. j)) (legal .0 .0 .0))) (λ b. refl) neat))
+      (λ q. let e = write-refused img (mounted img) file offset payload q in (ap (λ (o : Outcome). o .steps) e, ap (λ (o : Outcome). o .after) e))
+
+  cut-off-neat : (file offset : ℕ) → NeatAfter img (cutOffOf img (mounted img) file offset)
+  unfolding cutOffSteps cutOffPage
+  cut-off-neat file offset =
+      by-reply img (mounted img) (cutOffOf img (mounted img) file offset) neat
+      (λ d.
+      let e = cut-off-outcome img (mounted img) file offset d in
+      let t = cut-off-taken img (mounted img) file offset d in
+      let legal : AllLegal img (cutOffSteps img (mounted img) file offset) = subst (λ (o : Outcome). AllLegal img (o .steps)) e (cut-off-legal img (mounted img) file offset) in
+      subst (NeatAfter img) (sym e)
+      (program-neat img (mounted img .numbers) (nextSequence (mounted img .numbers)) _ _ legal
+      (ap headed (form-program _ _ _ img (cut-off-ranges img b o noise c s tight file offset t (λ j. j)) (spaces-length img b o noise c s tight file offset t (λ j. j)) (legal .0 .0 .0))) (λ b. refl) neat))
+      (λ q. let e = cut-off-refused img (mounted img) file offset q in (ap (λ (o : Outcome). o .steps) e, ap (λ (o : Outcome). o .after) e))
+
+-- stages, from an image that was neat
+staged-neat : (img : List ℕ) (s : Stage) → Neatly img s → AllLegal img (s .steps) → Neat (playAll (s .steps) img) (s .after .numbers)
+staged-neat img s before legal = subst (λ (i : List ℕ). Neat i (s .after .numbers)) (before .0) (before .1 legal)
+
+module _ (img : List ℕ) (r : Record) (noise : List ℕ) (neat : Neat img (r .numbers)) where
+  commit-neat : NeatAfter img (commitOf img r noise)
+  commit-neat =
+      by-reply img r (commitOf img r noise) neat
+      (λ d.
+      let e = commit-outcome img r noise d in
+      let begun = begin img (cleaned r) in
+      subst (NeatAfter img) (sym e)
+      (staged-neat img (commitStages noise begun) (stages-neatly noise img begun (begin-neatly img (cleaned r) neat)) (subst (λ (o : Outcome). AllLegal img (o .steps)) e (commit-legal img r noise))))
+      (λ q. let e = commit-refused img r noise q in (ap (λ (o : Outcome). o .steps) e, ap (λ (o : Outcome). o .after) e))
+
+  first-neatly : (file offset : ℕ) → Neatly img (removedFirst img r file offset)
+  unfolding removedFirst
+  first-neatly file offset = commit-neatly img (begin img (removed r file offset)) (begin-neatly img (removed r file offset) (rw (removed-numbers r file offset) neat))
+
+  wipe-neat : (file offset : ℕ) → NeatAfter img (wipeOf img r noise file offset)
+  wipe-neat file offset =
+      by-reply img r (wipeOf img r noise file offset) neat
+      (λ d.
+      let e = wipe-outcome img r noise file offset d in
+      let begun = removedFirst img r file offset in
+      subst (NeatAfter img) (sym e)
+      (staged-neat img (commitStages noise begun) (stages-neatly noise img begun (first-neatly file offset)) (subst (λ (o : Outcome). AllLegal img (o .steps)) e (wipe-legal img r noise file offset))))
+      (λ q. let e = wipe-refused img r noise file offset q in (ap (λ (o : Outcome). o .steps) e, ap (λ (o : Outcome). o .after) e))
+
+-- ---- the machines
+abbrev NeatOn : Machine → Type 0
+NeatOn m = T (m .on) → Neat (m .image) (m .store .numbers)
+
+module _ (m : Machine) (h : History m) (neat : NeatOn m) where
+  mounting-neat : (map letters scratch : List ℕ) → T (lentRight (mount map letters scratch)) → NeatAfter (m .image) (mountOf (m .image) map letters scratch)
+  unfolding mounted
+  mounting-neat map letters scratch lent =
+      let e = mount-outcome (m .image) map letters scratch (copy-before-erase m h map letters scratch lent) in
+      subst (NeatAfter (m .image)) (sym e) (mount-neat (m .image) (subst (λ (o : Outcome). AllLegal (m .image) (o .steps)) e (mount-legal (m .image) map letters scratch)))
+
+  -- the other calls, after one that finished
+  module _ (on : T (m .on)) where
+    good : m .store ≡ mounted (m .image)
+    good = standing m h .settled .good on
+
+    neat-mounted : Neat (m .image) (mounted (m .image) .numbers)
+    neat-mounted = subst (λ (r : Record). Neat (m .image) (r .numbers)) good (neat on)
+
+    other-neat : (call : Call) → isMount call ≡ false → NeatAfter (m .image) (outcomeOf call (m .image) (m .store))
+    other-neat (mount map letters scratch) q = absurd (true-false refl q)
+    other-neat (write file offset payload) q =
+        let s = standing m h .settled in
+        rw good (write-neat (m .image) (m .book) (m .origin) (m .noise) (m .calls) (s .sound) (s .tight on) neat-mounted file offset payload)
+    other-neat (read file offset output) q = rw (read-stepless (m .image) (m .store) file offset output, playAll-nil (m .image)) (neat on)
+    other-neat (cutOff file offset) q =
+        let s = standing m h .settled in
+        rw good (cut-off-neat (m .image) (m .book) (m .origin) (m .noise) (m .calls) (s .sound) (s .tight on) neat-mounted file offset)
+    other-neat (commit noise) q = commit-neat (m .image) (m .store) noise (neat on)
+    other-neat (wipe noise file offset) q = wipe-neat (m .image) (m .store) noise (neat on) file offset
+
+  call-neat : (call : Call) → T (m .on || isMount call) → T (lentRight call) → NeatAfter (m .image) (outcomeOf call (m .image) (m .store))
+  call-neat (mount map letters scratch) may lent = mounting-neat map letters scratch lent
+  call-neat (write file offset payload) may lent = other-neat (or-on (m .on) may) (write file offset payload) refl
+  call-neat (read file offset output) may lent = other-neat (or-on (m .on) may) (read file offset output) refl
+  call-neat (cutOff file offset) may lent = other-neat (or-on (m .on) may) (cutOff file offset) refl
+  call-neat (commit noise) may lent = other-neat (or-on (m .on) may) (commit noise) refl
+  call-neat (wipe noise file offset) may lent = other-neat (or-on (m .on) may) (wipe noise file offset) refl
+
+  step-neat : (e : Event) → Permitted m e → NeatOn (step m e)
+  unfolding step left
+  step-neat e may on =
+      rw (play-all (e .n) (e .k) (outcomeAt m e .steps) (m .image) (whole-call (ltb (e .n) (length (outcomeAt m e .steps))) refl on)) (call-neat (e .call) (may .0) (may .1))
+    where
+      whole-call : (t : Bool) → ltb (e .n) (length (outcomeAt m e .steps)) ≡ t → T (not t) → length (outcomeAt m e .steps) ≤ e .n
+      whole-call true q t = absurd t
+      whole-call false q t = ltb-false (e .n) (length (outcomeAt m e .steps)) q
+
+start-neat : (img map letters noise : List ℕ) → T (sizeRight img) → T (buffersRight map letters) → length noise ≡ noiseSize → NeatOn (start img map letters noise)
+unfolding start leftWhole
+start-neat img map letters noise size lent long on =
+    rw (format-taken img map letters noise size lent long) (λ b h c e.
+    let right = is-true (sizeRight img) size in
+    let same = format-length img noise right long in
+    let d = chosen-not formatNumbers b c in
+    format-empty img noise right long b (past b (d .0) (d .1) (d .2)) (rw same at h))
+  where
+    past : (b : ℕ) → (b ≡ 0 → ⊥) → (b ≡ 1 → ⊥) → (b ≡ 2 → ⊥) → 3 ≤ b
+    past b x y z = omega (arith, x, y, z)
+
+along-neat : (m : Machine) → History m → NeatOn m → (es : List Event) → Allowed m es → NeatOn (endOf m es)
+along-neat m h neat [] a = neat
+along-neat m h neat (e ∷ es) a = along-neat (step m e) (next m h e (a .0, a .1)) (step-neat m h neat e (a .0, a .1)) es (a .2)
+
+neat-end : (m : Machine) → History m → NeatOn m
+neat-end m h =
+    subst NeatOn (h .here)
+    (along-neat _ (history (h .image) (h .map) (h .letters) (h .noise) (h .size) (h .lent) (h .long) [] tt) (start-neat (h .image) (h .map) (h .letters) (h .noise) (h .size) (h .lent) (h .long)) (h .events) (h .allowed))
+
+-- ---- a mount then
+module _ (m : Machine) (h : History m) (on : T (m .on)) (map letters scratch : List ℕ) (lent : T (lentRight (mount map letters scratch))) where
+  accepted : mountOf (m .image) map letters scratch .reply ≡ Done
+  accepted = copy-before-erase m h map letters scratch lent
+
+  -- gives the record that is there
+  pub remount-same-record : mountOf (m .image) map letters scratch .after ≡ m .store
+  remount-same-record = ap (λ (o : Outcome). o .after) (mount-outcome (m .image) map letters scratch accepted) ∙ sym (standing m h .settled .good on)
+
+  -- and changes nothing on the flash
+  pub remount-no-steps : mountOf (m .image) map letters scratch .steps ≡ []
+  unfolding mounted
+  remount-no-steps =
+      nothing (mountOf (m .image) map letters scratch .steps)
+      (mount-steps (m .image) map letters scratch accepted ∙ count-zero (isStray (m .image) (mountNumbers (m .image))) (blocks (m .image)) 0
+      (λ b z l. neat-stray (m .image) (mountNumbers (m .image)) (subst (λ (r : Record). Neat (m .image) (r .numbers)) (standing m h .settled .good on) (neat-end m h on)) b (omega arith)))
+    where
+      nothing : (ss : List Step) → length ss ≡ 0 → ss ≡ []
+      nothing [] e = refl
+      nothing (s ∷ ss) e = absurd (omega arith)

@@ -1,0 +1,206 @@
+-- After a finished call every block is chosen, or has an N or D page, or is empty: a mount would find nothing to erase. Here over images, steps and stages.
+use Prim.Native.Nat.{ℕ, _-_, _/_, _%_, _<_}
+use native.Mathlib.Omega.{arith}
+use native.Mathlib.Decide.{ℕ-discrete}
+use mathlib.Core.Path.{_≡_, refl, sym, ap, _∙_}
+use mathlib.Core.Logic.{_⊎_, inl, inr}
+use mathlib.Core.Bool.{Bool, true, false, cond, not, _&&_, _||_}
+use mathlib.Core.List.{List, [], _∷_, _++_, map}
+use lib.Dec.{eqb}
+use lib.ListN.{length}
+use borrow.Author.Tests.{ne-eqb, eqb-false}
+use Rattle.base.specs.Each.{Each}
+use Rattle.base.specs.Search.{whichFrom}
+use Rattle.base.proofs.Choice.{true-false}
+use Rattle.base.proofs.Searches.{any-intro, any-agree}
+use Rattle.base.proofs.Eachs.{each-map}
+use Rattle.page.specs.Entry.{parts}
+use Rattle.image.specs.Size.{pagesInBlock, blocks}
+use Rattle.image.specs.Look.{blockAt, blockEmpty, formAt, lowestEmpty}
+use Rattle.image.specs.Block.{renewedKey, keyBlockSteps, commitBlockSteps}
+use Rattle.image.specs.Step.{Step, program, erase, Inside, Legal, AllLegal, whole, playAll}
+use Rattle.image.proofs.CommitBlock.{commitBlockPage, commit-block-steps}
+use Rattle.image.proofs.KeyBlock.{keyBlockPage, key-block-steps}
+use Rattle.image.proofs.Rows.{row-in-no-other}
+use Rattle.image.proofs.Empties.{block-empty-same, erase-empties}
+use Rattle.image.proofs.Forms.{form-same}
+use Rattle.image.proofs.Plays.{playAll-append, playAll-cons, playAll-nil}
+use Rattle.image.proofs.Step.{blockOf, whole-length, block-whole-other, page-of-same}
+use Rattle.store.specs.Kind.{pageIn, headed, isChosen, isData, hasEvents}
+use Rattle.store.specs.Record.{Record, withNumbers}
+use Rattle.store.specs.Mount.{isStray, mountNumbers, mountSteps}
+use Rattle.store.specs.Write.{keysBlock}
+use Rattle.store.specs.Commit.{replaceKeys, replaceCommit, withKeys, withCommit, Stage, begin, onward, keysReplaced, commitReplaced, isDead, deadErased, commitStages}
+use Rattle.store.specs.declared.Numbers.{Numbers}
+use Rattle.store.proofs.LegalSteps.{legal-length}
+use Rattle.guarantee.proofs.NumberedCalls.{legal-rest}
+use Rattle.guarantee.proofs.Loosenings.{which-in, which-each}
+use Rattle.guarantee.proofs.Room.{sweep-empties}
+
+-- ---- the statement
+abbrev pub Neat : List ℕ → Numbers → Type 0
+Neat img r = (b : ℕ) → b < blocks img → isChosen r b ≡ false → hasEvents img b ≡ false → blockEmpty img b ≡ true
+
+-- it is what mount's search asks
+pub neat-stray : (img : List ℕ) (r : Numbers) → Neat img r → (b : ℕ) → b < blocks img → isStray img r b ≡ false
+unfolding isStray isData
+neat-stray img r neat b h = go (isChosen r b) refl (hasEvents img b) refl
+  where
+    go : (t : Bool) → isChosen r b ≡ t → (v : Bool) → hasEvents img b ≡ v → not t && not (v && not t) && not (blockEmpty img b) ≡ false
+    go true c v e = refl
+    go false c true e = refl
+    go false c false e = rw (neat b h c e)
+
+-- ---- chosen blocks
+pub chosen-not : (r : Numbers) (b : ℕ) → isChosen r b ≡ false → (b ≡ r .keys0 → ⊥) × (b ≡ r .keys1 → ⊥) × (b ≡ r .commit → ⊥)
+chosen-not r b = go (eqb b (r .keys0)) refl (eqb b (r .keys1)) refl (eqb b (r .commit)) refl
+  where
+    go : (x : Bool) → eqb b (r .keys0) ≡ x → (y : Bool) → eqb b (r .keys1) ≡ y → (z : Bool) → eqb b (r .commit) ≡ z → x || y || z ≡ false → (b ≡ r .keys0 → ⊥) × (b ≡ r .keys1 → ⊥) × (b ≡ r .commit → ⊥)
+    go true p y q z s f = absurd (true-false refl f)
+    go false p true q z s f = absurd (true-false refl f)
+    go false p false q true s f = absurd (true-false refl f)
+    go false p false q false s f = (eqb-false b (r .keys0) p, eqb-false b (r .keys1) q, eqb-false b (r .commit) s)
+
+not-chosen : (r : Numbers) (b : ℕ) → (b ≡ r .keys0 → ⊥) → (b ≡ r .keys1 → ⊥) → (b ≡ r .commit → ⊥) → isChosen r b ≡ false
+not-chosen r b x y z = rw (ne-eqb b (r .keys0) x, ne-eqb b (r .keys1) y, ne-eqb b (r .commit) z)
+
+-- ---- a change: each block that is neither chosen nor with events now is empty, or is as it was and was not chosen
+events-same : (img img' : List ℕ) (b : ℕ) → blockAt img' b ≡ blockAt img b → hasEvents img' b ≡ hasEvents img b
+events-same img img' b e =
+    any-agree (λ i. headed (formAt img' (pageIn b i))) (λ i. headed (formAt img (pageIn b i))) pagesInBlock 0
+    (λ i h l. let q : pageIn b i / pagesInBlock ≡ b = omega arith in ap headed (form-same img img' (pageIn b i) (page-of-same img img' (pageIn b i) (rw q e))))
+
+neat-change : (img img' : List ℕ) (r r' : Numbers) → length img' ≡ length img → Neat img r
+    → ((b : ℕ) → b < blocks img → isChosen r' b ≡ false → hasEvents img' b ≡ false → (blockEmpty img' b ≡ true) ⊎ ((blockAt img' b ≡ blockAt img b) × (isChosen r b ≡ false))) → Neat img' r'
+neat-change img img' r r' same neat f b h c e = go (f b (rw same at h) c e)
+  where
+    go : (blockEmpty img' b ≡ true) ⊎ ((blockAt img' b ≡ blockAt img b) × (isChosen r b ≡ false)) → blockEmpty img' b ≡ true
+    go (inl z) = z
+    go (inr z) = block-empty-same img img' b (z .0) ∙ neat b (rw same at h) (z .1) (sym (events-same img img' b (z .0)) ∙ e)
+
+-- ---- steps that the flash can do
+legal-inside : (img : List ℕ) (s : Step) → Legal img s → Inside (length img) s
+legal-inside img (program g page) l = l .0
+legal-inside img (erase b) l = l
+
+legal-first : (ss ts : List Step) (img : List ℕ) → AllLegal img (ss ++ ts) → AllLegal img ss
+legal-first [] ts img l = tt
+legal-first (s ∷ ss) ts img l = (l .0, legal-first ss ts (whole s img) (l .1))
+
+-- a block that they leave alone
+legal-other : (ss : List Step) (img : List ℕ) (b : ℕ) → AllLegal img ss → Each (λ (s : Step). blockOf s ≡ b → ⊥) ss → blockAt (playAll ss img) b ≡ blockAt img b
+unfolding playAll
+legal-other [] img b l o = refl
+legal-other (s ∷ ss) img b l o = legal-other ss (whole s img) b (l .1) (o .1) ∙ block-whole-other s img (legal-inside img s (l .0)) b (o .0)
+
+-- ---- one program that makes its block one with events
+pub program-neat : (img : List ℕ) (r r' : Numbers) (g : ℕ) (page : List ℕ) → AllLegal img (program g page ∷ []) → headed (formAt (whole (program g page) img) g) ≡ true
+    → ((b : ℕ) → isChosen r' b ≡ isChosen r b) → Neat img r → Neat (playAll (program g page ∷ []) img) r'
+unfolding playAll
+program-neat img r r' g page legal event same neat =
+    neat-change img (whole (program g page) img) r r' (whole-length (program g page) img (legal .0 .0)) neat (λ b h c e. elim (ℕ-discrete (g / pagesInBlock) b) [
+      | yes z ↦ absurd (true-false (here b z) e)
+      | no z ↦ inr (block-whole-other (program g page) img (legal .0 .0) b z, sym (same b) ∙ c)
+    ])
+  where
+    here : (b : ℕ) → g / pagesInBlock ≡ b → hasEvents (whole (program g page) img) b ≡ true
+    here b z =
+        let at : pageIn b (g % pagesInBlock) ≡ g = omega arith in
+        any-intro (λ i. headed (formAt (whole (program g page) img) (pageIn b i))) pagesInBlock 0 (g % pagesInBlock) (omega arith) (omega arith) (rw at event)
+
+-- ---- blocks erased in a row: those that p picks
+pub sweep-neat : (p : ℕ → Bool) (img : List ℕ) (r : Numbers) → AllLegal img (map erase (whichFrom p (blocks img) 0))
+    → ((b : ℕ) → b < blocks img → p b ≡ false → isChosen r b ≡ false → hasEvents img b ≡ false → blockEmpty img b ≡ true)
+    → Neat (playAll (map erase (whichFrom p (blocks img) 0)) img) r
+sweep-neat p img r legal rest b h c e = go (p b) refl
+  where
+    within : b < blocks img
+    within = let same = legal-length (map erase (whichFrom p (blocks img) 0)) img legal in rw same at h
+
+    go : (t : Bool) → p b ≡ t → blockEmpty (playAll (map erase (whichFrom p (blocks img) 0)) img) b ≡ true
+    go true q =
+        sweep-empties (whichFrom p (blocks img) 0) img b (which-each (λ (d : ℕ). d < blocks img) p (blocks img) 0 (λ d a l z. omega arith))
+        (inl (which-in p (blocks img) 0 b (omega arith) (omega (arith, within)) q))
+    go false q =
+        let other = legal-other (map erase (whichFrom p (blocks img) 0)) img b legal
+        (each-map (λ (d : ℕ). d ≡ b → ⊥) (λ (s : Step). blockOf s ≡ b → ⊥) erase (λ d f. f) (whichFrom p (blocks img) 0)
+        (which-each (λ (d : ℕ). d ≡ b → ⊥) p (blocks img) 0 (λ d a l z y. true-false (rw y at z) q))) in
+        block-empty-same img (playAll (map erase (whichFrom p (blocks img) 0)) img) b other
+        ∙ rest b within q c (sym (events-same img (playAll (map erase (whichFrom p (blocks img) 0)) img) b other) ∙ e)
+
+-- mount
+stray-none : (img : List ℕ) (r : Numbers) (b : ℕ) → isStray img r b ≡ false → isChosen r b ≡ false → hasEvents img b ≡ false → blockEmpty img b ≡ true
+unfolding isStray isData
+stray-none img r b s c e = go (blockEmpty img b) (rw (c, e) at s)
+  where
+    go : (t : Bool) → not t ≡ false → t ≡ true
+    go true q = refl
+    go false q = absurd (true-false refl q)
+
+pub mount-neat : (img : List ℕ) → AllLegal img (mountSteps img) → Neat (playAll (mountSteps img) img) (mountNumbers img)
+unfolding mountSteps
+mount-neat img legal = sweep-neat (isStray img (mountNumbers img)) img (mountNumbers img) legal (λ b h s. stray-none img (mountNumbers img) b s)
+
+-- ---- a row of pages into block nb, then block old erased, where nb is chosen from then on in the place of old
+replace-neat : (img : List ℕ) (row : List Step) (nb old : ℕ) (r r' : Numbers) → AllLegal img (row ++ (erase old ∷ [])) → ((b : ℕ) → (b ≡ nb → ⊥) → Each (λ (s : Step). blockOf s ≡ b → ⊥) row)
+    → ((b : ℕ) → isChosen r' b ≡ false → (b ≡ nb → ⊥) × ((b ≡ old → ⊥) → isChosen r b ≡ false)) → Neat img r → Neat (playAll (row ++ (erase old ∷ [])) img) r'
+replace-neat img row nb old r r' legal in-row chosen neat =
+    let first = legal-first row (erase old ∷ []) img legal in
+    let last = legal-rest row (erase old ∷ []) img legal .0 in
+    let copied = playAll row img in
+    let p : playAll (row ++ (erase old ∷ [])) img ≡ whole (erase old) copied = playAll-append row (erase old ∷ []) img ∙ playAll-cons (erase old) [] copied ∙ playAll-nil (whole (erase old) copied) in
+    rw p (neat-change img (whole (erase old) copied) r r' (whole-length (erase old) copied last ∙ legal-length row img first) neat (λ b h c e. elim (ℕ-discrete b old) [
+      | yes z ↦ inl (rw z (erase-empties old copied last))
+      | no z ↦ inr (block-whole-other (erase old) copied last b (λ y. z (sym y)) ∙ legal-other row img b first (in-row b (chosen b c .0)), chosen b c .1 z)
+    ]))
+
+-- ---- stages: what was neat at the call's start is so at the stage's end
+abbrev pub Neatly : List ℕ → Stage → Type 0
+Neatly img s = (s .image ≡ playAll (s .steps) img) × (AllLegal img (s .steps) → Neat (s .image) (s .after .numbers))
+
+pub begin-neatly : (img : List ℕ) (r : Record) → Neat img (r .numbers) → Neatly img (begin img r)
+begin-neatly img r neat = (sym (playAll-nil img), λ l. neat)
+
+onward-neatly : (img : List ℕ) (s : Stage) (more : List Step) (r : Record) → Neatly img s → (Neat (s .image) (s .after .numbers) → AllLegal (s .image) more → Neat (playAll more (s .image)) (r .numbers))
+    → Neatly img (onward s more r)
+onward-neatly img s more r before here = (
+  ap (playAll more) (before .0) ∙ sym (playAll-append (s .steps) more img),
+  λ l. here (before .1 (legal-first (s .steps) more img l)) (rw (before .0) (legal-rest (s .steps) more img l)),
+)
+
+keys-neatly : (noise : List ℕ) (q : ℕ) (img : List ℕ) (s : Stage) → Neatly img s → Neatly img (keysReplaced noise q s)
+unfolding keysReplaced replaceKeys
+keys-neatly noise q img s before =
+    let nb = lowestEmpty (s .image) in
+    let n = s .after .numbers in
+    let old = keysBlock n q in
+    let key = renewedKey (blockAt (s .image) old) (s .after .letters) noise in
+    onward-neatly img s (replaceKeys (s .image) (s .after) noise q) (withNumbers (s .after) (withKeys n q nb)) before (λ neat legal.
+    replace-neat (s .image) (keyBlockSteps (n .epoch) q nb key) nb old n (withKeys n q nb) legal
+    (λ b h. rw (key-block-steps (n .epoch) q nb key) (row-in-no-other nb (keyBlockPage (n .epoch) q key) pagesInBlock 0 b (omega arith) h))
+    (moved (eqb q 0) n nb) neat)
+  where
+    moved : (t : Bool) (n : Numbers) (nb b : ℕ) → isChosen (record { sequence = n .sequence; epoch = n .epoch; keys0 = cond t nb (n .keys0); keys1 = cond t (n .keys1) nb; commit = n .commit }) b ≡ false
+        → (b ≡ nb → ⊥) × ((b ≡ cond t (n .keys0) (n .keys1) → ⊥) → isChosen n b ≡ false)
+    moved true n nb b c = let d = chosen-not (record { sequence = n .sequence; epoch = n .epoch; keys0 = nb; keys1 = n .keys1; commit = n .commit }) b c in (d .0, λ o. not-chosen n b o (d .1) (d .2))
+    moved false n nb b c = let d = chosen-not (record { sequence = n .sequence; epoch = n .epoch; keys0 = n .keys0; keys1 = nb; commit = n .commit }) b c in (d .1, λ o. not-chosen n b (d .0) o (d .2))
+
+pub commit-neatly : (img : List ℕ) (s : Stage) → Neatly img s → Neatly img (commitReplaced s)
+unfolding commitReplaced replaceCommit
+commit-neatly img s before =
+    let nb = lowestEmpty (s .image) in
+    let n = s .after .numbers in
+    onward-neatly img s (replaceCommit (s .image) (s .after)) (withNumbers (s .after) (withCommit n nb)) before (λ neat legal.
+    replace-neat (s .image) (commitBlockSteps (n .epoch) (n .sequence - 1) nb (s .after .map) (s .after .letters)) nb (n .commit) n (withCommit n nb) legal
+    (λ b h. rw (commit-block-steps (n .epoch) (n .sequence - 1) (s .after .map) (s .after .letters) nb)
+    (row-in-no-other nb (commitBlockPage (n .epoch) (n .sequence - 1) (s .after .map) (s .after .letters)) parts 0 b (omega arith) h))
+    (λ b c. let d = chosen-not (withCommit n nb) b c in (d .2, λ o. not-chosen n b (d .0) (d .1) o)) neat)
+
+dead-neatly : (img : List ℕ) (s : Stage) → Neatly img s → Neatly img (deadErased s)
+unfolding deadErased
+dead-neatly img s before =
+    onward-neatly img s _ (s .after) before (λ neat legal. sweep-neat (isDead (s .image) (s .after)) (s .image) (s .after .numbers) legal (λ b h d. neat b h))
+
+pub stages-neatly : (noise : List ℕ) (img : List ℕ) (s : Stage) → Neatly img s → Neatly img (commitStages noise s)
+unfolding commitStages
+stages-neatly noise img s before = dead-neatly img _ (commit-neatly img _ (keys-neatly noise 1 img _ (keys-neatly noise 0 img s before)))

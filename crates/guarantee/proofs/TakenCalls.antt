@@ -1,0 +1,155 @@
+-- Which calls of a list are sure to be taken: commit and wipe, never short of a block; and after any format a mount, a write, a commit and a wipe, cut ones too.
+use Prim.Native.Nat.{ℕ, _+_, _<_, _≤_}
+use native.Mathlib.Omega.{arith}
+use native.Mathlib.Decide.{decLe}
+use mathlib.Core.Path.{_≡_, refl, sym, _∙_}
+use mathlib.Core.Bool.{Bool, true, false, not, _||_}
+use mathlib.Core.List.{List, []}
+use lib.Dec.{T, eqb}
+use lib.ListN.{length}
+use borrow.Author.Tests.{eq-eqb, le-leb, lt-ltb}
+use Rattle.base.specs.Search.{anyFrom}
+use Rattle.base.proofs.Choice.{true-false}
+use Rattle.base.proofs.Searches.{count-unique}
+use Rattle.page.specs.Frame.{payloadSize}
+use Rattle.page.specs.Header.{lastNumber}
+use Rattle.image.specs.Size.{sizeRight, blocks}
+use Rattle.image.specs.Look.{blockEmpty, emptyBlocks}
+use Rattle.image.specs.Step.{playAll}
+use Rattle.image.proofs.Looks.{sized}
+use Rattle.store.specs.Reply.{Test, numberOf, verdict}
+use Rattle.store.specs.Outcome.{leftWhole}
+use Rattle.store.specs.Format.{noiseSize, buffersRight, formatSteps}
+use Rattle.store.specs.Mount.{mountOf}
+use Rattle.store.specs.Write.{fileRight, offsetRight, writeOf}
+use Rattle.store.specs.Commit.{commitOf}
+use Rattle.store.specs.Wipe.{wipeOf}
+use Rattle.store.specs.declared.Reply.{Reply}
+use Rattle.store.specs.declared.Reply.the-variants.{Done, NoRoom}
+use Rattle.store.proofs.Verdicts.{verdict-passed, verdict-among}
+use Rattle.store.proofs.Counts.{write-steps, replacedSteps, commit-steps}
+use Rattle.guarantee.specs.Call.{Call, mount, write, commit, wipe, Event, isMount, lentRight}
+use Rattle.guarantee.specs.Machine.{Machine, start, step, outcomeAt}
+use Rattle.guarantee.specs.Replies.{anyFree, hasRoom, roomLeft, bookTests}
+use Rattle.guarantee.proofs.Sounds.{is-true}
+use Rattle.guarantee.proofs.FormatCall.{format-taken}
+use Rattle.guarantee.proofs.Room.{format-empty, format-length}
+use Rattle.guarantee.proofs.Histories.{History, history, while-on, at-end, at-call}
+use Rattle.guarantee.proofs.Slips.{copy-before-erase}
+
+-- ---- commit and wipe
+module _ (m : Machine) (h : History m) (on : T (m .on)) where
+  abbrev tests : Call → List Test
+  tests call = bookTests (m .book) (m .store .numbers) (m .image) call
+
+  due : (call : Call) → lentRight call ≡ true → outcomeAt m (record { call = call; n = 0; k = 0 }) .reply ≡ verdict (tests call)
+  due call right = at-call m h (record { call = call; n = 0; k = 0 }) (while-on m on (isMount call), rw right tt) .replied
+
+  -- with noise of the right length, a file and an offset of the plan, and epochs left, they are done
+  pub commit-is-done : (noise : List ℕ) → length noise ≡ noiseSize → m .store .numbers .epoch ≤ lastNumber → commitOf (m .image) (m .store) noise .reply ≡ Done
+  commit-is-done noise long few = due (commit noise) refl ∙ verdict-passed (tests (commit noise)) (eq-eqb _ _ long, (le-leb _ _ few, tt))
+
+  pub wipe-is-done : (noise : List ℕ) (file offset : ℕ) → length noise ≡ noiseSize → T (fileRight file) → T (offsetRight file offset) → m .store .numbers .epoch < lastNumber
+      → wipeOf (m .image) (m .store) noise file offset .reply ≡ Done
+  wipe-is-done noise file offset long f o few =
+      due (wipe noise file offset) refl
+      ∙ verdict-passed (tests (wipe noise file offset)) (eq-eqb _ _ long, (is-true (fileRight file) f, (is-true (offsetRight file offset) o, (le-leb (m .store .numbers .epoch + 1) lastNumber (omega arith), tt))))
+
+  -- and there are epochs left for fifty million calls
+  pub epochs-left : m .calls < 50_000_000 → m .store .numbers .epoch < lastNumber
+  epochs-left few = omega (arith, at-end m h on .counted .1)
+
+  -- whatever their arguments, 10 is never their reply: a block is always there
+  isTen : Reply → Bool
+  isTen r = eqb (numberOf r) 10
+
+  never-ten : (call : Call) → verdict (tests call) ≡ NoRoom → not (isTen (verdict (tests call))) ≡ true → ⊥
+  unfolding isTen
+  never-ten call e q = true-false (rw e at q) refl
+
+  pub commit-has-block : (noise : List ℕ) → commitOf (m .image) (m .store) noise .reply ≡ NoRoom → ⊥
+  unfolding isTen
+  commit-has-block noise e = never-ten (commit noise) (sym (due (commit noise) refl) ∙ e) (verdict-among (λ r. not (isTen r)) (tests (commit noise)) refl refl)
+
+  pub wipe-has-block : (noise : List ℕ) (file offset : ℕ) → wipeOf (m .image) (m .store) noise file offset .reply ≡ NoRoom → ⊥
+  unfolding isTen
+  wipe-has-block noise file offset e =
+      never-ten (wipe noise file offset) (sym (due (wipe noise file offset) refl) ∙ e) (verdict-among (λ r. not (isTen r)) (tests (wipe noise file offset)) refl refl)
+
+-- ---- after a format: the one theorem is about lists in which calls are really taken, and really cut
+pub record Takes (m : Machine) : Type 0 where
+  -- with right arguments these are done
+  pub mounts : (map letters scratch : List ℕ) → T (lentRight (mount map letters scratch)) → mountOf (m .image) map letters scratch .reply ≡ Done
+  pub writes : (file offset : ℕ) (payload : List ℕ) → T (fileRight file) → T (offsetRight file offset) → length payload ≡ payloadSize → writeOf (m .image) (m .store) file offset payload .reply ≡ Done
+  pub commits : (noise : List ℕ) → length noise ≡ noiseSize → commitOf (m .image) (m .store) noise .reply ≡ Done
+  pub wipes : (noise : List ℕ) (file offset : ℕ) → length noise ≡ noiseSize → T (fileRight file) → T (offsetRight file offset) → wipeOf (m .image) (m .store) noise file offset .reply ≡ Done
+  -- and short of power they are cut
+  pub cutWrites : (file offset : ℕ) (payload : List ℕ) (k : ℕ) → T (fileRight file) → T (offsetRight file offset) → length payload ≡ payloadSize
+      → step m (record { call = write file offset payload; n = 0; k = k }) .on ≡ false
+  pub cutCommits : (noise : List ℕ) (n k : ℕ) → length noise ≡ noiseSize → n < replacedSteps → step m (record { call = commit noise; n = n; k = k }) .on ≡ false
+
+cut-off-power : (m : Machine) (e : Event) → e .n < length (outcomeAt m e .steps) → step m e .on ≡ false
+unfolding step
+cut-off-power m e l = rw (lt-ltb (e .n) (length (outcomeAt m e .steps)) l)
+
+module _ (img map letters noise : List ℕ) (size : T (sizeRight img)) (lent : T (buffersRight map letters)) (long : length noise ≡ noiseSize) where
+  abbrev m : Machine
+  m = start img map letters noise
+
+  h : History m
+  h = history img map letters noise size lent long [] tt
+
+  on : T (m .on)
+  unfolding start
+  on = tt
+
+  -- of 8 blocks or more it fills three
+  two-empty : 2 ≤ emptyBlocks (playAll (formatSteps img noise) img)
+  unfolding emptyBlocks
+  two-empty =
+      let right = is-true (sizeRight img) size in
+      let z = sized img right in
+      let same = format-length img noise right long in
+      let i = playAll (formatSteps img noise) img in
+      let e : (b : ℕ) → 3 ≤ b → b < blocks img → blockEmpty i b ≡ true = format-empty img noise right long in
+      elim (decLe 2 (emptyBlocks i)) [
+        | yes l ↦ l
+        | no l ↦
+            let z : _≡_ {A = ℕ} 3 4 = count-unique (blockEmpty i) (blocks i) 0 3 4 (omega arith) (omega arith) (rw same (omega (arith, z .fewest))) (omega arith) (rw same (omega (arith, z .fewest)))
+            (e 3 (omega arith) (omega (arith, z .fewest))) (e 4 (omega arith) (omega (arith, z .fewest))) in
+            absurd (omega arith)
+      ]
+
+  room : roomLeft (m .image) ≡ true
+  unfolding roomLeft start leftWhole
+  room = rw (format-taken img map letters noise size lent long, le-leb 2 (emptyBlocks (playAll (formatSteps img noise) img)) two-empty) (go (anyFrom (hasRoom (playAll (formatSteps img noise) img)) (blocks (playAll (formatSteps img noise) img)) 0))
+    where
+      go : (t : Bool) → t || true ≡ true
+      go true = refl
+      go false = refl
+
+  free : anyFree (m .book) ≡ true
+  unfolding start anyFree anyFrom
+  free = refl
+
+  first-call : m .calls ≡ 1
+  unfolding start
+  first-call = refl
+
+  write-is-done : (file offset : ℕ) (payload : List ℕ) → T (fileRight file) → T (offsetRight file offset) → length payload ≡ payloadSize → writeOf (m .image) (m .store) file offset payload .reply ≡ Done
+  write-is-done file offset payload f o l =
+      due m h on (write file offset payload) refl
+      ∙ verdict-passed (tests m h on (write file offset payload))
+      (is-true (fileRight file) f, (is-true (offsetRight file offset) o, (eq-eqb _ _ l, (le-leb (m .store .numbers .sequence) lastNumber (omega (arith, at-end m h on .counted .0, first-call)), (free, (room, tt))))))
+
+  pub after-format-taken : Takes (start img map letters noise)
+  after-format-taken =
+      let early = epochs-left m h on (omega (arith, first-call)) in
+      record {
+        mounts = copy-before-erase m h;
+        writes = write-is-done;
+        commits = λ arg l. commit-is-done m h on arg l (omega arith);
+        wipes = λ arg file offset l f o. wipe-is-done m h on arg file offset l f o early;
+        cutWrites = λ file offset payload k f o l. cut-off-power m (record { call = write file offset payload; n = 0; k = k }) (omega (arith, write-steps (m .image) (m .store) file offset payload (write-is-done file offset payload f o l)));
+        cutCommits = λ arg n k l few. cut-off-power m (record { call = commit arg; n = n; k = k }) (omega (arith, commit-steps (m .image) (m .store) arg (commit-is-done m h on arg l (omega arith))));
+      }

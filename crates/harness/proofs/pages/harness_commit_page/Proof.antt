@@ -1,4 +1,4 @@
--- `pages::johvimaru_commit_page` gives a part of a commit up to byte k, or refuses a length or a part.
+-- `pages::harness_commit_page` gives a part of a commit up to byte k, or refuses a length or a part.
 use mathlib.Core.Path.{ap, _∙_}
 use mathlib.Core.List.{List}
 use Prim.Native.Nat.{ℕ}
@@ -7,8 +7,8 @@ use Rattle.page.specs.Page.{commitPage, cutPage}
 use Rattle.harness.specs.Answer.{answer}
 use Rattle.harness.specs.Page.{commitPageAnswer}
 use borrow.Author.Needs.{needs}
-use Rattle.harness.proofs.pages.johvimaru_commit_page.Statement.{statement}
-use Rattle.harness.proofs.pages.johvimaru_commit_page.Tie as tie
+use Rattle.harness.proofs.pages.harness_commit_page.Statement.{statement}
+use Rattle.harness.proofs.pages.harness_commit_page.Tie as tie
 
 returns : tie.Need-returns
 unfolding commitPageAnswer
@@ -52,8 +52,8 @@ returns-5 c =
     (c .before .before .write-commit-page .ensures
     ∙ ap (λ (payload : List ℕ). cutPage (a .k) (commitPage (a .epoch) (a .part) (a .covered) payload)) (w .write-commit-payload .ensures)))
 
-pub johvimaru-commit-page-spec : {M : Type 1} → statement M
-johvimaru-commit-page-spec =
+pub harness-commit-page-spec : {M : Type 1} → statement M
+harness-commit-page-spec =
     tie.close
     (tie.spec
     returns

@@ -1,18 +1,17 @@
-//! The crates `page` and `image` through the static library `harness`, beside the second
-//! implementation: headers, forms, entries, pages up to every byte, and erases.
+//! The crate `page` through the static library `harness`, beside the second implementation: headers,
+//! forms, entries, and pages up to every byte.
 
 use johvimaru_tests::ffi::page::{self, MISSPELT, OUT_OF_RANGE, SPOILT, TORN, VACANT, WHOLE};
-use johvimaru_tests::ffi::{image as flash, DONE, REFUSED};
+use johvimaru_tests::ffi::{DONE, REFUSED};
 use johvimaru_tests::guarded::Guarded;
 use johvimaru_tests::hex;
-use johvimaru_tests::model::aes;
 use johvimaru_tests::model::blocks::Commit;
 use johvimaru_tests::model::files::{COUNTS, FILES, PLACES};
-use johvimaru_tests::model::image::{self, Power, Step, BLOCK, PAGES_IN_BLOCK};
-use johvimaru_tests::model::keys::{KEY, POSITIONS};
+use johvimaru_tests::model::image::PAGES_IN_BLOCK;
+use johvimaru_tests::model::keys::POSITIONS;
 use johvimaru_tests::model::pages::{
     is_letter, parse_entry, payload, spell_entry, Entry, Form, Header, Misspelt, Page, CLOSING,
-    DELETED, EMPTY, ENTRY, ERASED, FREE, HEADER, LAST, LETTER_PARTS, PAGE, PARTS, PAYLOAD, USED,
+    DELETED, EMPTY, ENTRY, FREE, HEADER, LAST, LETTER_PARTS, PAGE, PARTS, PAYLOAD, USED,
 };
 use johvimaru_tests::rng::Rng;
 
@@ -312,45 +311,6 @@ fn compare_page(what: &str, page: &Page, k: usize, write: impl Fn(&mut [u8], usi
     assert_eq!(wrong, None, "{what}, k = {k}: first wrong byte; got {:?}", text(got));
 }
 
-/// A node with its key and payload, and its page in the second implementation.
-fn random_node(rng: &mut Rng) -> (Header, [u8; KEY], [u8; PAYLOAD], Page) {
-    let file = rng.below(FILES);
-    let header = Header::Node {
-        sequence: random_number(rng),
-        file,
-        offset: rng.below(COUNTS[file]),
-        key: rng.below(POSITIONS),
-    };
-    let (key, plain) = (rng.array(), rng.array());
-    let mut enciphered: [u8; PAYLOAD] = plain;
-    aes::stream(&key, &mut enciphered);
-    (header, key, plain, header.page(&enciphered))
-}
-
-#[test]
-fn node_pages_agree() {
-    for seed in 0..16 {
-        let (header, key, plain, expected) = random_node(&mut Rng::new(seed));
-        let [_, sequence, file, offset, position, _] = fields(header);
-        let node = page::Node { sequence, file, offset, position, key: &key, payload: &plain };
-        for k in cuts() {
-            compare_page(&format!("seed {seed}, {header:?}"), &expected, k, |page, k| {
-                page::node(page, node, k)
-            });
-        }
-    }
-}
-
-#[test]
-fn payloads_come_back() {
-    for seed in 0..CASES {
-        let (header, key, plain, page) = random_node(&mut Rng::new(seed));
-        let mut got = Guarded::new(0, &[0; PAYLOAD]);
-        assert_eq!(page::payload(&page, &key, got.lent()), DONE);
-        assert!(got.content() == plain, "seed {seed}: {header:?} under {}", hex::text(&key));
-    }
-}
-
 #[test]
 fn cut_off_pages_agree() {
     for seed in 0..16 {
@@ -438,56 +398,6 @@ fn validity_of_commit_payloads_agrees() {
     }
 }
 
-// ---- Images
-
-/// An image of some blocks, of which some are empty, some nearly, and some random.
-fn random_image(rng: &mut Rng) -> Vec<u8> {
-    let mut bytes = Vec::new();
-    for _ in 0..rng.below(6) {
-        let mut block = vec![ERASED; BLOCK];
-        match rng.below(4) {
-            0 => block = rng.bytes(BLOCK),
-            1 => block[rng.below(BLOCK)] = rng.below(255) as u8,
-            _ => {}
-        }
-        bytes.extend(block);
-    }
-    bytes
-}
-
-#[test]
-fn empty_blocks_agree() {
-    for seed in 0..CASES {
-        let mut rng = Rng::new(seed);
-        let bytes = random_image(&mut rng);
-        let empty: Vec<bool> = image::blocks(&bytes).map(image::is_empty).collect();
-        let lowest = empty.iter().position(|&empty| empty).unwrap_or(empty.len());
-        let count = empty.iter().filter(|&&empty| empty).count();
-        assert_eq!(flash::lowest_empty(&bytes), lowest, "seed {seed}: {empty:?}");
-        assert_eq!(flash::empty_blocks(&bytes), count, "seed {seed}: {empty:?}");
-    }
-}
-
-#[test]
-fn erases_agree() {
-    for seed in 0..CASES {
-        let mut rng = Rng::new(seed);
-        let blocks = 1 + rng.below(4);
-        let old = rng.bytes(blocks * BLOCK);
-        let block = rng.below(blocks);
-        let k = [rng.below(BLOCK + 1), 0, 1, BLOCK - 1, BLOCK, BLOCK + 1, usize::MAX][rng.below(7)];
-        let n = rng.below(3);
-        let mut expected = old.clone();
-        let stayed = image::play(&mut expected, &[Step::Erase { block }], Power::cut(n, k));
-        let mut got = Guarded::new(0, &old);
-        let reply = flash::erase(got.lent(), block as u32, n as u64, k);
-        let what = format!("seed {seed}: block {block} of {blocks}, n = {n}, k = {k}");
-        assert_eq!(reply, if stayed { flash::WHOLE } else { flash::CUT }, "{what}");
-        let wrong = got.content().iter().zip(&expected).position(|(a, b)| a != b);
-        assert_eq!(wrong, None, "{what}: first wrong byte");
-    }
-}
-
 // ---- Refusals
 
 /// Lengths around the right ones.
@@ -511,14 +421,6 @@ fn other_lengths_are_refused() {
             if (a, b) != (6, HEADER) {
                 assert_eq!(page::header(&vec![0; a], lent.lent()), REFUSED, "header, {a} and {b}");
             }
-            if (a, b) != (KEY, PAYLOAD) {
-                let reply = page::payload(&bytes, &bytes[..a], lent.lent());
-                assert_eq!(reply, REFUSED, "payload, {a} and {b}");
-            }
-            if a != PAGE {
-                let reply = page::payload(&bytes[..a], &bytes[..KEY], lent.lent());
-                assert_eq!(reply, REFUSED, "payload, page of {a}");
-            }
             assert_eq!(lent.content(), &bytes[..b]);
         }
     }
@@ -528,26 +430,8 @@ fn other_lengths_are_refused() {
 fn writers_refuse_other_lengths() {
     let bytes = [b'?'; PAGE];
     for a in LENGTHS {
-        for b in LENGTHS {
-            let node = page::Node {
-                sequence: 1,
-                file: 0,
-                offset: 0,
-                position: 0,
-                key: &bytes[..a],
-                payload: &bytes[..b],
-            };
-            let mut lent = Guarded::new(0, &bytes);
-            if (a, b) != (KEY, PAYLOAD) {
-                assert_eq!(page::node(lent.lent(), node, PAGE), REFUSED, "node, {a} and {b}");
-            }
-            assert_eq!(lent.content(), bytes);
-        }
         let mut lent = Guarded::new(0, &bytes[..a]);
         if a != PAGE {
-            let (key, payload) = (&bytes[..KEY], &bytes[..PAYLOAD]);
-            let node = page::Node { sequence: 1, file: 0, offset: 0, position: 0, key, payload };
-            assert_eq!(page::node(lent.lent(), node, PAGE), REFUSED, "node, page of {a}");
             assert_eq!(page::cut_off(lent.lent(), 1, 0, 0, PAGE), REFUSED, "cut-off, {a}");
         }
         if a != ENTRY {
@@ -592,14 +476,5 @@ fn numbers_out_of_range_are_refused() {
         let mut lent = Guarded::new(0, &[b'?'; ENTRY]);
         assert_eq!(page::write_entry(page, key, lent.lent()), REFUSED, "{page} and {key}");
         assert_eq!(lent.content(), [b'?'; ENTRY]);
-    }
-    for blocks in 0..4 {
-        let old = vec![b'?'; blocks * BLOCK + 4_095];
-        for block in [blocks as u32, blocks as u32 + 1, 1 << 20, u32::MAX] {
-            let mut lent = Guarded::new(0, &old);
-            let reply = flash::erase(lent.lent(), block, 1, 0);
-            assert_eq!(reply, REFUSED, "block {block} of {blocks}");
-            assert_eq!(lent.content(), old);
-        }
     }
 }

@@ -1,9 +1,7 @@
 -- What the entry points of the test harness answer.
 --   Answer   a reply and a lent buffer; the refusal of wrong arguments
 --   Cipher   round keys, a block, a text
---   Page     forms, headers, entries, nodes, cut-offs, commits
---   Image    empty blocks, an erase
+--   Page     forms, headers, entries, cut-offs, commits
 pub mod Answer
 pub mod Cipher
 pub mod Page
-pub mod Image

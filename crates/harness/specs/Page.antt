@@ -9,9 +9,9 @@ use Rattle.page.specs.Frame.{headerSize, payloadSize, pageSize}
 use Rattle.page.specs.Header.{inRange, headerBytes}
 use Rattle.page.specs.Plan.{places}
 use Rattle.page.specs.Form.{formOf}
-use Rattle.page.specs.Key.{keySize, positions}
+use Rattle.page.specs.Key.{positions}
 use Rattle.page.specs.Entry.{entrySize, parts, entryBytes, entryOf, commitPayload, validPayload}
-use Rattle.page.specs.Page.{nodePage, cutOffPage, commitPage, payloadOf, enciphered, cutPage}
+use Rattle.page.specs.Page.{cutOffPage, commitPage, cutPage}
 use Rattle.page.specs.declared.Frame.{Frame}
 use Rattle.page.specs.declared.Form.{Form}
 use Rattle.page.specs.declared.Form.the-variants.{Empty, Whole, Torn, Spoilt}
@@ -74,19 +74,6 @@ entryAnswer entry fields =
 unfoldable pub writeEntryAnswer : ℕ → ℕ → List ℕ → Answer
 writeEntryAnswer page key entry =
     answerIf (ltb page mapRange && ltb key mapRange && eqb (length entry) entrySize) entry (answer done (entryBytes page key))
-
--- ---- nodes
--- the page of a node, up to byte k
-unfoldable pub nodeAnswer : List ℕ → ℕ → ℕ → ℕ → ℕ → List ℕ → List ℕ → ℕ → Answer
-nodeAnswer page sequence file offset position key payload k =
-    answerIf (eqb (length page) pageSize && eqb (length key) keySize && eqb (length payload) payloadSize) page
-    (answer done (cutPage k (nodePage sequence file offset position key payload)))
-
--- the payload of a node
-unfoldable pub payloadAnswer : List ℕ → List ℕ → List ℕ → Answer
-payloadAnswer page key out =
-    answerIf (eqb (length page) pageSize && eqb (length key) keySize && eqb (length out) payloadSize) out
-    (answer done (enciphered key (payloadOf page)))
 
 -- ---- cut-offs and commits
 -- the page of a cut-off, up to byte k

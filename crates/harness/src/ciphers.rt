@@ -15,7 +15,7 @@ const SCHEDULE: usize = 176;
 
 // The round keys of a key of 16 bytes, into 176 bytes.
 #[no_mangle]
-pub extern "C" fn johvimaru_cipher_expand(key: &[u8], schedule: &mut [u8]) -> u32
+pub extern "C" fn harness_expand(key: &[u8], schedule: &mut [u8]) -> u32
     ensures { λ r. ⌜ answer r (now (schedule .exit)) ≡ expandAnswer (now (key .entry)) (now (schedule .entry)) ⌝ }
 {
     if key.len() != KEY {
@@ -32,7 +32,7 @@ pub extern "C" fn johvimaru_cipher_expand(key: &[u8], schedule: &mut [u8]) -> u3
 
 // Enciphers a block of 16 bytes in place, under a key of 16 bytes.
 #[no_mangle]
-pub extern "C" fn johvimaru_cipher_encrypt(key: &[u8], block: &mut [u8]) -> u32
+pub extern "C" fn harness_encrypt(key: &[u8], block: &mut [u8]) -> u32
     ensures { λ r. ⌜ answer r (now (block .exit)) ≡ encryptAnswer (now (key .entry)) (now (block .entry)) ⌝ }
 {
     if key.len() != KEY {
@@ -49,7 +49,7 @@ pub extern "C" fn johvimaru_cipher_encrypt(key: &[u8], block: &mut [u8]) -> u32
 
 // Enciphers or deciphers text of any length in place, in counter mode under a key of 16 bytes.
 #[no_mangle]
-pub extern "C" fn johvimaru_cipher_stream(key: &[u8], text: &mut [u8]) -> u32
+pub extern "C" fn harness_stream(key: &[u8], text: &mut [u8]) -> u32
     ensures { λ r. ⌜ answer r (now (text .exit)) ≡ streamAnswer (now (key .entry)) (now (text .entry)) ⌝ }
 {
     if key.len() != KEY {

@@ -1,6 +1,5 @@
 // C entry points into the inner layers, for tests and benchmarks. They are no part of the product.
 pub mod ciphers;
-pub mod images;
 pub mod pages;
 
 use page::bytes;

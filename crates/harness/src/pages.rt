@@ -1,7 +1,6 @@
 // C entry points into the crate `page`.
 use crate::DONE;
 use crate::REFUSED;
-use crate::array_of;
 use page::Entry;
 use page::Form;
 use page::Frame;
@@ -13,7 +12,7 @@ ghost use mathlib.Core.Path.{_≡_};
 ghost use Prim.Native.Nat.{_<_};
 ghost use lib.ListN.{length, getD};
 ghost use Rattle.harness.specs.Answer.{answer};
-ghost use Rattle.harness.specs.Page.{fieldsInFrame, fieldsOf, frameOf, byteRange, formAnswer, headerAnswer, entryAnswer, writeEntryAnswer, nodeAnswer, payloadAnswer, cutOffAnswer, commitPageAnswer, commitValidReply};
+ghost use Rattle.harness.specs.Page.{fieldsInFrame, fieldsOf, frameOf, byteRange, formAnswer, headerAnswer, entryAnswer, writeEntryAnswer, cutOffAnswer, commitPageAnswer, commitValidReply};
 
 // The fields of a header: kind, number, unit, part, key, second.
 const FIELDS_IN_FRAME: usize = 6;
@@ -22,9 +21,6 @@ const FIELDS_IN_FRAME: usize = 6;
 const ENTRY_SIZE: usize = 8;
 
 const FIELDS_IN_ENTRY: usize = 2;
-
-// A key has 16 bytes.
-const KEY: usize = 16;
 
 // Bytes are below 256, the numbers of a map below 65,536.
 const BYTE_RANGE: u32 = 256;
@@ -99,7 +95,7 @@ fn frame_of(fields: &[u32]) -> Frame
 // The form of a page of 256 bytes: 0 empty, 1 whole, 2 torn, 3 spoilt. The fields of a whole or torn page's header go
 // into six numbers.
 #[no_mangle]
-pub extern "C" fn johvimaru_page_form(page: &[u8], fields: &mut [u32]) -> u32
+pub extern "C" fn harness_form(page: &[u8], fields: &mut [u32]) -> u32
     ensures { λ r. ⌜ answer r (now (fields .exit)) ≡ formAnswer (now (page .entry)) (now (fields .entry)) ⌝ }
 {
     if page.len() != Frame::PAGE {
@@ -124,7 +120,7 @@ pub extern "C" fn johvimaru_page_form(page: &[u8], fields: &mut [u32]) -> u32
 
 // Writes the 30 bytes of the header of six fields. The reply is 1 where a field is out of its range.
 #[no_mangle]
-pub extern "C" fn johvimaru_page_header(fields: &[u32], header: &mut [u8]) -> u32
+pub extern "C" fn harness_header(fields: &[u32], header: &mut [u8]) -> u32
     ensures { λ r. ⌜ answer r (now (header .exit)) ≡ headerAnswer (now (fields .entry)) (now (header .entry)) ⌝ }
 {
     if fields.len() != FIELDS_IN_FRAME {
@@ -146,7 +142,7 @@ pub extern "C" fn johvimaru_page_header(fields: &[u32], header: &mut [u8]) -> u3
 
 // The entry that 8 bytes are: 0 with page and key, which go into two numbers; 1 vacant, 2 misspelt.
 #[no_mangle]
-pub extern "C" fn johvimaru_page_entry(entry: &[u8], fields: &mut [u32]) -> u32
+pub extern "C" fn harness_entry(entry: &[u8], fields: &mut [u32]) -> u32
     ensures { λ r. ⌜ answer r (now (fields .exit)) ≡ entryAnswer (now (entry .entry)) (now (fields .entry)) ⌝ }
 {
     if entry.len() != ENTRY_SIZE {
@@ -168,7 +164,7 @@ pub extern "C" fn johvimaru_page_entry(entry: &[u8], fields: &mut [u32]) -> u32
 
 // Writes the 8 bytes of the entry of a page and a key, as a map has them.
 #[no_mangle]
-pub extern "C" fn johvimaru_page_write_entry(page: u32, key: u32, entry: &mut [u8]) -> u32
+pub extern "C" fn harness_write_entry(page: u32, key: u32, entry: &mut [u8]) -> u32
     ensures { λ r. ⌜ answer r (now (entry .exit)) ≡ writeEntryAnswer page key (now (entry .entry)) ⌝ }
 {
     if MAP_RANGE <= page {
@@ -184,63 +180,9 @@ pub extern "C" fn johvimaru_page_write_entry(page: u32, key: u32, entry: &mut [u
     DONE
 }
 
-// Writes the page of a node up to byte k, its payload of 224 bytes enciphered under a key of 16 bytes.
-#[no_mangle]
-pub extern "C" fn johvimaru_page_node(
-    page: &mut [u8],
-    sequence: u32,
-    file: u32,
-    offset: u32,
-    position: u32,
-    key: &[u8],
-    payload: &[u8],
-    k: usize,
-) -> u32
-    ensures { λ r. ⌜ answer r (now (page .exit)) ≡ nodeAnswer (now (page .entry)) sequence file offset position (now (key .entry)) (now (payload .entry)) k ⌝ }
-{
-    if page.len() != Frame::PAGE {
-        return REFUSED;
-    }
-    if key.len() != KEY {
-        return REFUSED;
-    }
-    if payload.len() != Frame::PAYLOAD {
-        return REFUSED;
-    }
-    writers::write_node(
-        page,
-        sequence,
-        file,
-        offset,
-        position,
-        array_of(key),
-        payload,
-        k,
-    );
-    DONE
-}
-
-// The payload of a page of 256 bytes, deciphered under a key of 16 bytes, into 224 bytes.
-#[no_mangle]
-pub extern "C" fn johvimaru_page_payload(page: &[u8], key: &[u8], out: &mut [u8]) -> u32
-    ensures { λ r. ⌜ answer r (now (out .exit)) ≡ payloadAnswer (now (page .entry)) (now (key .entry)) (now (out .entry)) ⌝ }
-{
-    if page.len() != Frame::PAGE {
-        return REFUSED;
-    }
-    if key.len() != KEY {
-        return REFUSED;
-    }
-    if out.len() != Frame::PAYLOAD {
-        return REFUSED;
-    }
-    writers::read_payload(page, array_of(key), out);
-    DONE
-}
-
 // Writes the page of a cut-off up to byte k.
 #[no_mangle]
-pub extern "C" fn johvimaru_page_cut_off(
+pub extern "C" fn harness_cut_off(
     page: &mut [u8],
     sequence: u32,
     file: u32,
@@ -259,7 +201,7 @@ pub extern "C" fn johvimaru_page_cut_off(
 
 // Writes a part of a commit up to byte k, from a map of 448 numbers and 448 letters.
 #[no_mangle]
-pub extern "C" fn johvimaru_commit_page(
+pub extern "C" fn harness_commit_page(
     page: &mut [u8],
     epoch: u32,
     part: u32,
@@ -290,7 +232,7 @@ pub extern "C" fn johvimaru_commit_page(
 
 // Whether 224 bytes are valid as the payload of a part of a commit: 1 or 0.
 #[no_mangle]
-pub extern "C" fn johvimaru_commit_valid(payload: &[u8], part: u32) -> u32
+pub extern "C" fn harness_commit_valid(payload: &[u8], part: u32) -> u32
     ensures { λ r. ⌜ r ≡ commitValidReply (now (payload .entry)) part ⌝ }
 {
     if payload.len() != Frame::PAYLOAD {

@@ -1,11 +1,11 @@
--- `pages::johvimaru_page_entry` gives the entry that 8 bytes are, or refuses a length.
+-- `pages::harness_entry` gives the entry that 8 bytes are, or refuses a length.
 use mathlib.Core.Path.{ap}
 use borrow.Author.Tests.{eq-eqb, ne-eqb}
 use Rattle.harness.specs.Answer.{answer}
 use Rattle.harness.specs.Page.{entryAnswer}
 use borrow.Author.Needs.{needs}
-use Rattle.harness.proofs.pages.johvimaru_page_entry.Statement.{statement}
-use Rattle.harness.proofs.pages.johvimaru_page_entry.Tie as tie
+use Rattle.harness.proofs.pages.harness_entry.Statement.{statement}
+use Rattle.harness.proofs.pages.harness_entry.Tie as tie
 
 returns : tie.Need-returns
 unfolding entryAnswer
@@ -56,8 +56,8 @@ returns-5 c =
     let r = c .before .before in
     rw (eq-eqb _ _ (r .before .before .if1 .left), eq-eqb _ _ (r .before .if2 .left), ← r .read-entry .ensures, c .enum-told2 .given .1)
 
-pub johvimaru-page-entry-spec : {M : Type 1} → statement M
-johvimaru-page-entry-spec =
+pub harness-entry-spec : {M : Type 1} → statement M
+harness-entry-spec =
     tie.close
     (tie.spec
     returns

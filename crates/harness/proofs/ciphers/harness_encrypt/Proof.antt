@@ -1,4 +1,4 @@
--- `johvimaru_cipher_encrypt` gives the encipherment of a block, or refuses a wrong length.
+-- `harness_encrypt` gives the encipherment of a block, or refuses a wrong length.
 use mathlib.Core.Path.{ap, ap₂, _∙_}
 use borrow.Author.Tests.{eq-eqb, ne-eqb}
 use Rattle.cipher.specs.Cipher.{cipher}
@@ -6,8 +6,8 @@ use Rattle.cipher.specs.KeyExpansion.{keyExpansion}
 use Rattle.harness.specs.Answer.{answer}
 use Rattle.harness.specs.Cipher.{encryptAnswer}
 use borrow.Author.Needs.{needs}
-use Rattle.harness.proofs.ciphers.johvimaru_cipher_encrypt.Statement.{statement}
-use Rattle.harness.proofs.ciphers.johvimaru_cipher_encrypt.Tie as tie
+use Rattle.harness.proofs.ciphers.harness_encrypt.Statement.{statement}
+use Rattle.harness.proofs.ciphers.harness_encrypt.Tie as tie
 
 returns : tie.Need-returns
 unfolding encryptAnswer
@@ -49,8 +49,8 @@ returns-3 c =
     ∙ e .encrypt .ensures
     ∙ ap₂ cipher (e .before .expand .ensures ∙ ap keyExpansion (e .before .before .array-of2 .ensures)) (a .array-of .ensures)))
 
-pub johvimaru-cipher-encrypt-spec : {M : Type 1} → statement M
-johvimaru-cipher-encrypt-spec =
+pub harness-encrypt-spec : {M : Type 1} → statement M
+harness-encrypt-spec =
     tie.close
     (tie.spec
     returns

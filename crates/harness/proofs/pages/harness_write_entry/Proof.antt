@@ -1,11 +1,11 @@
--- `pages::johvimaru_page_write_entry` gives the bytes of an entry, or refuses a number or a length.
+-- `pages::harness_write_entry` gives the bytes of an entry, or refuses a number or a length.
 use mathlib.Core.Path.{ap}
 use borrow.Author.Tests.{eq-eqb, ne-eqb, lt-ltb, le-ltb}
 use Rattle.harness.specs.Answer.{answer}
 use Rattle.harness.specs.Page.{writeEntryAnswer}
 use borrow.Author.Needs.{needs}
-use Rattle.harness.proofs.pages.johvimaru_page_write_entry.Statement.{statement}
-use Rattle.harness.proofs.pages.johvimaru_page_write_entry.Tie as tie
+use Rattle.harness.proofs.pages.harness_write_entry.Statement.{statement}
+use Rattle.harness.proofs.pages.harness_write_entry.Tie as tie
 
 returns : tie.Need-returns
 unfolding writeEntryAnswer
@@ -38,8 +38,8 @@ returns-4 c =
     rw (lt-ltb _ _ (e .before .before .if1 .left), lt-ltb _ _ (e .before .if2 .left), eq-eqb _ _ (e .if3 .left))
     (ap (answer 0) (c .before .before .write-entry .ensures))
 
-pub johvimaru-page-write-entry-spec : {M : Type 1} → statement M
-johvimaru-page-write-entry-spec =
+pub harness-write-entry-spec : {M : Type 1} → statement M
+harness-write-entry-spec =
     tie.close
     (tie.spec
     returns

@@ -1,11 +1,11 @@
--- `pages::johvimaru_page_form` gives the form of a page with the fields of its header, or refuses a length.
+-- `pages::harness_form` gives the form of a page with the fields of its header, or refuses a length.
 use mathlib.Core.Path.{ap}
 use borrow.Author.Tests.{eq-eqb, ne-eqb}
 use Rattle.harness.specs.Answer.{answer}
 use Rattle.harness.specs.Page.{formAnswer}
 use borrow.Author.Needs.{needs}
-use Rattle.harness.proofs.pages.johvimaru_page_form.Statement.{statement}
-use Rattle.harness.proofs.pages.johvimaru_page_form.Tie as tie
+use Rattle.harness.proofs.pages.harness_form.Statement.{statement}
+use Rattle.harness.proofs.pages.harness_form.Tie as tie
 
 returns : tie.Need-returns
 unfolding formAnswer
@@ -70,8 +70,8 @@ returns-6 c =
     let r = c .before .before in
     rw (eq-eqb _ _ (r .before .before .if1 .left), eq-eqb _ _ (r .before .if2 .left), ← r .form .ensures, c .enum-told2 .given .1)
 
-pub johvimaru-page-form-spec : {M : Type 1} → statement M
-johvimaru-page-form-spec =
+pub harness-form-spec : {M : Type 1} → statement M
+harness-form-spec =
     tie.close
     (tie.spec
     returns

@@ -1,9 +1,9 @@
--- `pages::johvimaru_commit_valid` tells whether a payload is valid, or refuses a length or a part.
+-- `pages::harness_commit_valid` tells whether a payload is valid, or refuses a length or a part.
 use borrow.Author.Tests.{eq-eqb, ne-eqb, lt-ltb, le-ltb}
 use Rattle.harness.specs.Page.{commitValidReply}
 use borrow.Author.Needs.{needs}
-use Rattle.harness.proofs.pages.johvimaru_commit_valid.Statement.{statement}
-use Rattle.harness.proofs.pages.johvimaru_commit_valid.Tie as tie
+use Rattle.harness.proofs.pages.harness_commit_valid.Statement.{statement}
+use Rattle.harness.proofs.pages.harness_commit_valid.Tie as tie
 
 returns : tie.Need-returns
 unfolding commitValidReply
@@ -28,6 +28,6 @@ returns-4 c =
     let e = c .before .before in
     rw (eq-eqb _ _ (e .before .if1 .left), lt-ltb _ _ (e .if2 .left), ← c .before .valid-payload .ensures, c .if3 .left)
 
-pub johvimaru-commit-valid-spec : {M : Type 1} → statement M
-johvimaru-commit-valid-spec =
+pub harness-commit-valid-spec : {M : Type 1} → statement M
+harness-commit-valid-spec =
     tie.close (tie.spec returns returns-2 valid-payload-requires returns-3 returns-4)

@@ -1,4 +1,4 @@
--- `johvimaru_cipher_expand` gives the round keys, or refuses a wrong length.
+-- `harness_expand` gives the round keys, or refuses a wrong length.
 use mathlib.Core.Path.{ap, sym, _∙_}
 use borrow.Author.Tests.{eq-eqb, ne-eqb}
 use lib.ListN.{length}
@@ -7,8 +7,8 @@ use Rattle.cipher.proofs.Laws.{length-key-expansion}
 use Rattle.harness.specs.Answer.{answer}
 use Rattle.harness.specs.Cipher.{expandAnswer}
 use borrow.Author.Needs.{needs}
-use Rattle.harness.proofs.ciphers.johvimaru_cipher_expand.Statement.{statement}
-use Rattle.harness.proofs.ciphers.johvimaru_cipher_expand.Tie as tie
+use Rattle.harness.proofs.ciphers.harness_expand.Statement.{statement}
+use Rattle.harness.proofs.ciphers.harness_expand.Tie as tie
 
 returns : tie.Need-returns
 unfolding expandAnswer
@@ -43,8 +43,8 @@ returns-3 c =
     rw (eq-eqb _ _ (a .before .before .if1 .left), eq-eqb _ _ (a .before .if2 .left))
     (ap (answer 0) (c .before .before .copy .ensures ∙ c .before .before .before .before .before .before .expand .ensures ∙ ap keyExpansion (a .array-of .ensures)))
 
-pub johvimaru-cipher-expand-spec : {M : Type 1} → statement M
-johvimaru-cipher-expand-spec =
+pub harness-expand-spec : {M : Type 1} → statement M
+harness-expand-spec =
     tie.close
     (tie.spec
     returns

@@ -1,4 +1,4 @@
--- `pages::johvimaru_page_header` gives the bytes of a header, or says that its fields are out of range, or refuses a length.
+-- `pages::harness_header` gives the bytes of a header, or says that its fields are out of range, or refuses a length.
 use mathlib.Core.Path.{_≡_, ap, sym, _∙_}
 use mathlib.Core.Bool.{false}
 use Prim.Native.Nat.{_≤_}
@@ -9,8 +9,8 @@ use Rattle.page.specs.declared.Frame.{Frame}
 use Rattle.harness.specs.Answer.{answer}
 use Rattle.harness.specs.Page.{byteRange, frameOf, headerAnswer}
 use borrow.Author.Needs.{needs}
-use Rattle.harness.proofs.pages.johvimaru_page_header.Statement.{statement}
-use Rattle.harness.proofs.pages.johvimaru_page_header.Tie as tie
+use Rattle.harness.proofs.pages.harness_header.Statement.{statement}
+use Rattle.harness.proofs.pages.harness_header.Tie as tie
 
 -- no header has a kind that is no byte
 no-kind : (f : Frame) → byteRange ≤ f .kind → inRange f ≡ false
@@ -63,8 +63,8 @@ returns-5 c =
     rw (eq-eqb _ _ (e .before .if1 .left), eq-eqb _ _ (e .if2 .left), sym (ap inRange (f .frame-of .ensures)) ∙ sym (r .before .in-range .ensures) ∙ not-false _ (r .if4 .left))
     (ap (answer 0) (c .before .before .write-header .ensures ∙ ap headerBytes (f .frame-of .ensures)))
 
-pub johvimaru-page-header-spec : {M : Type 1} → statement M
-johvimaru-page-header-spec =
+pub harness-header-spec : {M : Type 1} → statement M
+harness-header-spec =
     tie.close
     (tie.spec
     returns

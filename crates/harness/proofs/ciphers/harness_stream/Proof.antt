@@ -1,4 +1,4 @@
--- `johvimaru_cipher_stream` gives a text in counter mode, or refuses a key of a wrong length.
+-- `harness_stream` gives a text in counter mode, or refuses a key of a wrong length.
 use mathlib.Core.Path.{ap, _∙_}
 use mathlib.Core.List.{List}
 use Prim.Native.Nat.{ℕ}
@@ -9,8 +9,8 @@ use Rattle.cipher.specs.CounterMode.{counterMode}
 use Rattle.harness.specs.Answer.{answer}
 use Rattle.harness.specs.Cipher.{streamAnswer}
 use borrow.Author.Needs.{needs}
-use Rattle.harness.proofs.ciphers.johvimaru_cipher_stream.Statement.{statement}
-use Rattle.harness.proofs.ciphers.johvimaru_cipher_stream.Tie as tie
+use Rattle.harness.proofs.ciphers.harness_stream.Statement.{statement}
+use Rattle.harness.proofs.ciphers.harness_stream.Tie as tie
 
 returns : tie.Need-returns
 unfolding streamAnswer
@@ -37,8 +37,8 @@ returns-2 c =
     (c .before .before .apply-stream .ensures
     ∙ ap (λ (w : List ℕ). counterMode w (now (b .before .before .before .before .before .args .text))) (b .expand .ensures ∙ ap keyExpansion (b .before .array-of .ensures))))
 
-pub johvimaru-cipher-stream-spec : {M : Type 1} → statement M
-johvimaru-cipher-stream-spec =
+pub harness-stream-spec : {M : Type 1} → statement M
+harness-stream-spec =
     tie.close
     (tie.spec
     returns

@@ -1,4 +1,4 @@
--- `pages::johvimaru_page_cut_off` gives the page of a cut-off up to byte k, or refuses a length.
+-- `pages::harness_cut_off` gives the page of a cut-off up to byte k, or refuses a length.
 use mathlib.Core.Path.{refl, ap}
 use borrow.Author.Tests.{eq-eqb, ne-eqb}
 use Rattle.page.specs.Page.{cutOffPage}
@@ -6,8 +6,8 @@ use Rattle.harness.specs.Answer.{answer}
 use Rattle.harness.specs.Page.{cutOffAnswer}
 use Rattle.harness.proofs.Framed.{framed}
 use borrow.Author.Needs.{needs}
-use Rattle.harness.proofs.pages.johvimaru_page_cut_off.Statement.{statement}
-use Rattle.harness.proofs.pages.johvimaru_page_cut_off.Tie as tie
+use Rattle.harness.proofs.pages.harness_cut_off.Statement.{statement}
+use Rattle.harness.proofs.pages.harness_cut_off.Tie as tie
 
 returns : tie.Need-returns
 unfolding cutOffAnswer
@@ -31,8 +31,8 @@ returns-2 c =
     rw (eq-eqb _ _ (c .before .before .before .before .before .before .if1 .left))
     (ap (answer 0) (framed _ _ _ _ _ _ (c .before .before .before .before .cut-off .ensures) refl (c .before .before .write-page .ensures)))
 
-pub johvimaru-page-cut-off-spec : {M : Type 1} → statement M
-johvimaru-page-cut-off-spec =
+pub harness-cut-off-spec : {M : Type 1} → statement M
+harness-cut-off-spec =
     tie.close
     (tie.spec
     returns

@@ -1,4 +1,4 @@
--- `pages::johvimaru_commit_page` gives a part of a commit up to byte k, or refuses a length or a part.
+-- `pages::harness_commit_page` gives a part of a commit up to byte k, or refuses a length or a part.
 use mathlib.Core.Path.{ap}
 use borrow.Author.Tests.{eq-eqb, ne-eqb, lt-ltb, le-ltb}
 use Rattle.page.specs.Page.{commitPage}
@@ -6,8 +6,8 @@ use Rattle.harness.specs.Answer.{answer}
 use Rattle.harness.specs.Page.{commitPageAnswer}
 use Rattle.harness.proofs.Framed.{framed}
 use borrow.Author.Needs.{needs}
-use Rattle.harness.proofs.pages.johvimaru_commit_page.Statement.{statement}
-use Rattle.harness.proofs.pages.johvimaru_commit_page.Tie as tie
+use Rattle.harness.proofs.pages.harness_commit_page.Statement.{statement}
+use Rattle.harness.proofs.pages.harness_commit_page.Tie as tie
 
 returns : tie.Need-returns
 unfolding commitPageAnswer
@@ -50,8 +50,8 @@ returns-5 c =
     rw (eq-eqb _ _ (e .before .before .before .if1 .left), lt-ltb _ _ (e .before .before .if2 .left), eq-eqb _ _ (e .before .if3 .left), eq-eqb _ _ (e .if4 .left))
     (ap (answer 0) (framed _ _ _ _ _ _ (c .before .before .before .before .commit .ensures) (c .before .before .before .before .before .before .before .write-commit-payload .ensures) (c .before .before .write-page .ensures)))
 
-pub johvimaru-commit-page-spec : {M : Type 1} → statement M
-johvimaru-commit-page-spec =
+pub harness-commit-page-spec : {M : Type 1} → statement M
+harness-commit-page-spec =
     tie.close
     (tie.spec
     returns

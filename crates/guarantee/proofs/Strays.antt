@@ -17,10 +17,10 @@ use Rattle.base.proofs.Eachs.{each-map}
 use Rattle.page.specs.Entry.{parts}
 use Rattle.image.specs.Size.{pagesInBlock, blocks}
 use Rattle.image.specs.Look.{blockAt, blockEmpty, formAt, lowestEmpty}
-use Rattle.image.specs.Block.{renewedKey, keyBlockSteps, commitBlockSteps}
+use Rattle.image.specs.Block.{renewedKey, keyBlockSteps, commitBlockSteps, keyBlockPage, commitBlockPage}
 use Rattle.image.specs.Step.{Step, program, erase, Inside, Legal, AllLegal, whole, playAll}
-use Rattle.image.proofs.CommitBlock.{commitBlockPage, commit-block-steps}
-use Rattle.image.proofs.KeyBlock.{keyBlockPage, key-block-steps}
+use Rattle.image.proofs.CommitBlock.{commit-block-steps}
+use Rattle.image.proofs.KeyBlock.{key-block-steps}
 use Rattle.image.proofs.Rows.{row-in-no-other}
 use Rattle.image.proofs.Empties.{block-empty-same, erase-empties}
 use Rattle.image.proofs.Forms.{form-same}

@@ -1,6 +1,7 @@
 // The store for C: each call over numbers and lent slices, with its reply as a number.
 use store::Answer;
 use store::Numbers;
+use store::cut_off;
 use store::format;
 use store::read;
 use store::replies;
@@ -12,6 +13,7 @@ ghost use Rattle.store.specs.Reply.{numberOf};
 ghost use Rattle.store.specs.Outcome.{left, leftWhole};
 ghost use Rattle.store.specs.Format.{formatLeaves};
 ghost use Rattle.store.specs.Read.{readLeaves};
+ghost use Rattle.store.specs.CutOff.{cutOffLeaves};
 ghost use Rattle.store.specs.Write.{writeLeaves};
 ghost use Rattle.recorder.specs.Face.{numbersOf, fiveOf, faced, face};
 
@@ -129,4 +131,42 @@ pub extern "C" fn johvimaru_read(
     let before = numbers_of(five);
     let reply = read::read(image, map, letters, before, file, offset, output);
     replies::number(reply)
+}
+
+// Removes the nodes of a file from an offset on.
+#[no_mangle]
+pub extern "C" fn johvimaru_cut_off(
+    image: &mut [u8],
+    map: &mut [u16],
+    letters: &mut [u8],
+    five: &mut [u32; 5],
+    file: u32,
+    offset: u32,
+) -> u32
+    ensures { λ r. ⌜ faced r (new image) (new map) (new letters) (new five) []
+        ≡ face (cutOffLeaves leftWhole (old image) (old map) (old letters) (numbersOf (old five)) file offset) ⌝ }
+{
+    let before = numbers_of(five);
+    let answer = cut_off::cut_off(image, map, letters, before, file, offset);
+    hand_over(answer, five)
+}
+
+// A cut-off of which the power lasts for n steps and the first k bytes of the next.
+#[no_mangle]
+pub extern "C" fn johvimaru_cut_off_cut(
+    image: &mut [u8],
+    map: &mut [u16],
+    letters: &mut [u8],
+    five: &mut [u32; 5],
+    file: u32,
+    offset: u32,
+    n: u64,
+    k: usize,
+) -> u32
+    ensures { λ r. ⌜ faced r (new image) (new map) (new letters) (new five) []
+        ≡ face (cutOffLeaves (left n k) (old image) (old map) (old letters) (numbersOf (old five)) file offset) ⌝ }
+{
+    let before = numbers_of(five);
+    let answer = cut_off::cut_off_cut(image, map, letters, before, file, offset, n, k);
+    hand_over(answer, five)
 }

@@ -45,8 +45,8 @@ marked-none map letters size none =
     let length-marks : length (marks letters) ≡ positions = length-map letters mark ∙ size in
     record {
       tallied = tallied-none map (marks letters)
-      (ext-getD 0 (marks letters) (replicate positions 0) (length-marks ∙ sym (length-replicate {A = ℕ} positions 0))
-      (λ p h. let i : p < positions = omega arith in mark-at letters p ∙ rw (unused p i) (sym (getD-replicate positions p 0 0 i))));
+          (ext-getD 0 (marks letters) (replicate positions 0) (length-marks ∙ sym (length-replicate {A = ℕ} positions 0))
+          (λ p h. let i : p < positions = omega arith in mark-at letters p ∙ rw (unused p i) (sym (getD-replicate positions p 0 0 i))));
       kept = λ p h. rw (unused p h);
     }
 

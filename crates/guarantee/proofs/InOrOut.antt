@@ -21,7 +21,7 @@ use Rattle.guarantee.specs.Statement.{MapHas, ReadGives, AtRest}
 use Rattle.guarantee.proofs.Histories.{endOf, Permitted, History, while-on, next, at-end, Mounting, remounted, remounted-book}
 
 -- ---- the files
--- for each place none or a payload with its key position
+-- what stands at each place: nothing, or a payload and where its key is
 abbrev pub Files : Type 0
 Files = ℕ → Option Holding
 

@@ -9,6 +9,7 @@ use page::Frame;
 use page::entries;
 use page::entries::PARTS;
 ghost use mathlib.Core.Path.{_≡_};
+ghost use mathlib.Core.Bool.{cond};
 ghost use Prim.Native.Nat.{_≤_, _<_, _+_, _*_, _-_, _%_};
 ghost use lib.ListN.{length};
 ghost use Rattle.base.specs.Search.{allFrom, anyFrom};
@@ -216,10 +217,20 @@ pub fn covered_by(kind: Kind) -> u32
 }
 
 // Whether a kind letter is N or D.
-fn is_event_letter(kind: u8) -> bool
+pub fn is_event_letter(kind: u8) -> bool
     ensures { λ r. ⌜ r ≡ isEventLetter kind ⌝ }
 {
     (kind == Frame::NODE_LETTER) | (kind == Frame::CUT_OFF_LETTER)
+}
+
+// The sequence of an N or D header, 0 of any other.
+pub fn event_number(f: Frame) -> u32
+    ensures { λ r. ⌜ r ≡ cond (isEventLetter (f .kind)) (f .number) 0 ⌝ }
+{
+    if is_event_letter(f.kind) {
+        return f.number;
+    }
+    0
 }
 
 // Whether a page is a whole or torn N or D page.

@@ -5,6 +5,7 @@ pub mod format;
 mod kinds;
 pub mod read;
 mod record;
+mod replay;
 pub mod replies;
 mod tests;
 pub mod write;

@@ -1,6 +1,7 @@
 -- Document 01, "Calls and their refusals", Mount: what the pass over the pages makes of the lent map, letters and scratch.
 --   Pass, pass   what the pass keeps: the lent lists, the blocks that have events, the highest sequence
 --   heldAt       what map and scratch hold of a place
+--   EachPlace, EachLetter   what a change makes of each place, of each letter
 --   outranks     an event against what a place holds
 --   Passed       what some pages in a row make of it
 --   Replayed     what the whole pass leaves
@@ -40,6 +41,14 @@ pass map letters scratch events highest =
 abbrev pub heldAt : List ℕ → List ℕ → ℕ → Decision
 heldAt map scratch x = record { sequence = getD scratch x 0; page = pageOf map x; key = keyOf map x }
 
+-- each place of the second map and scratch holds what f makes of what it held in the first
+abbrev pub EachPlace : (ℕ → Decision → Decision) → List ℕ → List ℕ → List ℕ → List ℕ → Type 0
+EachPlace f map scratch map' scratch' = (x : ℕ) → x < places → heldAt map' scratch' x ≡ f x (heldAt map scratch x)
+
+-- each of the second letters is what f makes of the first
+abbrev pub EachLetter : (ℕ → ℕ → ℕ) → List ℕ → List ℕ → Type 0
+EachLetter f letters letters' = (p : ℕ) → p < positions → getD letters' p 0 ≡ f p (getD letters p 0)
+
 -- an event's decision against what a place holds: ties to the event, which stands on the higher page
 abbrev pub outranks : Decision → Decision → Decision
 outranks event held = cond (leb (held .sequence) (event .sequence)) event held
@@ -57,10 +66,8 @@ eventOf img b g = eqb (g / pagesInBlock) b && headed (formAt img g)
 
 -- what the n pages from g on, above the covered sequence s, make of t
 pub record Passed (img : List ℕ) (s n g : ℕ) (t t' : Pass) : Type 0 where
-  pub place : (x : ℕ) → x < places
-      → heldAt (t' .map) (t' .scratch) x ≡ foldFrom (λ i. decideBy s x i (formAt img i)) n g (heldAt (t .map) (t .scratch) x)
-  pub letter : (p : ℕ) → p < positions
-      → getD (t' .letters) p 0 ≡ cond (anyFrom (λ i. spends s p (formAt img i)) n g) deletedLetter (getD (t .letters) p 0)
+  pub place : EachPlace (λ x. foldFrom (λ i. decideBy s x i (formAt img i)) n g) (t .map) (t .scratch) (t' .map) (t' .scratch)
+  pub letter : EachLetter (λ p l. cond (anyFrom (λ i. spends s p (formAt img i)) n g) deletedLetter l) (t .letters) (t' .letters)
   pub event : (b : ℕ) → b < mostBlocks → getD (t' .events) b 0 ≡ cond (anyFrom (eventOf img b) n g) 1 (getD (t .events) b 0)
   pub highest : t' .highest ≡ max (t .highest) (highestFrom (λ i. sequenceOf (formAt img i)) n g)
 

@@ -81,8 +81,7 @@ fn payload_valid(image: &[u8], g: usize, i: usize) -> bool
     requires { ⌜ g * pageSize + pageSize ≤ length (now image) ⌝ }
     ensures { λ r. ⌜ r ≡ validPayload i (payloadOf (pageAt (now (image .entry)) g)) ⌝ }
 {
-    let start = g * Frame::PAGE + Frame::HEADER;
-    entries::valid_payload(&image[start..start + Frame::PAYLOAD], i)
+    entries::valid_payload(look::payload_at(image, g), i)
 }
 
 // Whether page i of block b is a whole part i of a commit of epoch e that covers s, with a valid payload.

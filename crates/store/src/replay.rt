@@ -1,6 +1,7 @@
 // Mount's pass over the pages: what the commit says of each place and position, then every whole or torn N or D page in order.
 use crate::Kind;
 use crate::kinds;
+use crate::record;
 use image::look;
 use image::look::PAGES_IN_BLOCK;
 use page::Entry;
@@ -13,7 +14,7 @@ use page::plan::PLACES;
 ghost use mathlib.Core.Path.{_≡_};
 ghost use mathlib.Core.Bool.{true, cond, _&&_};
 ghost use Prim.Native.Nat.{ℕ, _≤_, _<_, _+_, _*_, _/_, max};
-ghost use lib.ListN.{length, getD, set, replicate};
+ghost use lib.ListN.{length, set, replicate};
 ghost use lib.Dec.{eqb, leb, ltb};
 ghost use Rattle.page.specs.Frame.{pageSize};
 ghost use Rattle.page.specs.Plan.{places};
@@ -23,8 +24,8 @@ ghost use Rattle.page.specs.Entry.{none, freeLetter, deletedLetter};
 ghost use Rattle.image.specs.Size.{blockSize, pagesInBlock, mostBlocks, pages, sizeRight};
 ghost use Rattle.store.specs.Kind.{kindOf, headed};
 ghost use Rattle.store.specs.Record.{mapSize};
-ghost use Rattle.store.specs.Mount.{Decision, letterIn, entryIn, byEntry, decideBy, spends, sequenceOf};
-ghost use Rattle.store.specs.Replay.{pass, heldAt, outranks, rangeRight, Passed, Replayed};
+ghost use Rattle.store.specs.Mount.{letterIn, entryIn, byEntry, decideBy, spends, sequenceOf};
+ghost use Rattle.store.specs.Replay.{pass, EachPlace, EachLetter, outranks, rangeRight, Passed, Replayed};
 
 // The entry of place x in the commit of block c.
 fn entry_in(image: &[u8], c: usize, x: usize) -> Entry
@@ -62,8 +63,7 @@ fn entry_key(entry: Entry) -> u16
 // Puts a sequence, a page and a key at place x.
 fn put_place(map: &mut [u16], scratch: &mut [u32], x: usize, sequence: u32, page: u16, key: u16)
     requires { ⌜ (length (now map) ≡ mapSize) × (length (now scratch) ≡ places) × (x < places) ⌝ }
-    ensures { λ _. ⌜ (y : ℕ) → y < places → heldAt (now (map .exit)) (now (scratch .exit)) y
-        ≡ cond (eqb x y) (record { sequence = sequence; page = page; key = key }) (heldAt (now (map .entry)) (now (scratch .entry)) y) ⌝ }
+    ensures { λ _. ⌜ EachPlace (λ y held. cond (eqb x y) (record { sequence = sequence; page = page; key = key }) held) (now (map .entry)) (now (scratch .entry)) (now (map .exit)) (now (scratch .exit)) ⌝ }
 {
     scratch[x] = sequence;
     map[x] = page;
@@ -73,7 +73,7 @@ fn put_place(map: &mut [u16], scratch: &mut [u32], x: usize, sequence: u32, page
 // Puts the commit's entry at every place.
 fn read_entries(image: &[u8], c: usize, map: &mut [u16], scratch: &mut [u32])
     requires { ⌜ (c * blockSize + blockSize ≤ length (now image)) × (length (now map) ≡ mapSize) × (length (now scratch) ≡ places) ⌝ }
-    ensures { λ _. ⌜ (x : ℕ) → x < places → heldAt (now (map .exit)) (now (scratch .exit)) x ≡ byEntry (entryIn (now (image .entry)) c x) ⌝ }
+    ensures { λ _. ⌜ EachPlace (λ x held. byEntry (entryIn (now (image .entry)) c x)) (now (map .entry)) (now (scratch .entry)) (now (map .exit)) (now (scratch .exit)) ⌝ }
 {
     let mut x: usize = 0;
     while x < PLACES {
@@ -105,7 +105,7 @@ fn letter_in(image: &[u8], c: usize, p: usize) -> u8
 // Puts at every position the letter that it starts with.
 fn read_letters(image: &[u8], c: usize, letters: &mut [u8])
     requires { ⌜ (c * blockSize + blockSize ≤ length (now image)) × (length (now letters) ≡ positions) ⌝ }
-    ensures { λ _. ⌜ (p : ℕ) → p < positions → getD (now (letters .exit)) p 0 ≡ cond (eqb (letterIn (now (image .entry)) c p) freeLetter) freeLetter deletedLetter ⌝ }
+    ensures { λ _. ⌜ EachLetter (λ p l. cond (eqb (letterIn (now (image .entry)) c p) freeLetter) freeLetter deletedLetter) (now (letters .entry)) (now (letters .exit)) ⌝ }
 {
     let mut p: usize = 0;
     while p < POSITIONS {
@@ -117,8 +117,7 @@ fn read_letters(image: &[u8], c: usize, letters: &mut [u8])
 // An event gives place x a page and a key, where the place holds no higher sequence.
 fn take_place(map: &mut [u16], scratch: &mut [u32], x: usize, sequence: u32, page: u16, key: u16)
     requires { ⌜ (length (now map) ≡ mapSize) × (length (now scratch) ≡ places) × (x < places) ⌝ }
-    ensures { λ _. ⌜ (y : ℕ) → y < places → heldAt (now (map .exit)) (now (scratch .exit)) y
-        ≡ cond (eqb x y) (outranks (record { sequence = sequence; page = page; key = key }) (heldAt (now (map .entry)) (now (scratch .entry)) y)) (heldAt (now (map .entry)) (now (scratch .entry)) y) ⌝ }
+    ensures { λ _. ⌜ EachPlace (λ y held. cond (eqb x y) (outranks (record { sequence = sequence; page = page; key = key }) held) held) (now (map .entry)) (now (scratch .entry)) (now (map .exit)) (now (scratch .exit)) ⌝ }
 {
     if scratch[x] <= sequence {
         put_place(map, scratch, x, sequence, page, key);
@@ -128,8 +127,7 @@ fn take_place(map: &mut [u16], scratch: &mut [u32], x: usize, sequence: u32, pag
 // A cut-off takes the places from first up to end.
 fn remove_places(map: &mut [u16], scratch: &mut [u32], first: usize, end: usize, sequence: u32)
     requires { ⌜ (length (now map) ≡ mapSize) × (length (now scratch) ≡ places) × (first ≤ end) × (end ≤ places) ⌝ }
-    ensures { λ _. ⌜ (y : ℕ) → y < places → heldAt (now (map .exit)) (now (scratch .exit)) y
-        ≡ cond (leb first y && ltb y end) (outranks (record { sequence = sequence; page = none; key = none }) (heldAt (now (map .entry)) (now (scratch .entry)) y)) (heldAt (now (map .entry)) (now (scratch .entry)) y) ⌝ }
+    ensures { λ _. ⌜ EachPlace (λ y held. cond (leb first y && ltb y end) (outranks (record { sequence = sequence; page = none; key = none }) held) held) (now (map .entry)) (now (scratch .entry)) (now (map .exit)) (now (scratch .exit)) ⌝ }
 {
     let mut x = first;
     while x < end {
@@ -141,27 +139,27 @@ fn remove_places(map: &mut [u16], scratch: &mut [u32], first: usize, end: usize,
 // What the whole page g with header f gives its places.
 fn apply_event(map: &mut [u16], scratch: &mut [u32], g: usize, f: Frame, covered: u32)
     requires { ⌜ (length (now map) ≡ mapSize) × (length (now scratch) ≡ places) × (g < none) × (inRange f ≡ true) ⌝ }
-    ensures { λ _. ⌜ (x : ℕ) → x < places → heldAt (now (map .exit)) (now (scratch .exit)) x ≡ decideBy covered x g (Form.Whole f) (heldAt (now (map .entry)) (now (scratch .entry)) x) ⌝ }
+    ensures { λ _. ⌜ EachPlace (λ x. decideBy covered x g (Form.Whole f)) (now (map .entry)) (now (scratch .entry)) (now (map .exit)) (now (scratch .exit)) ⌝ }
 {
     if f.number <= covered {
         return;
     }
     if f.kind == Frame::NODE_LETTER {
-        let x = (plan::start(f.unit) + f.part) as usize;
+        let x = record::place_at(f.unit, f.part);
         take_place(map, scratch, x, f.number, g as u16, f.key as u16);
         return;
     }
     if f.kind == Frame::CUT_OFF_LETTER {
-        let start = plan::start(f.unit);
-        let end = start + plan::count(f.unit);
-        remove_places(map, scratch, (start + f.part) as usize, end as usize, f.number);
+        let first = record::place_at(f.unit, f.part);
+        let end = plan::start(f.unit) + plan::count(f.unit);
+        remove_places(map, scratch, first, end as usize, f.number);
     }
 }
 
 // What page g gives its places: only a whole page is an event.
 fn apply(map: &mut [u16], scratch: &mut [u32], g: usize, form: Form, covered: u32)
     requires { ⌜ (length (now map) ≡ mapSize) × (length (now scratch) ≡ places) × (g < none) × (rangeRight form ≡ true) ⌝ }
-    ensures { λ _. ⌜ (x : ℕ) → x < places → heldAt (now (map .exit)) (now (scratch .exit)) x ≡ decideBy covered x g form (heldAt (now (map .entry)) (now (scratch .entry)) x) ⌝ }
+    ensures { λ _. ⌜ EachPlace (λ x. decideBy covered x g form) (now (map .entry)) (now (scratch .entry)) (now (map .exit)) (now (scratch .exit)) ⌝ }
 {
     match form {
         Form::Empty => {}
@@ -174,7 +172,7 @@ fn apply(map: &mut [u16], scratch: &mut [u32], g: usize, form: Form, covered: u3
 // A header of a node above the covered sequence leaves its key deleted.
 fn spend_key(letters: &mut [u8], f: Frame, covered: u32)
     requires { ⌜ (length (now letters) ≡ positions) × (inRange f ≡ true) ⌝ }
-    ensures { λ _. ⌜ (p : ℕ) → p < positions → getD (now (letters .exit)) p 0 ≡ cond (eqb (f .kind) nodeLetter && ltb covered (f .number) && eqb (f .key) p) deletedLetter (getD (now (letters .entry)) p 0) ⌝ }
+    ensures { λ _. ⌜ EachLetter (λ p l. cond (eqb (f .kind) nodeLetter && ltb covered (f .number) && eqb (f .key) p) deletedLetter l) (now (letters .entry)) (now (letters .exit)) ⌝ }
 {
     if f.kind != Frame::NODE_LETTER {
         return;
@@ -189,7 +187,7 @@ fn spend_key(letters: &mut [u8], f: Frame, covered: u32)
 // What a page does to the letters: a torn node spends its key as a whole one does.
 fn spend(letters: &mut [u8], form: Form, covered: u32)
     requires { ⌜ (length (now letters) ≡ positions) × (rangeRight form ≡ true) ⌝ }
-    ensures { λ _. ⌜ (p : ℕ) → p < positions → getD (now (letters .exit)) p 0 ≡ cond (spends covered p form) deletedLetter (getD (now (letters .entry)) p 0) ⌝ }
+    ensures { λ _. ⌜ EachLetter (λ p l. cond (spends covered p form) deletedLetter l) (now (letters .entry)) (now (letters .exit)) ⌝ }
 {
     match form {
         Form::Empty => {}

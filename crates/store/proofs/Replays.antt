@@ -7,21 +7,21 @@ use mathlib.Core.Path.{_≡_, refl, sym, ap, _∙_}
 use mathlib.Core.Bool.{Bool, true, false, cond, not, _&&_, _||_, and-true as and-true-right, and-false, or-false}
 use mathlib.Core.List.{List, _++_}
 use lib.Dec.{eqb, leb, ltb}
-use lib.ListN.{length, getD, set, length-set}
-use lib.Seq.{getD-set-same, getD-set-other}
+use lib.ListN.{length, getD, set, replicate, length-set, getD-replicate}
+use lib.Seq.{getD-set-same, getD-set-other, ext-getD}
 use borrow.Author.Tests.{eq-eqb, ne-eqb, le-leb, lt-leb, lt-ltb, le-ltb, eqb-true, eqb-false}
 use Rattle.base.specs.Part.{part}
 use Rattle.base.specs.Search.{anyFrom, highestFrom}
-use Rattle.base.specs.Fold.{foldFrom}
-use Rattle.base.proofs.Choice.{true-false, cond-same}
+use Rattle.base.specs.Fold.{foldFrom, listFrom}
+use Rattle.base.proofs.Choice.{and-true, and-intro, true-false, cond-same}
 use Rattle.base.proofs.Parts.{part-length}
-use Rattle.base.proofs.Searches.{any-join, highest-join}
-use Rattle.base.proofs.Folds.{fold-join}
+use Rattle.base.proofs.Searches.{any-holds, any-intro, any-join, highest-join}
+use Rattle.base.proofs.Folds.{fold-join, length-listFrom, listFrom-at}
 use Rattle.page.specs.Frame.{pageSize, headerSize, payloadSize}
 use Rattle.page.specs.Plan.{filePlan, lastFile, places, countOf, startOf}
 use Rattle.page.specs.Header.{nodeLetter, cutOffLetter, inRange}
 use Rattle.page.specs.Key.{positions}
-use Rattle.page.specs.Entry.{none, deletedLetter, entrySize, entryPart, entryAt, entryOf}
+use Rattle.page.specs.Entry.{none, freeLetter, deletedLetter, entrySize, entryPart, entryAt, entryOf}
 use Rattle.page.specs.Page.{payloadOf}
 use Rattle.page.specs.declared.Frame.{Frame}
 use Rattle.page.specs.declared.Form.{Form}
@@ -31,16 +31,18 @@ use Rattle.page.specs.declared.Entry.the-variants.{At as EntryAt, Vacant, Missp
 use Rattle.page.proofs.Plans.{start-after, plan-sum, place-at}
 use Rattle.page.proofs.Ranges.{node-range, cut-off-range}
 use Rattle.page.proofs.Commits.{entry-is}
-use Rattle.image.specs.Size.{blockSize, pagesInBlock}
+use Rattle.image.specs.Size.{blockSize, pagesInBlock, mostBlocks, blocks, pages, sizeRight}
 use Rattle.image.specs.Look.{pageAt, formAt}
-use Rattle.store.specs.Kind.{pageIn, headed}
+use Rattle.image.proofs.Looks.{sized, block-inside}
+use Rattle.store.specs.Kind.{pageIn, kindOf, headed, hasEvents}
 use Rattle.store.specs.Record.{mapSize}
-use Rattle.store.specs.Mount.{entryIn, Decision, byEntry, removes, sets, cuts, decideBy, spends, sequenceOf}
+use Rattle.store.specs.Mount.{coveredIn, letterIn, entryIn, Decision, byEntry, removes, sets, cuts, decideBy, decision, mountMap, mountScratch, spends, isSpent, unusedLetter, sequenceOf}
 use Rattle.store.specs.Write.{placeAt}
 use Rattle.store.specs.Taken.{Planned}
-use Rattle.store.specs.Replay.{Pass, heldAt, EachPlace, EachLetter, outranks, rangeRight, eventOf, Passed}
-use Rattle.store.proofs.BlockKinds.{whole-in-range, torn-in-range}
-use Rattle.store.proofs.Decisions.{setBy, cutBy}
+use Rattle.store.specs.Replay.{Pass, heldAt, EachPlace, EachLetter, outranks, rangeRight, eventOf, Passed, Replayed}
+use Rattle.store.specs.declared.Kind.the-variants.{Commit}
+use Rattle.store.proofs.BlockKinds.{whole-in-range, torn-in-range, commit-inside}
+use Rattle.store.proofs.Decisions.{setBy, cutBy, mount-map-length, mount-page, mount-key, mount-scratch-length, mount-sequence}
 
 -- neither of two tests
 or-fails : (a b : Bool) → a || b ≡ false → (a ≡ false) × (b ≡ false)
@@ -314,3 +316,94 @@ range-right img g = go (formAt img g) refl
     go (Whole f) e = whole-in-range img g f e
     go (Torn f) e = torn-in-range img g f e
     go Spoilt e = refl
+
+-- a page of an image stands in one of at most 256 blocks, and its number fits a map
+pub page-most : (img : List ℕ) (g : ℕ) → sizeRight img ≡ true → g < pages img → (g / pagesInBlock < mostBlocks) × (g < none)
+page-most img g size h = let z = sized img size in (omega (arith, z .most, z .paged), omega (arith, z .most, z .paged))
+
+-- ---- the whole pass
+-- a whole commit block stands in the image
+pub commit-held : (img : List ℕ) (c e s : ℕ) → sizeRight img ≡ true → kindOf img c ≡ Commit e s → c * blockSize + blockSize ≤ length img
+commit-held img c e s size k = let z = sized img size in block-inside img c (commit-inside img c e s (omega (arith, z .full)) k)
+
+-- the pages of the image that are events of block b are those of the block
+module _ (img : List ℕ) (b : ℕ) (size : sizeRight img ≡ true) (inside : b < blocks img) where
+  in-image : hasEvents img b ≡ true → anyFrom (eventOf img b) (pages img) 0 ≡ true
+  in-image e =
+      let w = any-holds (λ i. headed (formAt img (pageIn b i))) pagesInBlock 0 e in
+      let z = sized img size in
+      let k : pageIn b (w .0) / pagesInBlock ≡ b = omega (arith, w .2) in
+      any-intro (eventOf img b) (pages img) 0 (pageIn b (w .0)) (omega arith) (omega (arith, w .2, z .paged)) (and-intro _ _ (eq-eqb _ _ k) (w .3))
+
+  in-block : anyFrom (eventOf img b) (pages img) 0 ≡ true → hasEvents img b ≡ true
+  in-block e =
+      let w = any-holds (eventOf img b) (pages img) 0 e in
+      let a = and-true (eqb (w .0 / pagesInBlock) b) (headed (formAt img (w .0))) (w .3) in
+      let q : w .0 / pagesInBlock ≡ b = eqb-true _ _ (a .0) in
+      let k : pageIn b (w .0 % pagesInBlock) ≡ w .0 = omega (arith, q) in
+      any-intro (λ i. headed (formAt img (pageIn b i))) pagesInBlock 0 (w .0 % pagesInBlock) (omega arith) (omega arith) (rw k (a .1))
+
+  block-events : anyFrom (eventOf img b) (pages img) 0 ≡ hasEvents img b
+  block-events = go (anyFrom (eventOf img b) (pages img) 0) (hasEvents img b) in-block in-image
+    where
+      go : (x y : Bool) → (x ≡ true → y ≡ true) → (y ≡ true → x ≡ true) → x ≡ y
+      go true y f g = sym (f refl)
+      go false true f g = g refl
+      go false false f g = refl
+
+-- the lists have their lengths
+pub record Full (t : Pass) : Type 0 where
+  pub map : length (t .map) ≡ mapSize
+  pub letters : length (t .letters) ≡ positions
+  pub scratch : length (t .scratch) ≡ places
+
+-- the pass begins with what the commit in block c says
+pub record Begun (img : List ℕ) (c : ℕ) (t : Pass) : Type 0 where
+  pub place : (x : ℕ) → x < places → heldAt (t .map) (t .scratch) x ≡ byEntry (entryIn img c x)
+  pub letter : (p : ℕ) → p < positions → getD (t .letters) p 0 ≡ cond (eqb (letterIn img c p) freeLetter) freeLetter deletedLetter
+  pub events : t .events ≡ replicate mostBlocks 0
+  pub highest : t .highest ≡ 0
+
+module _ (img : List ℕ) (c e s : ℕ) (size : sizeRight img ≡ true) (commit : kindOf img c ≡ Commit e s) (t t' : Pass) (begun : Begun img c t)
+    (passed : Passed img s (pages img) 0 t t') (full : Full t') where
+  held-decision : (x : ℕ) → x < places → heldAt (t' .map) (t' .scratch) x ≡ decision img c x
+  unfolding decision coveredIn
+  held-decision x h = passed .place x h ∙ rw (begun .place x h, commit)
+
+  held-letter : (p : ℕ) → p < positions → getD (t' .letters) p 0 ≡ unusedLetter img c p
+  unfolding isSpent coveredIn
+  held-letter p h =
+      passed .letter p h
+      ∙ rw (begun .letter p h, commit) (go (eqb (letterIn img c p) freeLetter) (anyFrom (λ g. spends s p (formAt img g)) (pages img) 0))
+    where
+      go : (f a : Bool) → cond a deletedLetter (cond f freeLetter deletedLetter) ≡ cond (not f || a) deletedLetter freeLetter
+      go true true = refl
+      go true false = refl
+      go false true = refl
+      go false false = refl
+
+  halves : (i : ℕ) → i < length (t' .map) → getD (t' .map) i none ≡ getD (mountMap img c) i none
+  halves i h =
+      let l = full .map in
+      elim (decLt i places) [
+        | yes m ↦ ap (λ (d : Decision). d .page) (held-decision i m) ∙ sym (mount-page img c i m)
+        | no m ↦ let k : places + (i - places) ≡ i = omega arith in
+            rw k at (ap (λ (d : Decision). d .key) (held-decision (i - places) (omega arith)) ∙ sym (mount-key img c (i - places) (omega arith)))
+      ]
+
+  pub replayed : Replayed img c t'
+  replayed =
+      record {
+        map = ext-getD none (t' .map) (mountMap img c) (full .map ∙ sym (mount-map-length img c)) halves;
+        scratch = ext-getD 0 (t' .scratch) (mountScratch img c) (full .scratch ∙ sym (mount-scratch-length img c))
+            (λ i h. let m : i < places = rw (full .scratch) at h in ap (λ (d : Decision). d .sequence) (held-decision i m) ∙ sym (mount-sequence img c i m));
+        letters = ext-getD 0 (t' .letters) (listFrom (unusedLetter img c) positions 0) (full .letters ∙ sym (length-listFrom (unusedLetter img c) positions 0))
+            (λ i h.
+            let m : i < positions = rw (full .letters) at h in
+            held-letter i m ∙ sym (listFrom-at (unusedLetter img c) positions 0 i 0 m ∙ ap (unusedLetter img c) (zero-add i)));
+        events = λ b h.
+            let z = sized img size in
+            passed .event b (omega (arith, z .most))
+            ∙ rw (begun .events, getD-replicate {A = ℕ} mostBlocks b 0 0 (omega (arith, z .most)), block-events img b size h);
+        highest = passed .highest ∙ rw (begun .highest) (omega arith);
+      }

@@ -7,6 +7,7 @@ mod kinds;
 pub mod read;
 mod rebuild;
 mod record;
+mod replay;
 pub mod replies;
 mod strays;
 mod survey;

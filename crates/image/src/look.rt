@@ -47,7 +47,7 @@ pub fn form_at(image: &[u8], g: usize) -> Form
 // The payload of page g.
 pub fn payload_at<'a>(image: &'a [u8], g: usize) -> &'a [u8]
     requires { ⌜ g * pageSize + pageSize ≤ length (now image) ⌝ }
-    ensures { λ r. ⌜ (now r ≡ payloadOf (pageAt (now (image .entry)) g)) × (length (now r) ≡ payloadSize) ⌝ }
+    ensures { λ r. ⌜ (now r ≡ payloadOf (pageAt (old image) g)) × (length (now r) ≡ payloadSize) ⌝ }
 {
     let at = g * Frame::PAGE + Frame::HEADER;
     &image[at..at + Frame::PAYLOAD]

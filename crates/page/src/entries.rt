@@ -94,7 +94,7 @@ pub fn entry_part(x: usize) -> usize
 // The entry of place x in the payload of its part.
 pub fn entry_in(payload: &[u8], x: usize) -> Entry
     requires { ⌜ length (now payload) ≡ payloadSize ⌝ }
-    ensures { λ r. ⌜ r ≡ entryOf (part (now (payload .entry)) (entryAt x) entrySize) ⌝ }
+    ensures { λ r. ⌜ r ≡ entryOf (part (old payload) (entryAt x) entrySize) ⌝ }
 {
     let at = ENTRY_SIZE * (x % ENTRIES_IN_PART);
     read_entry(&payload[at..at + ENTRY_SIZE])

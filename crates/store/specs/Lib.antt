@@ -6,6 +6,7 @@
 --   Find      the lowest free key and the page that a write takes
 --   Format, Mount, Write, Read, CutOff, Commit, Wipe   the outcome of each call
 --   Survey    what mount finds in one pass over the blocks
+--   Replay    mount's pass over the pages, as it changes the lent lists
 --   Rebuild   the record that mount makes from the commit and the pages
 --   Taken     for each call, by name, what is known where it passed all its tests
 -- Letters used throughout: g a page of the image, b a block, p a key position, x a place, e an epoch, s a sequence, n and k the power.

@@ -7,6 +7,7 @@
 --   Format, Mount, Write, Read, CutOff, Commit, Wipe   the outcome of each call
 --   Survey    what mount finds in one pass over the blocks
 --   Replay    mount's pass over the pages, as it changes the lent lists
+--   Rebuild   the record that mount makes from the commit and the pages
 --   Taken     for each call, by name, what is known where it passed all its tests
 -- Letters used throughout: g a page of the image, b a block, p a key position, x a place, e an epoch, s a sequence, n and k the power.
 pub mod Reply
@@ -16,11 +17,12 @@ pub mod Outcome
 pub mod Find
 pub mod Format
 pub mod Mount
-pub mod Replay
 pub mod Write
 pub mod Read
 pub mod CutOff
 pub mod Commit
 pub mod Wipe
 pub mod Survey
+pub mod Replay
+pub mod Rebuild
 pub mod Taken

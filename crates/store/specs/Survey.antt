@@ -1,12 +1,16 @@
 -- Document 01, "Calls and their refusals", Mount: what one pass over the blocks finds, block by block.
-use Prim.Native.Nat.{ℕ, max}
+use Prim.Native.Nat.{ℕ, _+_, _<_, _≤_, max}
 use mathlib.Core.Bool.{cond}
 use mathlib.Core.List.{List}
 use lib.Dec.{ltb}
 use Rattle.base.specs.Search.{highestFrom}
+use Rattle.page.specs.Header.{lastNumber}
+use Rattle.image.specs.Size.{mostBlocks}
 use Rattle.store.specs.Kind.{kindOf, keysEpoch, commitEpoch, coveredBy}
+use Rattle.store.specs.Find.{foundAt}
 use Rattle.store.specs.Mount.{rankOf, foremost, coveredIn, epochOf}
 use Rattle.store.specs.declared.Kind.{Kind}
+use Rattle.store.specs.declared.Numbers.{Numbers}
 use Rattle.store.specs.declared.Found.{Found}
 use Rattle.store.specs.declared.Found.the-variants.{At, Nothing}
 use Rattle.store.specs.declared.survey.Best.{Best}
@@ -58,3 +62,23 @@ surveyNext s b k =
       keys1 = betterBy (s .keys1) b (keysEpoch 1 k);
       highest = max (s .highest) (epochIn k);
     }
+
+-- ---- the record's numbers: one above the highest sequence and epoch, and the chosen blocks
+unfoldable pub surveyNumbers : Survey → ℕ → Numbers
+surveyNumbers s highest =
+    record {
+      sequence = max (s .covered) highest + 1;
+      epoch = s .highest + 1;
+      keys0 = foundAt (s .keys0 .at);
+      keys1 = foundAt (s .keys1 .at);
+      commit = foundAt (s .commit .at);
+    }
+
+-- sequences, epochs and blocks in their range
+pub record Surveyed (s : Survey) (highest : ℕ) : Type 0 where
+  pub coveredMost : s .covered ≤ lastNumber
+  pub sequenceMost : highest ≤ lastNumber
+  pub epochMost : s .highest ≤ lastNumber
+  pub keys0Inside : foundAt (s .keys0 .at) < mostBlocks
+  pub keys1Inside : foundAt (s .keys1 .at) < mostBlocks
+  pub commitInside : foundAt (s .commit .at) < mostBlocks

@@ -4,6 +4,7 @@ mod find;
 mod fit;
 pub mod format;
 mod kinds;
+pub mod mount;
 pub mod read;
 mod rebuild;
 mod record;

@@ -7,6 +7,7 @@ ghost use mathlib.Core.Path.{_≡_};
 ghost use Prim.Native.Nat.{_%_, max};
 ghost use lib.ListN.{length};
 ghost use Rattle.image.specs.Size.{blockSize, blocks};
+ghost use Rattle.store.specs.Find.{isFound, foundAt};
 ghost use Rattle.store.specs.Survey.{noBest, betterBy, coveredNext, epochIn, noSurvey, surveyNext, surveyOf};
 
 // The foremost of the blocks passed: its epoch is highest, on a tie it is the lower one. Where there is none, the epoch is 0.
@@ -41,6 +42,28 @@ fn no_best() -> Best
     Best {
         at: Found::Nothing,
         epoch: 0,
+    }
+}
+
+// Whether there is a foremost block.
+pub fn is_found(best: Best) -> bool
+    ensures { λ r. ⌜ r ≡ isFound (best .at) ⌝ }
+{
+    let at = best.at;
+    match at {
+        Found::At(_) => true,
+        Found::Nothing => false,
+    }
+}
+
+// The foremost block, 0 where there is none.
+pub fn found_at(best: Best) -> usize
+    ensures { λ r. ⌜ r ≡ foundAt (best .at) ⌝ }
+{
+    let at = best.at;
+    match at {
+        Found::At(b) => b,
+        Found::Nothing => 0,
     }
 }
 

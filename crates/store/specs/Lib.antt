@@ -5,6 +5,7 @@
 --   Outcome   what a call leaves: reply, flash steps, record and lent buffer; and the same where the power fails
 --   Find      the lowest free key and the page that a write takes
 --   Format, Mount, Write, Read, CutOff, Commit, Wipe   the outcome of each call
+--   Stages    the stages of commit and wipe where the power may have failed
 --   Taken     for each call, by name, what is known where it passed all its tests
 -- Letters used throughout: g a page of the image, b a block, p a key position, x a place, e an epoch, s a sequence, n and k the power.
 pub mod Reply
@@ -19,4 +20,5 @@ pub mod Read
 pub mod CutOff
 pub mod Commit
 pub mod Wipe
+pub mod Stages
 pub mod Taken

@@ -7,6 +7,7 @@ mod kinds;
 pub mod read;
 mod record;
 pub mod replies;
+mod stages;
 mod tests;
 pub mod write;
 

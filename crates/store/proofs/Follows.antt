@@ -38,8 +38,9 @@ use Rattle.store.specs.Record.{Record, withNumbers}
 use Rattle.store.specs.Format.{noiseSize}
 use Rattle.store.specs.Write.{keysBlock}
 use Rattle.store.specs.Commit.{Stage, onward, replaceKeys, replaceCommit, withKeys, withCommit, nextEpoch, keysReplaced, commitReplaced, isDead, deadErased, commitStages}
-use Rattle.store.specs.Stages.{isSpare, lowestSpare, Work, keysInto, keysMoved, commitInto, commitMoved, hasLive, unusedErases, renewed, Able}
+use Rattle.store.specs.Stages.{isSpare, lowestSpare, Work, after, keysInto, keysMoved, commitInto, commitMoved, hasLive, unusedErases, renewed, Able}
 use Rattle.store.specs.declared.Numbers.{Numbers}
+use Rattle.store.proofs.Counts.{replaced}
 use Rattle.store.proofs.Spares.{Unchosen, none-chosen, keys0-chosen, keys1-chosen, commit-chosen, spare-unchosen, spare-agree, able-keys0, able-keys1, able-commit}
 
 -- ---- a row of pages into block b, the first of them not empty, fills it
@@ -88,9 +89,9 @@ module _ (img : List ℕ) (first : Numbers) where
 
     -- ---- a block is filled and then an old one erased: what is reached then
     module _ (made : List Step) (old : ℕ) (next : Numbers) (madeInside : Each (Inside (length img)) made)
-      (madeIn : (b : ℕ) → (b ≡ new → ⊥) → Each (λ (t : Step). blockOf t ≡ b → ⊥) made) (fills : blockEmpty (playAll made (s .image)) new ≡ false)
-      (there : old < blocks img) (other : new ≡ old → ⊥) (begun : isChosen first old ≡ true) (chosen : isChosen next new ≡ true) (gone : isChosen next old ≡ false)
-      (alike : (b : ℕ) → (b ≡ new → ⊥) → (b ≡ old → ⊥) → isChosen next b ≡ isChosen (s .after .numbers) b) (able : Able img first next) where
+        (madeIn : (b : ℕ) → (b ≡ new → ⊥) → Each (λ (t : Step). blockOf t ≡ b → ⊥) made) (fills : blockEmpty (playAll made (s .image)) new ≡ false)
+        (there : old < blocks img) (other : new ≡ old → ⊥) (begun : isChosen first old ≡ true) (chosen : isChosen next new ≡ true) (gone : isChosen next old ≡ false)
+        (alike : (b : ℕ) → (b ≡ new → ⊥) → (b ≡ old → ⊥) → isChosen next b ≡ isChosen (s .after .numbers) b) (able : Able img first next) where
       abbrev more : List Step
       more = made ++ (erase old ∷ [])
 
@@ -147,10 +148,6 @@ keys-page-full epoch q i keys = refl
 commit-page-full : (epoch i covered : ℕ) (payload : List ℕ) → isEmpty (commitPage epoch i covered payload) ≡ false
 unfolding commitPage pageBytes headerBytes isEmpty allAre
 commit-page-full epoch i covered payload = refl
-
--- what a power left of the flash after the steps of a stage, and the numbers then
-abbrev pub done : List ℕ → Power → Stage → Work
-done img p s = record { flash = run (s .steps) (device p img); numbers = s .after .numbers }
 
 module _ (img : List ℕ) (first : Numbers) (s : Stage) (g : Reached img first s) where
   abbrev now : Numbers
@@ -212,7 +209,7 @@ module _ (img : List ℕ) (first : Numbers) (s : Stage) (g : Reached img first s
         (λ b n o. rw (ne-eqb b copy n, ne-eqb b (now .keys1) o))
         (rw (lowest-spare img first s g) (able-keys1 img first now (g .able) img refl f))
 
-    pub follows-keys : (q : ℕ) (p : Power) → keysMoved (s .after .letters) noise first q (done img p s) ≡ done img p (keysReplaced noise q s)
+    pub follows-keys : (q : ℕ) (p : Power) → keysMoved (s .after .letters) noise first q (after p img s) ≡ after p img (keysReplaced noise q s)
     unfolding keysMoved keysReplaced replaceKeys keysInto
     follows-keys q p =
         rw (lowest-at-work img first s g p)
@@ -241,7 +238,7 @@ module _ (img : List ℕ) (first : Numbers) (s : Stage) (g : Reached img first s
       (λ b n o. rw (ne-eqb b copy n, ne-eqb b (now .commit) o))
       (rw (lowest-spare img first s g) (able-commit img first now (g .able) img refl f))
 
-  pub follows-commit : (p : Power) → commitMoved (s .after .map) (s .after .letters) first (done img p s) ≡ done img p (commitReplaced s)
+  pub follows-commit : (p : Power) → commitMoved (s .after .map) (s .after .letters) first (after p img s) ≡ after p img (commitReplaced s)
   unfolding commitMoved commitReplaced replaceCommit commitInto
   follows-commit p =
       rw (lowest-at-work img first s g p)
@@ -252,6 +249,16 @@ module _ (img : List ℕ) (first : Numbers) (s : Stage) (g : Reached img first s
   unfolding commitReplaced
   commit-image = ap (playAll (replaceCommit (s .image) (s .after))) (g .image) ∙ sym (playAll-append (s .steps) (replaceCommit (s .image) (s .after)) img)
 
+  pub commit-size : length (s .after .letters) ≡ positions → length (commitReplaced s .image) ≡ length img
+  unfolding commitReplaced replaceCommit
+  commit-size full =
+      let l = reached-length img first s g in
+      playAll-length (commitMade ++ (erase (now .commit) ∷ [])) (s .image)
+      (rw l (each-append (Inside (length img)) commitMade (erase (now .commit) ∷ [])
+      (commit-block-inside (now .epoch) (now .sequence - 1) (s .after .map) (s .after .letters) (length img) copy full (block-inside img copy (new-below img first s g)))
+      (block-inside img (now .commit) (g .able .commit), tt)))
+      ∙ l
+
 -- ---- the last erases
 abbrev erased : List ℕ → Work → Work
 erased map w = record { flash = run (unusedErases map (w .numbers) (w .flash .image)) (w .flash); numbers = nextEpoch (w .numbers) }
@@ -261,7 +268,7 @@ lastErased s =
     let t = deadErased s in
     record { steps = t .steps; image = t .image; after = withNumbers (t .after) (nextEpoch (t .after .numbers)) }
 
-follows-erases : (img : List ℕ) (s : Stage) (p : Power) → s .image ≡ playAll (s .steps) img → erased (s .after .map) (done img p s) ≡ done img p (lastErased s)
+follows-erases : (img : List ℕ) (s : Stage) (p : Power) → s .image ≡ playAll (s .steps) img → erased (s .after .map) (after p img s) ≡ after p img (lastErased s)
 unfolding deadErased isDead unusedErases hasLive
 follows-erases img s p e =
     ap (λ (d : Device). record { flash = d; numbers = nextEpoch (s .after .numbers) })
@@ -270,7 +277,7 @@ follows-erases img s p e =
 -- ---- all the stages of a commit
 module _ (img noise : List ℕ) (first : Numbers) (s : Stage) (g : Reached img first s) (full : length noise ≡ noiseSize) where
   pub follows-stages : isChosen first (s .after .numbers .keys0) ≡ true → isChosen first (s .after .numbers .keys1) ≡ true → (p : Power)
-      → renewed (s .after .map) (s .after .letters) noise first (done img p s) ≡ done img p (commitStages noise s)
+      → renewed (s .after .map) (s .after .letters) noise first (after p img s) ≡ after p img (commitStages noise s)
   unfolding renewed commitStages keysReplaced commitReplaced
   follows-stages f₀ f₁ p =
       let map = s .after .map in
@@ -283,3 +290,13 @@ module _ (img noise : List ℕ) (first : Numbers) (s : Stage) (g : Reached img f
       ∙ ap (λ w. erased map (commitMoved map letters first w)) (follows-keys img first s₁ g₁ noise full 1 p)
       ∙ ap (erased map) (follows-commit img first s₂ g₂ p)
       ∙ follows-erases img (commitReplaced s₂) p (commit-image img first s₂ g₂)
+
+  -- the image keeps its blocks
+  pub replaced-blocks : length (s .after .letters) ≡ positions → isChosen first (s .after .numbers .keys0) ≡ true → isChosen first (s .after .numbers .keys1) ≡ true
+      → blocks (replaced noise s .image) ≡ blocks img
+  unfolding keysReplaced
+  replaced-blocks letters f₀ f₁ =
+      let s₁ = keysReplaced noise 0 s in
+      let g₁ : Reached img first s₁ = reached-keys0 img first s g noise full f₀ in
+      let g₂ : Reached img first (keysReplaced noise 1 s₁) = reached-keys1 img first s₁ g₁ noise full f₁ in
+      blocks-same img (replaced noise s .image) (commit-size img first (keysReplaced noise 1 s₁) g₂ letters)

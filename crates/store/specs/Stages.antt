@@ -10,12 +10,13 @@ use Rattle.page.specs.Plan.{places}
 use Rattle.image.specs.Size.{pagesInBlock, blocks, sizeRight}
 use Rattle.image.specs.Look.{blockAt, blockEmpty}
 use Rattle.image.specs.Step.{Step, erase}
-use Rattle.image.specs.Power.{Device, device, run}
+use Rattle.image.specs.Power.{Device, device, powerFor, run}
 use Rattle.image.specs.Block.{renewedKey, keyBlockSteps, commitBlockSteps}
 use Rattle.store.specs.Kind.{isChosen, isData}
 use Rattle.store.specs.Record.{pageOf, live}
 use Rattle.store.specs.Write.{keysBlock}
-use Rattle.store.specs.Commit.{withKeys, withCommit, nextEpoch}
+use Rattle.store.specs.Commit.{Stage, withKeys, withCommit, nextEpoch}
+use Rattle.image.specs.declared.Power.{Power}
 use Rattle.store.specs.declared.Numbers.{Numbers}
 use Rattle.store.specs.declared.stages.Progress.{Progress}
 
@@ -35,6 +36,14 @@ pub record Work : Type 0 where
 
 abbrev pub atWork : Progress → List ℕ → Work
 atWork p img = record { flash = device (p .power) img; numbers = p .numbers }
+
+-- a call that begins, with power for n steps and k bytes of the next
+abbrev pub begun : ℕ → ℕ → Numbers → Progress
+begun n k r = record { power = powerFor n k; numbers = r }
+
+-- what a power leaves after the steps of a stage: the flash, and the numbers then
+abbrev pub after : Power → List ℕ → Stage → Work
+after p img s = record { flash = run (s .steps) (device p img); numbers = s .after .numbers }
 
 -- key block q copied into block b, used keys in place and all others from noise; then the old one erased
 unfoldable pub keysInto : List ℕ → List ℕ → Numbers → ℕ → ℕ → List ℕ → List Step

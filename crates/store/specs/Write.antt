@@ -32,6 +32,14 @@ fileRight file = leb file lastFile
 abbrev pub offsetRight : ℕ → ℕ → Bool
 offsetRight file offset = ltb offset (countOf filePlan file)
 
+-- the tests of what every call is lent
+abbrev pub lentTests : List ℕ → List ℕ → List ℕ → List Test
+lentTests img map letters = (sizeRight img else ImageSize) ∷ (buffersRight map letters else BufferLength) ∷ []
+
+-- the tests of a file and an offset
+abbrev pub planTests : ℕ → ℕ → List Test
+planTests file offset = (fileRight file else NoSuchFile) ∷ (offsetRight file offset else OffsetOutside) ∷ []
+
 -- the tests that write, read and cut-off begin with
 abbrev pub placeTests : List ℕ → List ℕ → List ℕ → ℕ → ℕ → List Test
 placeTests img map letters file offset =

@@ -2,12 +2,10 @@
 use crate::Answer;
 use crate::ENOUGH;
 use crate::Numbers;
-use crate::Reply;
 use crate::replies;
 use crate::tests;
 use image::Power;
 use image::blocks;
-use image::look;
 use page::bytes;
 use page::entries;
 ghost use mathlib.Core.Path.{_≡_};
@@ -17,13 +15,9 @@ ghost use lib.ListN.{length, replicate};
 ghost use Rattle.page.specs.Entry.{none};
 ghost use Rattle.image.specs.Size.{sizeRight};
 ghost use Rattle.image.specs.Power.{device, run};
-ghost use Rattle.store.specs.Reply.{verdict};
 ghost use Rattle.store.specs.Outcome.{left, leftWhole, standing};
-ghost use Rattle.store.specs.Format.{noiseSize, noNumbers, formatNumbers, formatted, formatTests, formatSteps, formatOf};
+ghost use Rattle.store.specs.Format.{noiseSize, noNumbers, formatNumbers, formatted, formatSteps, formatOf};
 ghost use Rattle.store.specs.Taken.{FormatTaken};
-
-// A key's worth of noise for each of the 448 positions.
-const NOISE_SIZE: usize = 7168;
 
 // The epoch of a new volume, and the blocks of its key blocks and its commit.
 const FIRST_EPOCH: u32 = 1;
@@ -58,22 +52,6 @@ fn first_numbers() -> Numbers
         keys1: KEYS1 as u32,
         commit: COMMIT as u32,
     }
-}
-
-// The tests of a format, in order.
-fn refuse_format(image: &[u8], map: &[u16], letters: &[u8], noise: &[u8]) -> Reply
-    ensures { λ r. ⌜ r ≡ verdict (formatTests (now (image .entry)) (now (map .entry)) (now (letters .entry)) (now (noise .entry))) ⌝ }
-{
-    if !look::size_right(image) {
-        return Reply::ImageSize;
-    }
-    if !tests::buffers_right(map, letters) {
-        return Reply::BufferLength;
-    }
-    if noise.len() != NOISE_SIZE {
-        return Reply::NoiseLength;
-    }
-    Reply::Done
 }
 
 // Makes every place vacant.
@@ -158,7 +136,7 @@ pub fn format_cut(
 ) -> Answer
     ensures { λ r. ⌜ standing r (now (image .exit)) (now (map .exit)) (now (letters .exit)) [] ≡ left n k (formatOf (now (image .entry)) (now (map .entry)) (now (letters .entry)) (now (noise .entry))) (now (image .entry)) ⌝ }
 {
-    let reply = refuse_format(image, map, letters, noise);
+    let reply = tests::refuse_noise(image, map, letters, noise);
     if !replies::is_done(reply) {
         return Answer {
             reply: reply,

@@ -7,6 +7,7 @@ use page::plan;
 use page::plan::PLACES;
 ghost use mathlib.Core.Path.{_≡_};
 ghost use mathlib.Core.Bool.{true};
+ghost use mathlib.Core.List.{map as each};
 ghost use Prim.Native.Nat.{ℕ, _≤_, _<_, _+_, _*_};
 ghost use lib.ListN.{length, set};
 ghost use Rattle.page.specs.Plan.{filePlan, lastFile, places, countOf, startOf};
@@ -18,7 +19,7 @@ ghost use Rattle.store.specs.declared.Numbers.{Numbers as RecordNumbers}
 ghost use Rattle.store.specs.Record.{recordOf, mapSize, keyOf, live};
 ghost use Rattle.store.specs.Write.{placeAt, keysBlock, keyHeld, nextSequence, released};
 ghost use Rattle.store.specs.CutOff.{removed, anyLive};
-ghost use Rattle.store.specs.Commit.{withKeys, withCommit, nextEpoch};
+ghost use Rattle.store.specs.Commit.{cleanLetter, withKeys, withCommit, nextEpoch};
 ghost use Rattle.store.specs.Taken.{Planned};
 
 // The place of a file and an offset below its count.
@@ -120,6 +121,27 @@ pub fn any_live(map: &[u16], file: u32, offset: u32) -> bool
         x += 1;
     }
     false
+}
+
+// A letter after a commit: a deleted position is free.
+fn clean_letter(l: u8) -> u8
+    ensures { λ r. ⌜ r ≡ cleanLetter l ⌝ }
+{
+    if l == entries::DELETED {
+        return entries::FREE;
+    }
+    l
+}
+
+// Makes every deleted position free.
+pub fn clean(letters: &mut [u8])
+    ensures { λ _. ⌜ now (letters .exit) ≡ each cleanLetter (now (letters .entry)) ⌝ }
+{
+    let mut p: usize = 0;
+    while p < letters.len() {
+        letters[p] = clean_letter(letters[p]);
+        p += 1;
+    }
 }
 
 // The numbers after a sequence was used.

@@ -1,7 +1,9 @@
 // The stages of commit and wipe: a key block or the commit block replaced by a new copy, and the data blocks without a live page erased.
+use crate::Answer;
 use crate::Numbers;
 use crate::kinds;
 use crate::record;
+use crate::replies;
 use image::Power;
 use image::blocks;
 use image::look;
@@ -22,14 +24,41 @@ ghost use Rattle.image.specs.Step.{erase};
 ghost use Rattle.image.specs.Power.{device, act, run};
 ghost use Rattle.store.specs.Kind.{isChosen, isData};
 ghost use Rattle.store.specs.Record.{mapSize};
+ghost use Rattle.store.specs.Outcome.{answered};
+ghost use Rattle.store.specs.declared.Reply.the-variants.{Done, PowerCut};
 ghost use Rattle.store.specs.Format.{noiseSize};
 ghost use Rattle.store.specs.Write.{keysBlock};
-ghost use Rattle.store.specs.Stages.{isSpare, lowestSpare, atWork, keysMoved, commitMoved, hasLive, erases, unusedErases, renewed, Able};
+ghost use Rattle.store.specs.Stages.{isSpare, lowestSpare, atWork, begun, keysMoved, commitMoved, hasLive, erases, unusedErases, renewed, Able};
 
 // A call at work: the power that is left, and the record's numbers so far.
 pub struct Progress {
     pub power: Power,
     pub numbers: Numbers,
+}
+
+// A call that begins with power for n steps and k bytes of the next.
+pub fn begin(numbers: Numbers, n: u64, k: usize) -> Progress
+    ensures { λ r. ⌜ r ≡ begun n k numbers ⌝ }
+{
+    Progress {
+        power: Power {
+            steps: n,
+            bytes: k,
+            on: true,
+        },
+        numbers: numbers,
+    }
+}
+
+// The answer of a call that has gone so far.
+pub fn answer(p: Progress) -> Answer
+    ensures { λ r. ⌜ r ≡ answered (cond (p .power .on) Done PowerCut) (p .numbers) ⌝ }
+{
+    let numbers = p.numbers;
+    Answer {
+        reply: replies::taken(p.power),
+        numbers: numbers,
+    }
 }
 
 // Whether block b is spare: not chosen now, and chosen when the call began, so erased since, or empty.

@@ -269,7 +269,7 @@ renumbered-as-long n k = record { mapKept = k .mapKept; lettersKept = k .letters
 stages-as-long : (noise : List ℕ) (s : Stage) → AsLong (s .after) (commitStages noise s .after)
 stages-as-long noise s = record { mapKept = ap length (stages-map noise s); lettersKept = ap length (stages-letters noise s) }
 
-first-as-long : (img : List ℕ) (r : Record) (file offset : ℕ) → AsLong r (removedFirst img r file offset .after)
+pub first-as-long : (img : List ℕ) (r : Record) (file offset : ℕ) → AsLong r (removedFirst img r file offset .after)
 first-as-long img r file offset =
     onward-kept (removed-as-long r file offset)
     (record {

@@ -2,15 +2,16 @@
 use Prim.Native.Nat.{ℕ, _+_, _-_, _^_, _<_, _≤_}
 use native.Mathlib.Omega.{arith}
 use native.Mathlib.Decide.{ℕ-discrete}
-use mathlib.Core.Path.{_≡_, refl, sym, _∙_}
+use mathlib.Core.Path.{_≡_, sym, ap, _∙_}
 use mathlib.Core.Bool.{true, false}
-use mathlib.Core.List.{List}
-use lib.ListN.{length, getD, set, length-set}
-use lib.Seq.{getD-set-same, getD-set-other}
+use mathlib.Core.List.{List, [], _∷_, _++_, map, append-nil}
+use lib.ListN.{length, getD, set, take, drop, length-set, length-take, length-map, List·getD-map, drop-of-length-le}
+use lib.Seq.{take-all, getD-drop, getD-append-add, getD-set-same, getD-set-other}
 use borrow.Author.Tests.{lt-ltb, le-ltb, ltb-true}
 use Rattle.base.specs.Fold.{foldFrom}
 use Rattle.base.specs.Search.{anyFrom}
 use Rattle.base.proofs.Folds.{fold-next, fold-none}
+use Rattle.base.proofs.Parts.{copy-more}
 use Rattle.page.specs.Plan.{filePlan, lastFile, places, countOf, startOf}
 use Rattle.page.specs.Key.{positions}
 use Rattle.page.specs.Entry.{none}
@@ -19,6 +20,7 @@ use Rattle.page.proofs.Slices.{getD-there}
 use Rattle.store.specs.Record.{Record, recordOf, mapSize, pageOf, keyOf, live}
 use Rattle.store.specs.Write.{placeAt, released}
 use Rattle.store.specs.CutOff.{anyLive, emptied, removed}
+use Rattle.store.specs.Commit.{cleanLetter}
 use Rattle.store.specs.declared.Numbers.{Numbers}
 use Rattle.store.proofs.Outcomes.{released-length}
 
@@ -101,3 +103,21 @@ module _ (file offset end : ℕ) (map₀ letters₀ map letters : List ℕ) (x :
 
   pub removing-done : Removing file offset end map₀ letters₀ map letters x → end ≤ x → (n : Numbers) → recordOf map letters n ≡ removed (recordOf map₀ letters₀ n) file offset
   removing-done r h n = sym (r .rest n ∙ fold-none emptied end x (recordOf map letters n) h)
+
+-- ---- letters made clean one after the other: those before p are
+pub cleaned-next : (letters₀ letters : List ℕ) (p l : ℕ) → p < length letters₀ → letters ≡ take p (map cleanLetter letters₀) ++ drop p letters₀ → l ≡ cleanLetter (getD letters p 0)
+    → set letters p l ≡ take (p + 1) (map cleanLetter letters₀) ++ drop (p + 1) letters₀
+cleaned-next letters₀ letters p l h e f =
+    let clean = map cleanLetter letters₀ in
+    let size : length clean ≡ length letters₀ = length-map letters₀ cleanLetter in
+    let front : length (take p clean) ≡ p = rw length-take (omega arith) in
+    let end : p ≡ length (take p clean) + 0 = omega arith in
+    let there : p + 0 ≡ p = omega arith in
+    let old : getD letters p 0 ≡ getD letters₀ p 0
+    = rw e (ap (λ (n : ℕ). getD (take p clean ++ drop p letters₀) n 0) end ∙ getD-append-add (take p clean) (drop p letters₀) 0 0 ∙ getD-drop p letters₀ 0 0 ∙ ap (λ (n : ℕ). getD letters₀ n 0) there) in
+    let new : l ≡ getD clean p 0 = f ∙ ap cleanLetter old ∙ sym (List·getD-map cleanLetter letters₀ p 0) in
+    rw (e, new) (copy-more clean letters₀ p 0 (omega arith) h)
+
+pub cleaned-all : (letters₀ letters : List ℕ) (p : ℕ) → length letters₀ ≤ p → letters ≡ take p (map cleanLetter letters₀) ++ drop p letters₀ → letters ≡ map cleanLetter letters₀
+cleaned-all letters₀ letters p h e =
+    e ∙ rw (drop-of-length-le letters₀ h, append-nil, take-all p (map cleanLetter letters₀) (rw length-map h))

@@ -1,19 +1,27 @@
 -- Tests as the code makes them, and tests that begin with others.
-use Prim.Native.Nat.{ℕ}
+use Prim.Native.Nat.{ℕ, _≤_}
 use mathlib.Core.Path.{_≡_, refl, sym, ap, _∙_}
 use mathlib.Core.Bool.{Bool, true, false, cond, not}
 use mathlib.Core.List.{List, [], _∷_, _++_}
+use native.Mathlib.Omega.{arith}
+use native.Mathlib.Nat.{add-zero}
+use lib.Dec.{leb}
 use lib.ListN.{length, take, drop}
-use borrow.Author.Tests.{eqb-true, not-true, not-false}
+use borrow.Author.Tests.{eqb-true, le-leb, lt-leb, leb-true, not-true, not-false}
 use Rattle.base.specs.Each.{Each}
 use Rattle.base.proofs.Choice.{true-false}
 use Rattle.page.specs.Frame.{payloadSize}
-use Rattle.image.specs.Size.{sizeRight}
+use Rattle.image.specs.Size.{blocks, sizeRight}
+use Rattle.image.specs.Look.{lowestEmpty, emptyBlocks}
+use Rattle.image.proofs.Looks.{lowest-some, lowest-counted}
 use Rattle.store.specs.Reply.{Test, verdict, isDone}
 use Rattle.store.specs.Record.{Record}
-use Rattle.store.specs.Write.{placeTests, nodeTests, writeTests, takingOf}
+use Rattle.store.specs.Format.{formatTests, lentTests}
+use Rattle.store.specs.Write.{planTests, placeTests, nodeTests, writeTests, takingOf}
 use Rattle.store.specs.Read.{readTests}
 use Rattle.store.specs.CutOff.{cutOffTests}
+use Rattle.store.specs.Commit.{renewalTests, commitTests}
+use Rattle.store.specs.Wipe.{wipeTests}
 use Rattle.store.specs.Find.{newPage, isFound}
 use Rattle.store.specs.Taken.{Buffers, Ready, Planned}
 use Rattle.store.specs.declared.Reply.{Reply}
@@ -49,6 +57,22 @@ refuses-first ts us e d = begin-refused ts us (ap isDone (sym e) ∙ d) ∙ sym 
 
 pub passes-first : (ts us : List Test) {v : Reply} → Each Refuses ts → v ≡ verdict ts → isDone v ≡ true → verdict (ts ++ us) ≡ verdict us
 passes-first ts us q e d = begin-passed ts us (verdict-done ts q (sym e ∙ done-true _ d))
+
+-- ---- the tests of what is lent, and after them those of a place or of the noise
+module _ (img map letters : List ℕ) {v : Reply} where
+  pub place-refused-first : (file offset : ℕ) → v ≡ verdict (lentTests img map letters) → isDone v ≡ false → v ≡ verdict (placeTests img map letters file offset)
+  place-refused-first file offset e d = sym (refuses-first (lentTests img map letters) (planTests file offset) e d)
+
+  pub place-goes-on : (file offset : ℕ) → v ≡ verdict (lentTests img map letters) → isDone v ≡ true
+      → verdict (placeTests img map letters file offset) ≡ verdict (planTests file offset)
+  place-goes-on file offset = passes-first (lentTests img map letters) (planTests file offset) (refl, (refl, tt))
+
+  pub noise-refused-first : (noise : List ℕ) → v ≡ verdict (lentTests img map letters) → isDone v ≡ false → v ≡ verdict (formatTests img map letters noise)
+  noise-refused-first noise e d = sym (refuses-first (lentTests img map letters) (drop 2 (formatTests img map letters noise)) e d)
+
+  pub noise-goes-on : (noise : List ℕ) → v ≡ verdict (lentTests img map letters) → isDone v ≡ true
+      → verdict (formatTests img map letters noise) ≡ verdict (drop 2 (formatTests img map letters noise))
+  noise-goes-on noise = passes-first (lentTests img map letters) (drop 2 (formatTests img map letters noise)) (refl, (refl, tt))
 
 -- ---- the tests of size, buffers, file and offset
 pub record Placeable (img map letters : List ℕ) (file offset : ℕ) : Type 0 where
@@ -114,3 +138,39 @@ module _ (img : List ℕ) (r : Record) (file offset : ℕ) {v : Reply} where
   pub cut-off-sized : v ≡ verdict (take 7 (cutOffTests img r file offset)) → isDone v ≡ true → sizeRight img ≡ true
   cut-off-sized e d =
       verdict-done (take 7 (cutOffTests img r file offset)) (refl, (refl, (refl, (refl, (refl, (refl, (refl, tt))))))) (sym e ∙ done-true _ d) .0
+
+-- ---- commit and wipe: the tests that format begins with, those of the place for a wipe, and those of the renewal
+-- there is no empty block exactly if the search ends at the number of blocks
+pub no-room : (img : List ℕ) → lowestEmpty img ≡ blocks img → leb 1 (emptyBlocks img) ≡ false
+no-room img e = go (leb 1 (emptyBlocks img)) refl
+  where
+    go : (b : Bool) → leb 1 (emptyBlocks img) ≡ b → b ≡ false
+    go true h = absurd (omega (arith, lowest-some img (leb-true 1 (emptyBlocks img) h)))
+    go false h = refl
+
+pub some-room : (img : List ℕ) → (lowestEmpty img ≡ blocks img → ⊥) → lowestEmpty img ≤ blocks img → leb 1 (emptyBlocks img) ≡ true
+some-room img e h = le-leb 1 (emptyBlocks img) (lowest-counted img (omega (arith, e)))
+
+module _ (img : List ℕ) (r : Record) (noise : List ℕ) {v : Reply} where
+  pub commit-refused-first : v ≡ verdict (formatTests img (r .map) (r .letters) noise) → isDone v ≡ false → v ≡ verdict (commitTests img r noise)
+  commit-refused-first e d = sym (refuses-first (formatTests img (r .map) (r .letters) noise) (drop 3 (commitTests img r noise)) e d)
+
+  pub commit-goes-on : v ≡ verdict (formatTests img (r .map) (r .letters) noise) → isDone v ≡ true → verdict (renewalTests img r 0) ≡ verdict (commitTests img r noise)
+  commit-goes-on e d =
+      rw (add-zero (r .numbers .epoch)) (sym (passes-first (formatTests img (r .map) (r .letters) noise) (drop 3 (commitTests img r noise)) (refl, (refl, (refl, tt))) e d))
+
+  module _ (file offset : ℕ) where
+    pub wipe-refused-first : v ≡ verdict (formatTests img (r .map) (r .letters) noise) → isDone v ≡ false → v ≡ verdict (wipeTests img r noise file offset)
+    wipe-refused-first e d = sym (refuses-first (formatTests img (r .map) (r .letters) noise) (drop 3 (wipeTests img r noise file offset)) e d)
+
+    wipe-place : v ≡ verdict (formatTests img (r .map) (r .letters) noise) → isDone v ≡ true
+        → verdict (wipeTests img r noise file offset) ≡ verdict (drop 3 (wipeTests img r noise file offset))
+    wipe-place = passes-first (formatTests img (r .map) (r .letters) noise) (drop 3 (wipeTests img r noise file offset)) (refl, (refl, (refl, tt)))
+
+    pub wipe-refused-next : {w : Reply} → v ≡ verdict (formatTests img (r .map) (r .letters) noise) → isDone v ≡ true → w ≡ verdict (planTests file offset) → isDone w ≡ false
+        → w ≡ verdict (wipeTests img r noise file offset)
+    wipe-refused-next e d f h = sym (wipe-place e d ∙ refuses-first (planTests file offset) (renewalTests img r 1) f h)
+
+    pub wipe-goes-on : {w : Reply} → v ≡ verdict (formatTests img (r .map) (r .letters) noise) → isDone v ≡ true → w ≡ verdict (planTests file offset) → isDone w ≡ true
+        → verdict (renewalTests img r 1) ≡ verdict (wipeTests img r noise file offset)
+    wipe-goes-on e d f h = sym (wipe-place e d ∙ passes-first (planTests file offset) (renewalTests img r 1) (refl, (refl, tt)) f h)

@@ -28,6 +28,14 @@ commitTests img r noise =
     ∷ (leb 1 (emptyBlocks img) else NoRoom)
     ∷ []))
 
+-- the tests that commit and wipe end with; a call uses one epoch and so many more
+abbrev pub renewalTests : List ℕ → Record → ℕ → List Test
+renewalTests img r more =
+    (fits img r else RecordUnfit)
+    ∷ (leb (r .numbers .epoch + more) lastNumber else NumbersSpent)
+    ∷ (leb 1 (emptyBlocks img) else NoRoom)
+    ∷ []
+
 -- ---- replacing one block: a new copy in the lowest empty block, then the old one erased
 unfoldable pub replaceKeys : List ℕ → Record → List ℕ → ℕ → List Step
 replaceKeys img r noise q =

@@ -8,6 +8,7 @@
 --   Survey    what mount finds in one pass over the blocks
 --   Replay    mount's pass over the pages, as it changes the lent lists
 --   Rebuild   the record that mount makes from the commit and the pages
+--   Stages    the stages of commit and wipe where the power may have failed
 --   Taken     for each call, by name, what is known where it passed all its tests
 -- Letters used throughout: g a page of the image, b a block, p a key position, x a place, e an epoch, s a sequence, n and k the power.
 pub mod Reply
@@ -25,4 +26,5 @@ pub mod Wipe
 pub mod Survey
 pub mod Replay
 pub mod Rebuild
+pub mod Stages
 pub mod Taken

@@ -8,7 +8,7 @@ use Rattle.store.specs.Reply.{Test, _else_, verdict}
 use Rattle.store.specs.Record.{Record, recordOf, withNumbers}
 use Rattle.store.specs.Outcome.{Outcome, Left, decided}
 use Rattle.store.specs.Format.{formatTests}
-use Rattle.store.specs.Write.{fileTests, fitTests}
+use Rattle.store.specs.Write.{planTests, fitTests}
 use Rattle.store.specs.CutOff.{removed}
 use Rattle.store.specs.Commit.{Stage, begin, commitReplaced, commitStages, cleaned, nextEpoch}
 use Rattle.store.specs.declared.Numbers.{Numbers}
@@ -17,7 +17,7 @@ use Rattle.store.specs.declared.Reply.the-variants.{NoRoom, NumbersSpent
 abbrev pub wipeTests : List ℕ → Record → List ℕ → ℕ → ℕ → List Test
 wipeTests img r noise file offset =
     formatTests img (r .map) (r .letters) noise
-    ++ (fileTests file offset
+    ++ (planTests file offset
     ++ (fitTests img r
     ++ ((leb (r .numbers .epoch + 1) lastNumber else NumbersSpent)
     ∷ (leb 1 (emptyBlocks img) else NoRoom)

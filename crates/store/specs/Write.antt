@@ -31,12 +31,13 @@ fileRight file = leb file lastFile
 abbrev pub offsetRight : ℕ → ℕ → Bool
 offsetRight file offset = ltb offset (countOf filePlan file)
 
-abbrev pub fileTests : ℕ → ℕ → List Test
-fileTests file offset = (fileRight file else NoSuchFile) ∷ (offsetRight file offset else OffsetOutside) ∷ []
+-- the tests of a file and an offset
+abbrev pub planTests : ℕ → ℕ → List Test
+planTests file offset = (fileRight file else NoSuchFile) ∷ (offsetRight file offset else OffsetOutside) ∷ []
 
 -- the tests that write, read and cut-off begin with
 abbrev pub placeTests : List ℕ → List ℕ → List ℕ → ℕ → ℕ → List Test
-placeTests img map letters file offset = lentTests img map letters ++ fileTests file offset
+placeTests img map letters file offset = lentTests img map letters ++ planTests file offset
 
 -- refusal 7
 abbrev pub fitTests : List ℕ → Record → List Test

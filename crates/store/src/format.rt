@@ -2,15 +2,12 @@
 use crate::Answer;
 use crate::ENOUGH;
 use crate::Numbers;
-use crate::Reply;
 use crate::replies;
 use crate::tests;
 use image::Power;
 use image::blocks;
-use image::look;
 use page::bytes;
 use page::entries;
-use page::keys::NOISE_SIZE;
 ghost use mathlib.Core.Path.{_≡_};
 ghost use mathlib.Core.Bool.{true};
 ghost use mathlib.Core.List.{[]};
@@ -19,9 +16,8 @@ ghost use Rattle.base.specs.Lent.{old, new};
 ghost use Rattle.page.specs.Entry.{none};
 ghost use Rattle.image.specs.Size.{sizeRight};
 ghost use Rattle.image.specs.Power.{device, run};
-ghost use Rattle.store.specs.Reply.{verdict};
 ghost use Rattle.store.specs.Outcome.{left, leftWhole, standing};
-ghost use Rattle.store.specs.Format.{noiseSize, noNumbers, formatNumbers, formatted, formatTests, formatSteps, formatLeaves};
+ghost use Rattle.store.specs.Format.{noiseSize, noNumbers, formatNumbers, formatted, formatSteps, formatLeaves};
 ghost use Rattle.store.specs.Taken.{FormatTaken};
 
 // The epoch of a new volume, and the blocks of its key blocks and its commit.
@@ -57,22 +53,6 @@ fn first_numbers() -> Numbers
         keys1: KEYS1 as u32,
         commit: COMMIT as u32,
     }
-}
-
-// The tests of a format, in order.
-fn refuse_format(image: &[u8], map: &[u16], letters: &[u8], noise: &[u8]) -> Reply
-    ensures { λ r. ⌜ r ≡ verdict (formatTests (old image) (old map) (old letters) (old noise)) ⌝ }
-{
-    if !look::size_right(image) {
-        return Reply::ImageSize;
-    }
-    if !tests::buffers_right(map, letters) {
-        return Reply::BufferLength;
-    }
-    if noise.len() != NOISE_SIZE {
-        return Reply::NoiseLength;
-    }
-    Reply::Done
 }
 
 // Makes every place vacant.
@@ -160,7 +140,7 @@ pub fn format_cut(
     ensures { λ r. ⌜ standing r (new image) (new map) (new letters) []
         ≡ formatLeaves (left n k) (old image) (old map) (old letters) (old noise) ⌝ }
 {
-    let reply = refuse_format(image, map, letters, noise);
+    let reply = tests::refuse_noise(image, map, letters, noise);
     if !replies::is_done(reply) {
         return Answer {
             reply: reply,

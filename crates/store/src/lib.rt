@@ -1,4 +1,5 @@
 // The store: block kinds, the working record and its fit, and the calls of document 01.
+pub mod commit;
 pub mod cut_off;
 mod find;
 mod fit;
@@ -10,9 +11,11 @@ mod rebuild;
 mod record;
 mod replay;
 pub mod replies;
+mod stages;
 mod strays;
 mod survey;
 mod tests;
+pub mod wipe;
 pub mod write;
 
 // More steps than any call has: a plain call is the form with n and k at this n.

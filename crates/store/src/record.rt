@@ -7,6 +7,7 @@ use page::plan;
 use page::plan::PLACES;
 ghost use mathlib.Core.Path.{_≡_};
 ghost use mathlib.Core.Bool.{true};
+ghost use mathlib.Core.List.{map as each};
 ghost use Prim.Native.Nat.{ℕ, _≤_, _<_, _+_, _*_};
 ghost use lib.ListN.{length, set};
 ghost use Rattle.page.specs.Plan.{filePlan, lastFile, places, countOf, startOf};
@@ -18,6 +19,7 @@ ghost use Rattle.store.specs.declared.Numbers.{Numbers as RecordNumbers}
 ghost use Rattle.store.specs.Record.{recordOf, mapSize, keyOf, live};
 ghost use Rattle.store.specs.Write.{placeAt, keysBlock, keyHeld, nextSequence, released};
 ghost use Rattle.store.specs.CutOff.{removed, anyLive};
+ghost use Rattle.store.specs.Commit.{cleanLetter, withKeys, withCommit, nextEpoch};
 ghost use Rattle.store.specs.Taken.{Planned};
 
 // The place of a file and an offset below its count.
@@ -37,7 +39,7 @@ fn place_after(file: u32) -> usize
 }
 
 // The block of key block 0 or 1.
-fn keys_block(numbers: Numbers, q: usize) -> u32
+pub fn keys_block(numbers: Numbers, q: usize) -> u32
     ensures { λ r. ⌜ r ≡ keysBlock numbers q ⌝ }
 {
     if q == 0 {
@@ -121,6 +123,27 @@ pub fn any_live(map: &[u16], file: u32, offset: u32) -> bool
     false
 }
 
+// A letter after a commit: a deleted position is free.
+fn clean_letter(l: u8) -> u8
+    ensures { λ r. ⌜ r ≡ cleanLetter l ⌝ }
+{
+    if l == entries::DELETED {
+        return entries::FREE;
+    }
+    l
+}
+
+// Makes every deleted position free.
+pub fn clean(letters: &mut [u8])
+    ensures { λ _. ⌜ now (letters .exit) ≡ each cleanLetter (now (letters .entry)) ⌝ }
+{
+    let mut p: usize = 0;
+    while p < letters.len() {
+        letters[p] = clean_letter(letters[p]);
+        p += 1;
+    }
+}
+
 // The numbers after a sequence was used.
 pub fn next_sequence(numbers: Numbers) -> Numbers
     requires { ⌜ numbers .sequence ≤ lastNumber ⌝ }
@@ -132,5 +155,54 @@ pub fn next_sequence(numbers: Numbers) -> Numbers
         keys0: numbers.keys0,
         keys1: numbers.keys1,
         commit: numbers.commit,
+    }
+}
+
+// The numbers after an epoch was used.
+pub fn next_epoch(numbers: Numbers) -> Numbers
+    requires { ⌜ numbers .epoch ≤ lastNumber ⌝ }
+    ensures { λ r. ⌜ r ≡ nextEpoch numbers ⌝ }
+{
+    Numbers {
+        sequence: numbers.sequence,
+        epoch: numbers.epoch + 1,
+        keys0: numbers.keys0,
+        keys1: numbers.keys1,
+        commit: numbers.commit,
+    }
+}
+
+// The numbers after key block 0 or 1 went to block b.
+pub fn with_keys(numbers: Numbers, q: u32, b: u32) -> Numbers
+    ensures { λ r. ⌜ r ≡ withKeys numbers q b ⌝ }
+{
+    if q == 0 {
+        return Numbers {
+            sequence: numbers.sequence,
+            epoch: numbers.epoch,
+            keys0: b,
+            keys1: numbers.keys1,
+            commit: numbers.commit,
+        };
+    }
+    Numbers {
+        sequence: numbers.sequence,
+        epoch: numbers.epoch,
+        keys0: numbers.keys0,
+        keys1: b,
+        commit: numbers.commit,
+    }
+}
+
+// The numbers after the commit went to block b.
+pub fn with_commit(numbers: Numbers, b: u32) -> Numbers
+    ensures { λ r. ⌜ r ≡ withCommit numbers b ⌝ }
+{
+    Numbers {
+        sequence: numbers.sequence,
+        epoch: numbers.epoch,
+        keys0: numbers.keys0,
+        keys1: numbers.keys1,
+        commit: b,
     }
 }

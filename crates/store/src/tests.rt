@@ -4,17 +4,24 @@ use crate::Reply;
 use crate::fit;
 use crate::replies;
 use image::look;
+use image::look::BLOCK_SIZE;
 use page::Frame;
+use page::headers::LAST_NUMBER;
+use page::keys::NOISE_SIZE;
 use page::keys::POSITIONS;
 use page::plan;
+use page::plan::MAP_SIZE;
 ghost use mathlib.Core.Path.{_≡_};
+ghost use mathlib.Core.Bool.{true};
+ghost use Prim.Native.Nat.{_≤_};
+ghost use Rattle.page.specs.Header.{lastNumber};
+ghost use Rattle.image.specs.Size.{sizeRight};
 ghost use Rattle.store.specs.Reply.{verdict};
 ghost use Rattle.store.specs.Record.{recordOf};
-ghost use Rattle.store.specs.Format.{buffersRight};
-ghost use Rattle.store.specs.Write.{placeTests, nodeTests};
-
-// A map has a page and a key for each place.
-const MAP_SIZE: usize = 448;
+ghost use Rattle.store.specs.Format.{buffersRight, lentTests, formatTests};
+ghost use Rattle.store.specs.Write.{planTests, placeTests, nodeTests};
+ghost use Rattle.store.specs.Commit.{renewalTests};
+ghost use Rattle.store.specs.Taken.{Buffers};
 
 // Whether map and letters have the right lengths.
 pub fn buffers_right(map: &[u16], letters: &[u8]) -> bool
@@ -23,9 +30,9 @@ pub fn buffers_right(map: &[u16], letters: &[u8]) -> bool
     (map.len() == MAP_SIZE) & (letters.len() == POSITIONS)
 }
 
-// The tests that write, read and cut-off begin with, in order.
-pub fn refuse_place(image: &[u8], map: &[u16], letters: &[u8], file: u32, offset: u32) -> Reply
-    ensures { λ r. ⌜ r ≡ verdict (placeTests (now (image .entry)) (now (map .entry)) (now (letters .entry)) file offset) ⌝ }
+// The tests of what every call is lent, in order.
+fn refuse_lent(image: &[u8], map: &[u16], letters: &[u8]) -> Reply
+    ensures { λ r. ⌜ r ≡ verdict (lentTests (now (image .entry)) (now (map .entry)) (now (letters .entry))) ⌝ }
 {
     if !look::size_right(image) {
         return Reply::ImageSize;
@@ -33,11 +40,66 @@ pub fn refuse_place(image: &[u8], map: &[u16], letters: &[u8], file: u32, offset
     if !buffers_right(map, letters) {
         return Reply::BufferLength;
     }
+    Reply::Done
+}
+
+// The tests of a file and an offset, in order.
+pub fn refuse_plan(file: u32, offset: u32) -> Reply
+    ensures { λ r. ⌜ r ≡ verdict (planTests file offset) ⌝ }
+{
     if plan::LAST_FILE < file {
         return Reply::NoSuchFile;
     }
     if plan::count(file) <= offset {
         return Reply::OffsetOutside;
+    }
+    Reply::Done
+}
+
+// The tests that write, read and cut-off begin with, in order.
+pub fn refuse_place(image: &[u8], map: &[u16], letters: &[u8], file: u32, offset: u32) -> Reply
+    ensures { λ r. ⌜ r ≡ verdict (placeTests (now (image .entry)) (now (map .entry)) (now (letters .entry)) file offset) ⌝ }
+{
+    let reply = refuse_lent(image, map, letters);
+    if !replies::is_done(reply) {
+        return reply;
+    }
+    refuse_plan(file, offset)
+}
+
+// The tests that format, commit and wipe begin with, in order.
+pub fn refuse_noise(image: &[u8], map: &[u16], letters: &[u8], noise: &[u8]) -> Reply
+    ensures { λ r. ⌜ r ≡ verdict (formatTests (now (image .entry)) (now (map .entry)) (now (letters .entry)) (now (noise .entry))) ⌝ }
+{
+    let reply = refuse_lent(image, map, letters);
+    if !replies::is_done(reply) {
+        return reply;
+    }
+    if noise.len() != NOISE_SIZE {
+        return Reply::NoiseLength;
+    }
+    Reply::Done
+}
+
+// The tests that commit and wipe end with, in order. The call uses one epoch and so many more.
+pub fn refuse_renewal(
+    image: &[u8],
+    map: &[u16],
+    letters: &[u8],
+    numbers: Numbers,
+    more: u32,
+) -> Reply
+    requires { ⌜ (sizeRight (now image) ≡ true) × Buffers (now map) (now letters) × (more ≤ lastNumber) ⌝ }
+    ensures { λ r. ⌜ r ≡ verdict (renewalTests (now (image .entry)) (recordOf (now (map .entry)) (now (letters .entry)) numbers) more) ⌝ }
+{
+    if !fit::fits(image, map, letters, numbers) {
+        return Reply::RecordUnfit;
+    }
+    if LAST_NUMBER - more < numbers.epoch {
+        return Reply::NumbersSpent;
+    }
+    if look::lowest_empty(image) == image.len() / BLOCK_SIZE {
+        return Reply::NoRoom;
     }
     Reply::Done
 }

@@ -5,8 +5,8 @@ use Rattle.store.proofs.Refusals.{passed, failed}
 use Rattle.store.proofs.format.format_cut.Statement.{statement}
 use Rattle.store.proofs.format.format_cut.Tie as tie
 
-refuse-format-requires : tie.Need-refuse-format-requires
-refuse-format-requires c κs = search needs
+refuse-noise-requires : tie.Need-refuse-noise-requires
+refuse-noise-requires c κs = search needs
 
 is-done-requires : tie.Need-is-done-requires
 is-done-requires c κs = search needs
@@ -26,12 +26,12 @@ same-length-3 c = search needs
 returns : tie.Need-returns
 returns c =
     let a = c .before .before .before .before .before .before .before .before .before .before .before .args in
-    rw (c .no-numbers .ensures) (format-refuse (a .image .now) (a .map .now) (a .letters .now) (a .noise .now) (a .n) (a .k) _ (c .before .before .before .refuse-format .ensures) (failed (c .before .before .is-done .ensures) (c .before .if1 .taken)))
+    rw (c .no-numbers .ensures) (format-refuse (a .image .now) (a .map .now) (a .letters .now) (a .noise .now) (a .n) (a .k) _ (c .before .before .before .refuse-noise .ensures) (failed (c .before .before .is-done .ensures) (c .before .if1 .taken)))
 
 format-taken-requires : tie.Need-format-taken-requires
 format-taken-requires c κs =
     let a = c .before .before .before .before .before .before .before .before .before .before .before .before .before .args in
-    format-take (a .image .now) (a .map .now) (a .letters .now) (a .noise .now) _ (c .before .before .before .before .before .refuse-format .ensures) (passed (c .before .before .before .before .is-done .ensures) (c .before .before .before .if1 .left))
+    format-take (a .image .now) (a .map .now) (a .letters .now) (a .noise .now) _ (c .before .before .before .before .before .refuse-noise .ensures) (passed (c .before .before .before .before .is-done .ensures) (c .before .before .before .if1 .left))
 
 same-length-4 : tie.Need-same-length-4
 same-length-4 c = search needs
@@ -49,7 +49,7 @@ pub format-cut-spec : {M : Type 1} → statement M
 format-cut-spec =
     tie.close
     (tie.spec
-    refuse-format-requires
+    refuse-noise-requires
     is-done-requires
     no-numbers-requires
     same-length

@@ -1,0 +1,13 @@
+-- The block of the one key block, by its number.
+use borrow.Author.Tests.{eq-eqb, ne-eqb}
+use Rattle.store.proofs.record.with_keys.Statement.{statement}
+use Rattle.store.proofs.record.with_keys.Tie as tie
+
+returns : tie.Need-returns
+returns c = rw (eq-eqb _ _ (c .if1 .taken))
+
+returns-2 : tie.Need-returns-2
+returns-2 c = rw (ne-eqb _ _ (c .if1 .left))
+
+pub with-keys-spec : {M : Type 1} → statement M
+with-keys-spec = tie.close (tie.spec returns returns-2)

@@ -1,0 +1,77 @@
+// Commit: both key blocks and the commit block are renewed, and data blocks without a live page erased.
+use crate::Answer;
+use crate::ENOUGH;
+use crate::Numbers;
+use crate::Reply;
+use crate::record;
+use crate::replies;
+use crate::stages;
+use crate::tests;
+ghost use mathlib.Core.Path.{_≡_};
+ghost use mathlib.Core.List.{[]};
+ghost use Rattle.store.specs.Reply.{verdict};
+ghost use Rattle.store.specs.Record.{recordOf};
+ghost use Rattle.store.specs.Outcome.{left, leftWhole, standing};
+ghost use Rattle.store.specs.Commit.{commitTests, commitOf};
+ghost use Rattle.store.specs.Taken.{CommitTaken};
+
+// The tests of a commit, in order.
+fn refuse_commit(image: &[u8], map: &[u16], letters: &[u8], numbers: Numbers, noise: &[u8]) -> Reply
+    ensures { λ r. ⌜ r ≡ verdict (commitTests (now (image .entry)) (recordOf (now (map .entry)) (now (letters .entry)) numbers) (now (noise .entry))) ⌝ }
+{
+    let reply = tests::refuse_noise(image, map, letters, noise);
+    if !replies::is_done(reply) {
+        return reply;
+    }
+    tests::refuse_renewal(image, map, letters, numbers, 0)
+}
+
+// Commits, once the tests are passed.
+fn commit_taken(
+    image: &mut [u8],
+    map: &[u16],
+    letters: &mut [u8],
+    numbers: Numbers,
+    noise: &[u8],
+    n: u64,
+    k: usize,
+) -> Answer
+    requires { ⌜ CommitTaken (now image) (recordOf (now map) (now letters) numbers) (now noise) ⌝ }
+    ensures { λ r. ⌜ standing r (now (image .exit)) (now (map .entry)) (now (letters .exit)) [] ≡ left n k (commitOf (now (image .entry)) (recordOf (now (map .entry)) (now (letters .entry)) numbers) (now (noise .entry))) (now (image .entry)) ⌝ }
+{
+    record::clean(letters);
+    let begun = stages::begin(numbers, n, k);
+    stages::answer(stages::renew(image, map, letters, noise, numbers, begun))
+}
+
+// A commit of which the power lasts for n steps and the first k bytes of the next.
+pub fn commit_cut(
+    image: &mut [u8],
+    map: &[u16],
+    letters: &mut [u8],
+    numbers: Numbers,
+    noise: &[u8],
+    n: u64,
+    k: usize,
+) -> Answer
+    ensures { λ r. ⌜ standing r (now (image .exit)) (now (map .entry)) (now (letters .exit)) [] ≡ left n k (commitOf (now (image .entry)) (recordOf (now (map .entry)) (now (letters .entry)) numbers) (now (noise .entry))) (now (image .entry)) ⌝ }
+{
+    let reply = refuse_commit(image, map, letters, numbers, noise);
+    if !replies::is_done(reply) {
+        return replies::refused(reply, numbers);
+    }
+    commit_taken(image, map, letters, numbers, noise, n, k)
+}
+
+// Commits the record: keys that are not used are replaced by noise.
+pub fn commit(
+    image: &mut [u8],
+    map: &[u16],
+    letters: &mut [u8],
+    numbers: Numbers,
+    noise: &[u8],
+) -> Answer
+    ensures { λ r. ⌜ standing r (now (image .exit)) (now (map .entry)) (now (letters .exit)) [] ≡ leftWhole (commitOf (now (image .entry)) (recordOf (now (map .entry)) (now (letters .entry)) numbers) (now (noise .entry))) (now (image .entry)) ⌝ }
+{
+    commit_cut(image, map, letters, numbers, noise, ENOUGH, 0)
+}

@@ -1,0 +1,125 @@
+// Wipe: a cut-off with purge. A commit without the removed nodes comes first, then a commit.
+use crate::Answer;
+use crate::ENOUGH;
+use crate::Numbers;
+use crate::Reply;
+use crate::record;
+use crate::replies;
+use crate::stages;
+use crate::stages::Progress;
+use crate::tests;
+ghost use mathlib.Core.Path.{_≡_};
+ghost use mathlib.Core.List.{[]};
+ghost use Prim.Native.Nat.{_≤_};
+ghost use Rattle.page.specs.Header.{lastNumber};
+ghost use Rattle.image.specs.Look.{emptyBlocks};
+ghost use Rattle.image.specs.Power.{powerFor};
+ghost use Rattle.store.specs.Reply.{verdict};
+ghost use Rattle.store.specs.Record.{recordOf};
+ghost use Rattle.store.specs.Outcome.{left, leftWhole, standing};
+ghost use Rattle.store.specs.Wipe.{removedFirst, wipeTests, wipeOf};
+ghost use Rattle.store.specs.Stages.{atWork, after};
+ghost use Rattle.store.specs.Taken.{Ready, Planned, WipeTaken};
+
+// The tests of a wipe, in order.
+fn refuse_wipe(
+    image: &[u8],
+    map: &[u16],
+    letters: &[u8],
+    numbers: Numbers,
+    noise: &[u8],
+    file: u32,
+    offset: u32,
+) -> Reply
+    ensures { λ r. ⌜ r ≡ verdict (wipeTests (now (image .entry)) (recordOf (now (map .entry)) (now (letters .entry)) numbers) (now (noise .entry)) file offset) ⌝ }
+{
+    let reply = tests::refuse_noise(image, map, letters, noise);
+    if !replies::is_done(reply) {
+        return reply;
+    }
+    let planned = tests::refuse_plan(file, offset);
+    if !replies::is_done(planned) {
+        return planned;
+    }
+    tests::refuse_renewal(image, map, letters, numbers, 1)
+}
+
+// The first stage of a wipe: a commit without the removed nodes. The record is then as the commit to come needs it.
+fn shorten(
+    image: &mut [u8],
+    map: &mut [u16],
+    letters: &mut [u8],
+    numbers: Numbers,
+    file: u32,
+    offset: u32,
+    n: u64,
+    k: usize,
+) -> Progress
+    requires { ⌜ Ready (now image) (recordOf (now map) (now letters) numbers) × Planned file offset × (numbers .epoch ≤ lastNumber) × (1 ≤ emptyBlocks (now image)) ⌝ }
+    ensures { λ r. ⌜ (atWork r (now (image .exit)) ≡ after (powerFor n k) (now (image .entry)) (removedFirst (now (image .entry)) (recordOf (now (map .entry)) (now (letters .entry)) numbers) file offset)) × (recordOf (now (map .exit)) (now (letters .exit)) (r .numbers) ≡ removedFirst (now (image .entry)) (recordOf (now (map .entry)) (now (letters .entry)) numbers) file offset .after) ⌝ }
+{
+    record::remove(map, letters, file, offset);
+    let begun = stages::begin(numbers, n, k);
+    let shorter = stages::replace_commit(image, map, letters, numbers, begun);
+    record::clean(letters);
+    let power = shorter.power;
+    Progress {
+        power: power,
+        numbers: record::next_epoch(shorter.numbers),
+    }
+}
+
+// Wipes, once the tests are passed.
+fn wipe_taken(
+    image: &mut [u8],
+    map: &mut [u16],
+    letters: &mut [u8],
+    numbers: Numbers,
+    noise: &[u8],
+    file: u32,
+    offset: u32,
+    n: u64,
+    k: usize,
+) -> Answer
+    requires { ⌜ WipeTaken (now image) (recordOf (now map) (now letters) numbers) (now noise) file offset ⌝ }
+    ensures { λ r. ⌜ standing r (now (image .exit)) (now (map .exit)) (now (letters .exit)) [] ≡ left n k (wipeOf (now (image .entry)) (recordOf (now (map .entry)) (now (letters .entry)) numbers) (now (noise .entry)) file offset) (now (image .entry)) ⌝ }
+{
+    let shorter = shorten(image, map, letters, numbers, file, offset, n, k);
+    stages::answer(stages::renew(image, map, letters, noise, numbers, shorter))
+}
+
+// A wipe of which the power lasts for n steps and the first k bytes of the next.
+pub fn wipe_cut(
+    image: &mut [u8],
+    map: &mut [u16],
+    letters: &mut [u8],
+    numbers: Numbers,
+    noise: &[u8],
+    file: u32,
+    offset: u32,
+    n: u64,
+    k: usize,
+) -> Answer
+    ensures { λ r. ⌜ standing r (now (image .exit)) (now (map .exit)) (now (letters .exit)) [] ≡ left n k (wipeOf (now (image .entry)) (recordOf (now (map .entry)) (now (letters .entry)) numbers) (now (noise .entry)) file offset) (now (image .entry)) ⌝ }
+{
+    let reply = refuse_wipe(image, map, letters, numbers, noise, file, offset);
+    if !replies::is_done(reply) {
+        return replies::refused(reply, numbers);
+    }
+    wipe_taken(image, map, letters, numbers, noise, file, offset, n, k)
+}
+
+// Removes the nodes of a file from an offset on, and replaces every key that is not used by noise.
+pub fn wipe(
+    image: &mut [u8],
+    map: &mut [u16],
+    letters: &mut [u8],
+    numbers: Numbers,
+    noise: &[u8],
+    file: u32,
+    offset: u32,
+) -> Answer
+    ensures { λ r. ⌜ standing r (now (image .exit)) (now (map .exit)) (now (letters .exit)) [] ≡ leftWhole (wipeOf (now (image .entry)) (recordOf (now (map .entry)) (now (letters .entry)) numbers) (now (noise .entry)) file offset) (now (image .entry)) ⌝ }
+{
+    wipe_cut(image, map, letters, numbers, noise, file, offset, ENOUGH, 0)
+}

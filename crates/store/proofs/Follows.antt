@@ -23,7 +23,7 @@ use Rattle.image.specs.Size.{blockSize, pagesInBlock, blocks}
 use Rattle.image.specs.Look.{blockAt, pageAt, pageEmpty, blockEmpty, lowestEmpty}
 use Rattle.image.specs.Step.{Step, erase, Inside, whole, playAll}
 use Rattle.image.specs.Power.{Device, device, run}
-use Rattle.image.specs.Block.{renewedKey, keyBlockSteps, commitBlockSteps}
+use Rattle.image.specs.Block.{renewedKey, keyBlockSteps, commitBlockSteps, keyBlockPage, commitBlockPage}
 use Rattle.image.specs.declared.Power.{Power}
 use Rattle.image.proofs.Step.{blockOf, block-whole-other}
 use Rattle.image.proofs.Empties.{block-empty-same, full-page-block, erase-empties}
@@ -31,8 +31,8 @@ use Rattle.image.proofs.Looks.{block-inside, blocks-same}
 use Rattle.image.proofs.Plays.{playAll-nil, playAll-cons, playAll-append, playAll-length, block-playAll-other}
 use Rattle.image.proofs.Runs.{run-append, run-bind, run-length, block-run-other}
 use Rattle.image.proofs.Rows.{rowSteps, row-in-no-other, row-page-done}
-use Rattle.image.proofs.KeyBlock.{keyBlockPage, key-block-steps, key-block-inside, key-page-size, renewed-at-length}
-use Rattle.image.proofs.CommitBlock.{commitBlockPage, commit-block-steps, commit-block-inside, commit-page-size}
+use Rattle.image.proofs.KeyBlock.{key-block-steps, key-block-inside, key-page-size, renewed-at-length}
+use Rattle.image.proofs.CommitBlock.{commit-block-steps, commit-block-inside, commit-page-size}
 use Rattle.store.specs.Kind.{isChosen}
 use Rattle.store.specs.Record.{Record, withNumbers}
 use Rattle.store.specs.Format.{noiseSize}

@@ -20,21 +20,15 @@ use Rattle.store.specs.Write.{fitTests, keysBlock}
 use Rattle.store.specs.declared.Numbers.{Numbers}
 use Rattle.store.specs.declared.Reply.the-variants.{NoRoom, NumbersSpent}
 
-abbrev pub commitTests : List ℕ → Record → List ℕ → List Test
-commitTests img r noise =
-    formatTests img (r .map) (r .letters) noise
-    ++ (fitTests img r
-    ++ ((leb (r .numbers .epoch) lastNumber else NumbersSpent)
-    ∷ (leb 1 (emptyBlocks img) else NoRoom)
-    ∷ []))
-
 -- the tests that commit and wipe end with; a call uses one epoch and so many more
 abbrev pub renewalTests : List ℕ → Record → ℕ → List Test
 renewalTests img r more =
-    (fits img r else RecordUnfit)
-    ∷ (leb (r .numbers .epoch + more) lastNumber else NumbersSpent)
-    ∷ (leb 1 (emptyBlocks img) else NoRoom)
-    ∷ []
+    fitTests img r ++ ((leb (r .numbers .epoch + more) lastNumber else NumbersSpent) ∷ (leb 1 (emptyBlocks img) else NoRoom) ∷ [])
+
+abbrev pub commitTests : List ℕ → Record → List ℕ → List Test
+commitTests img r noise =
+    formatTests img (r .map) (r .letters) noise
+    ++ (fitTests img r ++ ((leb (r .numbers .epoch) lastNumber else NumbersSpent) ∷ (leb 1 (emptyBlocks img) else NoRoom) ∷ []))
 
 -- ---- replacing one block: a new copy in the lowest empty block, then the old one erased
 unfoldable pub replaceKeys : List ℕ → Record → List ℕ → ℕ → List Step

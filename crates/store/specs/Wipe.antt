@@ -1,27 +1,17 @@
 -- Document 01, "Calls and their refusals": Wipe, a cut-off with purge.
-use Prim.Native.Nat.{ℕ, _+_}
-use mathlib.Core.List.{List, [], _∷_, _++_}
-use lib.Dec.{leb}
-use Rattle.page.specs.Header.{lastNumber}
-use Rattle.image.specs.Look.{emptyBlocks}
-use Rattle.store.specs.Reply.{Test, _else_, verdict}
+use Prim.Native.Nat.{ℕ}
+use mathlib.Core.List.{List, [], _++_}
+use Rattle.store.specs.Reply.{Test, verdict}
 use Rattle.store.specs.Record.{Record, recordOf, withNumbers}
 use Rattle.store.specs.Outcome.{Outcome, Left, decided}
 use Rattle.store.specs.Format.{formatTests}
-use Rattle.store.specs.Write.{planTests, fitTests}
+use Rattle.store.specs.Write.{planTests}
 use Rattle.store.specs.CutOff.{removed}
-use Rattle.store.specs.Commit.{Stage, begin, commitReplaced, commitStages, cleaned, nextEpoch}
+use Rattle.store.specs.Commit.{Stage, renewalTests, begin, commitReplaced, commitStages, cleaned, nextEpoch}
 use Rattle.store.specs.declared.Numbers.{Numbers}
-use Rattle.store.specs.declared.Reply.the-variants.{NoRoom, NumbersSpent}
 
 abbrev pub wipeTests : List ℕ → Record → List ℕ → ℕ → ℕ → List Test
-wipeTests img r noise file offset =
-    formatTests img (r .map) (r .letters) noise
-    ++ (planTests file offset
-    ++ (fitTests img r
-    ++ ((leb (r .numbers .epoch + 1) lastNumber else NumbersSpent)
-    ∷ (leb 1 (emptyBlocks img) else NoRoom)
-    ∷ [])))
+wipeTests img r noise file offset = formatTests img (r .map) (r .letters) noise ++ (planTests file offset ++ renewalTests img r 1)
 
 -- first, with the next epoch, a commit block without the removed entries, their letters d, the other letters as they were; the old one erased
 unfoldable pub removedFirst : List ℕ → Record → ℕ → ℕ → Stage

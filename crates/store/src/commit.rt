@@ -9,15 +9,16 @@ use crate::stages;
 use crate::tests;
 ghost use mathlib.Core.Path.{_≡_};
 ghost use mathlib.Core.List.{[]};
+ghost use Rattle.base.specs.Lent.{old, new};
 ghost use Rattle.store.specs.Reply.{verdict};
 ghost use Rattle.store.specs.Record.{recordOf};
 ghost use Rattle.store.specs.Outcome.{left, leftWhole, standing};
-ghost use Rattle.store.specs.Commit.{commitTests, commitOf};
+ghost use Rattle.store.specs.Commit.{commitTests, commitLeaves};
 ghost use Rattle.store.specs.Taken.{CommitTaken};
 
 // The tests of a commit, in order.
 fn refuse_commit(image: &[u8], map: &[u16], letters: &[u8], numbers: Numbers, noise: &[u8]) -> Reply
-    ensures { λ r. ⌜ r ≡ verdict (commitTests (now (image .entry)) (recordOf (now (map .entry)) (now (letters .entry)) numbers) (now (noise .entry))) ⌝ }
+    ensures { λ r. ⌜ r ≡ verdict (commitTests (old image) (recordOf (old map) (old letters) numbers) (old noise)) ⌝ }
 {
     let reply = tests::refuse_noise(image, map, letters, noise);
     if !replies::is_done(reply) {
@@ -37,7 +38,8 @@ fn commit_taken(
     k: usize,
 ) -> Answer
     requires { ⌜ CommitTaken (now image) (recordOf (now map) (now letters) numbers) (now noise) ⌝ }
-    ensures { λ r. ⌜ standing r (now (image .exit)) (now (map .entry)) (now (letters .exit)) [] ≡ left n k (commitOf (now (image .entry)) (recordOf (now (map .entry)) (now (letters .entry)) numbers) (now (noise .entry))) (now (image .entry)) ⌝ }
+    ensures { λ r. ⌜ standing r (new image) (old map) (new letters) []
+        ≡ commitLeaves (left n k) (old image) (old map) (old letters) numbers (old noise) ⌝ }
 {
     record::clean(letters);
     let begun = stages::begin(numbers, n, k);
@@ -54,7 +56,8 @@ pub fn commit_cut(
     n: u64,
     k: usize,
 ) -> Answer
-    ensures { λ r. ⌜ standing r (now (image .exit)) (now (map .entry)) (now (letters .exit)) [] ≡ left n k (commitOf (now (image .entry)) (recordOf (now (map .entry)) (now (letters .entry)) numbers) (now (noise .entry))) (now (image .entry)) ⌝ }
+    ensures { λ r. ⌜ standing r (new image) (old map) (new letters) []
+        ≡ commitLeaves (left n k) (old image) (old map) (old letters) numbers (old noise) ⌝ }
 {
     let reply = refuse_commit(image, map, letters, numbers, noise);
     if !replies::is_done(reply) {
@@ -71,7 +74,8 @@ pub fn commit(
     numbers: Numbers,
     noise: &[u8],
 ) -> Answer
-    ensures { λ r. ⌜ standing r (now (image .exit)) (now (map .entry)) (now (letters .exit)) [] ≡ leftWhole (commitOf (now (image .entry)) (recordOf (now (map .entry)) (now (letters .entry)) numbers) (now (noise .entry))) (now (image .entry)) ⌝ }
+    ensures { λ r. ⌜ standing r (new image) (old map) (new letters) []
+        ≡ commitLeaves leftWhole (old image) (old map) (old letters) numbers (old noise) ⌝ }
 {
     commit_cut(image, map, letters, numbers, noise, ENOUGH, 0)
 }

@@ -15,11 +15,12 @@ use page::headers::LAST_NUMBER;
 ghost use mathlib.Core.Path.{_≡_};
 ghost use mathlib.Core.List.{[]};
 ghost use lib.ListN.{take};
+ghost use Rattle.base.specs.Lent.{old, new};
 ghost use Rattle.store.specs.Reply.{verdict};
 ghost use Rattle.store.specs.Record.{recordOf};
 ghost use Rattle.store.specs.Outcome.{left, leftWhole, standing};
 ghost use Rattle.store.specs.Find.{newPage, foundAt};
-ghost use Rattle.store.specs.CutOff.{cutOffTests, cutOffOf};
+ghost use Rattle.store.specs.CutOff.{cutOffTests, cutOffLeaves};
 ghost use Rattle.store.specs.Taken.{CutOffTaken};
 
 // The tests of a cut-off, in order, but the last, which looks for a page.
@@ -31,7 +32,8 @@ fn refuse_cut_off(
     file: u32,
     offset: u32,
 ) -> Reply
-    ensures { λ r. ⌜ r ≡ verdict (take 7 (cutOffTests (now (image .entry)) (recordOf (now (map .entry)) (now (letters .entry)) numbers) file offset)) ⌝ }
+    ensures { λ r. ⌜ r
+        ≡ verdict (take 7 (cutOffTests (old image) (recordOf (old map) (old letters) numbers) file offset)) ⌝ }
 {
     let reply = tests::refuse_place(image, map, letters, file, offset);
     if !replies::is_done(reply) {
@@ -61,8 +63,10 @@ fn cut_off_taken(
     n: u64,
     k: usize,
 ) -> Answer
-    requires { ⌜ CutOffTaken (now image) (recordOf (now map) (now letters) numbers) file offset × (g ≡ foundAt (newPage (now image) numbers)) ⌝ }
-    ensures { λ r. ⌜ standing r (now (image .exit)) (now (map .exit)) (now (letters .exit)) [] ≡ left n k (cutOffOf (now (image .entry)) (recordOf (now (map .entry)) (now (letters .entry)) numbers) file offset) (now (image .entry)) ⌝ }
+    requires { ⌜ CutOffTaken (now image) (recordOf (now map) (now letters) numbers) file offset
+        × (g ≡ foundAt (newPage (now image) numbers)) ⌝ }
+    ensures { λ r. ⌜ standing r (new image) (new map) (new letters) []
+        ≡ cutOffLeaves (left n k) (old image) (old map) (old letters) numbers file offset ⌝ }
 {
     let power = steps::program_cut_off(
         image,
@@ -94,7 +98,8 @@ pub fn cut_off_cut(
     n: u64,
     k: usize,
 ) -> Answer
-    ensures { λ r. ⌜ standing r (now (image .exit)) (now (map .exit)) (now (letters .exit)) [] ≡ left n k (cutOffOf (now (image .entry)) (recordOf (now (map .entry)) (now (letters .entry)) numbers) file offset) (now (image .entry)) ⌝ }
+    ensures { λ r. ⌜ standing r (new image) (new map) (new letters) []
+        ≡ cutOffLeaves (left n k) (old image) (old map) (old letters) numbers file offset ⌝ }
 {
     let reply = refuse_cut_off(image, map, letters, numbers, file, offset);
     if !replies::is_done(reply) {
@@ -115,7 +120,8 @@ pub fn cut_off(
     file: u32,
     offset: u32,
 ) -> Answer
-    ensures { λ r. ⌜ standing r (now (image .exit)) (now (map .exit)) (now (letters .exit)) [] ≡ leftWhole (cutOffOf (now (image .entry)) (recordOf (now (map .entry)) (now (letters .entry)) numbers) file offset) (now (image .entry)) ⌝ }
+    ensures { λ r. ⌜ standing r (new image) (new map) (new letters) []
+        ≡ cutOffLeaves leftWhole (old image) (old map) (old letters) numbers file offset ⌝ }
 {
     cut_off_cut(image, map, letters, numbers, file, offset, ENOUGH, 0)
 }

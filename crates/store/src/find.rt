@@ -12,6 +12,7 @@ ghost use mathlib.Core.Path.{_≡_};
 ghost use mathlib.Core.Bool.{true};
 ghost use Prim.Native.Nat.{_≤_, _+_, _*_, _-_};
 ghost use lib.ListN.{length};
+ghost use Rattle.base.specs.Lent.{old};
 ghost use Rattle.base.specs.Search.{firstFrom, allFrom};
 ghost use Rattle.page.specs.Key.{positions};
 ghost use Rattle.image.specs.Size.{blockSize, pagesInBlock, pages, sizeRight};
@@ -22,7 +23,7 @@ ghost use Rattle.store.specs.Find.{found, lowestFree, isOpen, freshPage,
 // The lowest position whose letter is f.
 pub fn lowest_free(letters: &[u8]) -> Found
     requires { ⌜ length (now letters) ≡ positions ⌝ }
-    ensures { λ r. ⌜ r ≡ lowestFree (now (letters .entry)) ⌝ }
+    ensures { λ r. ⌜ r ≡ lowestFree (old letters) ⌝ }
 {
     let mut p: usize = 0;
     while p < POSITIONS {
@@ -37,7 +38,8 @@ pub fn lowest_free(letters: &[u8]) -> Found
 // The first page of block b that is empty and has only empty pages after it, counted in the block; its number of pages where there is none.
 fn empty_from(image: &[u8], b: usize) -> usize
     requires { ⌜ b * blockSize + blockSize ≤ length (now image) ⌝ }
-    ensures { λ r. ⌜ (r ≡ firstFrom (λ i. allFrom (pageEmpty (now (image .entry))) (pagesInBlock - i) (pageIn b i)) pagesInBlock 0) × (r ≤ pagesInBlock) ⌝ }
+    ensures { λ r. ⌜ (r ≡ firstFrom
+        (λ i. allFrom (pageEmpty (old image)) (pagesInBlock - i) (pageIn b i)) pagesInBlock 0) × (r ≤ pagesInBlock) ⌝ }
 {
     let mut i = PAGES_IN_BLOCK;
     while 0 < i {
@@ -54,7 +56,8 @@ fn empty_from(image: &[u8], b: usize) -> usize
 // most blocks are told by that page's first byte.
 fn open_from(image: &[u8], numbers: Numbers, b: usize) -> usize
     requires { ⌜ b * blockSize + blockSize ≤ length (now image) ⌝ }
-    ensures { λ r. ⌜ (r ≡ firstFrom (λ i. isOpen (now (image .entry)) numbers (pageIn b i)) pagesInBlock 0) × (r ≤ pagesInBlock) ⌝ }
+    ensures { λ r. ⌜ (r
+        ≡ firstFrom (λ i. isOpen (old image) numbers (pageIn b i)) pagesInBlock 0) × (r ≤ pagesInBlock) ⌝ }
 {
     let last = b * PAGES_IN_BLOCK + (PAGES_IN_BLOCK - 1);
     if image[last * Frame::PAGE] != Frame::ERASED {
@@ -69,7 +72,7 @@ fn open_from(image: &[u8], numbers: Numbers, b: usize) -> usize
 // The lowest empty page of a data block with only empty pages after it, block by block.
 fn open_page(image: &[u8], numbers: Numbers) -> Found
     requires { ⌜ sizeRight (now image) ≡ true ⌝ }
-    ensures { λ r. ⌜ r ≡ found (pages (now (image .entry))) (firstFrom (isOpen (now (image .entry)) numbers) (pages (now (image .entry))) 0) ⌝ }
+    ensures { λ r. ⌜ r ≡ found (pages (old image)) (firstFrom (isOpen (old image) numbers) (pages (old image)) 0) ⌝ }
 {
     let n = image.len() / BLOCK_SIZE;
     let mut b = 0;
@@ -85,7 +88,7 @@ fn open_page(image: &[u8], numbers: Numbers) -> Found
 
 // The first page of the lowest empty block, if another is empty.
 fn fresh_page(image: &[u8]) -> Found
-    ensures { λ r. ⌜ r ≡ freshPage (now (image .entry)) ⌝ }
+    ensures { λ r. ⌜ r ≡ freshPage (old image) ⌝ }
 {
     let n = image.len() / BLOCK_SIZE;
     let lowest = look::lowest_empty(image);
@@ -102,7 +105,7 @@ fn fresh_page(image: &[u8]) -> Found
 // The page that a write or a cut-off takes.
 pub fn new_page(image: &[u8], numbers: Numbers) -> Found
     requires { ⌜ sizeRight (now image) ≡ true ⌝ }
-    ensures { λ r. ⌜ r ≡ newPage (now (image .entry)) numbers ⌝ }
+    ensures { λ r. ⌜ r ≡ newPage (old image) numbers ⌝ }
 {
     match open_page(image, numbers) {
         Found::At(g) => Found::At(g),

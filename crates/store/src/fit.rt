@@ -14,6 +14,7 @@ ghost use mathlib.Core.Bool.{true, cond, Bool·beq, _&&_};
 ghost use Prim.Native.Nat.{ℕ, _<_, _+_, _%_};
 ghost use lib.ListN.{length, getD, set, replicate};
 ghost use lib.Dec.{eqb, leb, ltb};
+ghost use Rattle.base.specs.Lent.{old, new};
 ghost use Rattle.base.specs.Search.{allFrom};
 ghost use Rattle.page.specs.Plan.{places};
 ghost use Rattle.page.specs.Header.{lastNumber, within};
@@ -44,7 +45,7 @@ fn numbers_fit(numbers: Numbers) -> bool
 // Whether block b is a whole key block q.
 fn is_keys(image: &[u8], b: u32, q: u32) -> bool
     requires { ⌜ length (now image) % blockSize ≡ 0 ⌝ }
-    ensures { λ r. ⌜ r ≡ ltb 0 (keysEpoch q (kindOf (now (image .entry)) b)) ⌝ }
+    ensures { λ r. ⌜ r ≡ ltb 0 (keysEpoch q (kindOf (old image) b)) ⌝ }
 {
     0 < kinds::keys_epoch(kinds::kind_of(image, b as usize), q)
 }
@@ -52,7 +53,7 @@ fn is_keys(image: &[u8], b: u32, q: u32) -> bool
 // Whether block b is a whole commit block.
 fn is_commit(image: &[u8], b: u32) -> bool
     requires { ⌜ length (now image) % blockSize ≡ 0 ⌝ }
-    ensures { λ r. ⌜ r ≡ ltb 0 (commitEpoch (kindOf (now (image .entry)) b)) ⌝ }
+    ensures { λ r. ⌜ r ≡ ltb 0 (commitEpoch (kindOf (old image) b)) ⌝ }
 {
     0 < kinds::commit_epoch(kinds::kind_of(image, b as usize))
 }
@@ -60,7 +61,7 @@ fn is_commit(image: &[u8], b: u32) -> bool
 // Whether the record's blocks are whole and of their kind.
 fn blocks_fit(image: &[u8], numbers: Numbers) -> bool
     requires { ⌜ length (now image) % blockSize ≡ 0 ⌝ }
-    ensures { λ r. ⌜ r ≡ blocksFit (now (image .entry)) numbers ⌝ }
+    ensures { λ r. ⌜ r ≡ blocksFit (old image) numbers ⌝ }
 {
     if !is_keys(image, numbers.keys0, 0) {
         return false;
@@ -98,7 +99,7 @@ fn node_at(form: Form, x: usize, p: u32) -> bool
 // Whether place x may have this page and key: none, or a whole N page of its file, offset and key.
 fn node_fits(image: &[u8], x: usize, page: u16, key: u16) -> bool
     requires { ⌜ length (now image) % blockSize ≡ 0 ⌝ }
-    ensures { λ r. ⌜ r ≡ cond (eqb page none && eqb key none) true (nodeAt x key (formAt (now (image .entry)) page)) ⌝ }
+    ensures { λ r. ⌜ r ≡ cond (eqb page none && eqb key none) true (nodeAt x key (formAt (old image) page)) ⌝ }
 {
     if (page == entries::NONE) & (key == entries::NONE) {
         return true;
@@ -113,7 +114,7 @@ fn node_fits(image: &[u8], x: usize, page: u16, key: u16) -> bool
 // Whether place x fits.
 pub fn place_fits(image: &[u8], map: &[u16], x: usize) -> bool
     requires { ⌜ (length (now image) % blockSize ≡ 0) × (length (now map) ≡ mapSize) × (x < places) ⌝ }
-    ensures { λ r. ⌜ r ≡ placeFits (now (image .entry)) (now (map .entry)) x ⌝ }
+    ensures { λ r. ⌜ r ≡ placeFits (old image) (old map) x ⌝ }
 {
     node_fits(image, x, map[x], map[PLACES + x])
 }
@@ -121,7 +122,7 @@ pub fn place_fits(image: &[u8], map: &[u16], x: usize) -> bool
 // Whether every place fits.
 fn places_fit(image: &[u8], map: &[u16]) -> bool
     requires { ⌜ (length (now image) % blockSize ≡ 0) × (length (now map) ≡ mapSize) ⌝ }
-    ensures { λ r. ⌜ r ≡ allFrom (placeFits (now (image .entry)) (now (map .entry))) places 0 ⌝ }
+    ensures { λ r. ⌜ r ≡ allFrom (placeFits (old image) (old map)) places 0 ⌝ }
 {
     let mut x: usize = 0;
     while x < PLACES {
@@ -136,7 +137,7 @@ fn places_fit(image: &[u8], map: &[u16]) -> bool
 // Marks the position of a key as named; false where it was named before. A key that is none has no position.
 fn name(named: &mut [u8], key: u16) -> bool
     requires { ⌜ length (now named) ≡ positions ⌝ }
-    ensures { λ r. ⌜ (r ≡ eqb (getD (now (named .entry)) key 0) 0) × (r ≡ true → now (named .exit) ≡ set (now (named .entry)) key 1) ⌝ }
+    ensures { λ r. ⌜ (r ≡ eqb (getD (old named) key 0) 0) × (r ≡ true → new named ≡ set (old named) key 1) ⌝ }
 {
     let p = key as usize;
     if POSITIONS <= p {
@@ -152,7 +153,8 @@ fn name(named: &mut [u8], key: u16) -> bool
 // Whether no key is named twice; where none is, named says how often each position is, 0 or 1.
 pub fn keys_apart(map: &[u16], named: &mut [u8]) -> bool
     requires { ⌜ (length (now map) ≡ mapSize) × (now named ≡ replicate positions 0) ⌝ }
-    ensures { λ r. ⌜ (r ≡ keysApart (now (map .entry))) × (r ≡ true → (p : ℕ) → p < positions → namedTimes (now (map .entry)) p ≡ getD (now (named .exit)) p 0) ⌝ }
+    ensures { λ r. ⌜ (r ≡ keysApart (old map))
+        × (r ≡ true → (p : ℕ) → p < positions → namedTimes (old map) p ≡ getD (new named) p 0) ⌝ }
 {
     let mut x: usize = 0;
     while x < PLACES {
@@ -174,7 +176,8 @@ fn letter_fits(l: u8, named: u8) -> bool
 // Whether every letter is one, and u stands at exactly the positions that are named.
 fn letters_fit(letters: &[u8], named: &[u8]) -> bool
     requires { ⌜ (length (now letters) ≡ positions) × (length (now named) ≡ positions) ⌝ }
-    ensures { λ r. ⌜ r ≡ allFrom (λ p. isLetter (getD (now (letters .entry)) p 0) && Bool·beq (eqb (getD (now (letters .entry)) p 0) usedLetter) (leb 1 (getD (now (named .entry)) p 0))) positions 0 ⌝ }
+    ensures { λ r. ⌜ r ≡ allFrom (λ p. isLetter (getD (old letters) p 0) && Bool·beq
+        (eqb (getD (old letters) p 0) usedLetter) (leb 1 (getD (old named) p 0))) positions 0 ⌝ }
 {
     let mut p: usize = 0;
     while p < POSITIONS {
@@ -189,9 +192,9 @@ fn letters_fit(letters: &[u8], named: &[u8]) -> bool
 // Whether map and letters agree: no key is named twice, every letter is one, and u stands at exactly the named positions.
 fn letters_match(map: &[u16], letters: &[u8]) -> bool
     requires { ⌜ (length (now map) ≡ mapSize) × (length (now letters) ≡ positions) ⌝ }
-    ensures { λ r. ⌜ r ≡ keysApart (now (map .entry)) && lettersFit (now (map .entry)) (now (letters .entry)) ⌝ }
+    ensures { λ r. ⌜ r ≡ keysApart (old map) && lettersFit (old map) (old letters) ⌝ }
 {
-    let mut named = [0u8; 448];
+    let mut named = [0u8; POSITIONS];
     if !keys_apart(map, &mut named) {
         return false;
     }
@@ -201,7 +204,7 @@ fn letters_match(map: &[u16], letters: &[u8]) -> bool
 // Whether the record fits.
 pub fn fits(image: &[u8], map: &[u16], letters: &[u8], numbers: Numbers) -> bool
     requires { ⌜ (sizeRight (now image) ≡ true) × (length (now map) ≡ mapSize) × (length (now letters) ≡ positions) ⌝ }
-    ensures { λ r. ⌜ r ≡ recordFits (now (image .entry)) (recordOf (now (map .entry)) (now (letters .entry)) numbers) ⌝ }
+    ensures { λ r. ⌜ r ≡ recordFits (old image) (recordOf (old map) (old letters) numbers) ⌝ }
 {
     if !numbers_fit(numbers) {
         return false;

@@ -12,7 +12,8 @@ ghost use mathlib.Core.Path.{_≡_};
 ghost use mathlib.Core.Bool.{cond};
 ghost use Prim.Native.Nat.{_≤_, _<_, _+_, _*_, _-_, _%_};
 ghost use lib.ListN.{length};
-ghost use Rattle.base.specs.Search.{allFrom, anyFrom};
+ghost use Rattle.base.specs.Lent.{old};
+ghost use Rattle.base.specs.Search.{allFrom};
 ghost use Rattle.page.specs.Frame.{pageSize};
 ghost use Rattle.page.specs.Entry.{parts, validPayload};
 ghost use Rattle.page.specs.Page.{payloadOf};
@@ -47,7 +48,7 @@ fn whole_with(form: Form, h: Frame) -> bool
 // Whether page g is whole, with this header.
 fn page_whole(image: &[u8], g: usize, h: Frame) -> bool
     requires { ⌜ g * pageSize + pageSize ≤ length (now image) ⌝ }
-    ensures { λ r. ⌜ r ≡ wholeWith h (formAt (now (image .entry)) g) ⌝ }
+    ensures { λ r. ⌜ r ≡ wholeWith h (formAt (old image) g) ⌝ }
 {
     whole_with(look::form_at(image, g), h)
 }
@@ -55,7 +56,7 @@ fn page_whole(image: &[u8], g: usize, h: Frame) -> bool
 // Whether block b, whose page 0 is whole with header f, is a whole key block.
 fn key_block_whole(image: &[u8], b: usize, f: Frame) -> bool
     requires { ⌜ (b * blockSize + blockSize ≤ length (now image)) × (formAt (now image) (pageIn b 0) ≡ Form.Whole f) ⌝ }
-    ensures { λ r. ⌜ r ≡ keyBlockWhole (now (image .entry)) b (f .unit) (f .number) ⌝ }
+    ensures { λ r. ⌜ r ≡ keyBlockWhole (old image) b (f .unit) (f .number) ⌝ }
 {
     let q = f.unit;
     let e = f.number;
@@ -79,7 +80,7 @@ fn key_block_whole(image: &[u8], b: usize, f: Frame) -> bool
 // Whether the payload of page g is valid as that of a commit's part i.
 fn payload_valid(image: &[u8], g: usize, i: usize) -> bool
     requires { ⌜ g * pageSize + pageSize ≤ length (now image) ⌝ }
-    ensures { λ r. ⌜ r ≡ validPayload i (payloadOf (pageAt (now (image .entry)) g)) ⌝ }
+    ensures { λ r. ⌜ r ≡ validPayload i (payloadOf (pageAt (old image) g)) ⌝ }
 {
     entries::valid_payload(look::payload_at(image, g), i)
 }
@@ -87,7 +88,7 @@ fn payload_valid(image: &[u8], g: usize, i: usize) -> bool
 // Whether page i of block b is a whole part i of a commit of epoch e that covers s, with a valid payload.
 fn part_whole(image: &[u8], b: usize, i: usize, e: u32, s: u32) -> bool
     requires { ⌜ (b * blockSize + blockSize ≤ length (now image)) × (i < parts) ⌝ }
-    ensures { λ r. ⌜ r ≡ partWhole (now (image .entry)) b e s i ⌝ }
+    ensures { λ r. ⌜ r ≡ partWhole (old image) b e s i ⌝ }
 {
     let g = b * PAGES_IN_BLOCK + i;
     if !page_whole(image, g, Frame::commit(e, i as u32, s)) {
@@ -99,7 +100,7 @@ fn part_whole(image: &[u8], b: usize, i: usize, e: u32, s: u32) -> bool
 // The same of page 0, which is whole with header f.
 fn first_part_whole(image: &[u8], b: usize, f: Frame) -> bool
     requires { ⌜ (b * blockSize + blockSize ≤ length (now image)) × (formAt (now image) (pageIn b 0) ≡ Form.Whole f) ⌝ }
-    ensures { λ r. ⌜ r ≡ partWhole (now (image .entry)) b (f .number) (f .second) 0 ⌝ }
+    ensures { λ r. ⌜ r ≡ partWhole (old image) b (f .number) (f .second) 0 ⌝ }
 {
     if !same_frame(f, Frame::commit(f.number, 0, f.second)) {
         return false;
@@ -110,7 +111,7 @@ fn first_part_whole(image: &[u8], b: usize, f: Frame) -> bool
 // Whether block b, whose page 0 is whole with header f, has the whole parts of a commit.
 fn parts_whole(image: &[u8], b: usize, f: Frame) -> bool
     requires { ⌜ (b * blockSize + blockSize ≤ length (now image)) × (formAt (now image) (pageIn b 0) ≡ Form.Whole f) ⌝ }
-    ensures { λ r. ⌜ r ≡ allFrom (partWhole (now (image .entry)) b (f .number) (f .second)) parts 0 ⌝ }
+    ensures { λ r. ⌜ r ≡ allFrom (partWhole (old image) b (f .number) (f .second)) parts 0 ⌝ }
 {
     if !first_part_whole(image, b, f) {
         return false;
@@ -130,7 +131,7 @@ fn parts_whole(image: &[u8], b: usize, f: Frame) -> bool
 // Whether the pages of block b after a commit's parts are empty.
 fn rest_empty(image: &[u8], b: usize) -> bool
     requires { ⌜ b * blockSize + blockSize ≤ length (now image) ⌝ }
-    ensures { λ r. ⌜ r ≡ allFrom (λ i. pageEmpty (now (image .entry)) (pageIn b i)) (pagesInBlock - parts) parts ⌝ }
+    ensures { λ r. ⌜ r ≡ allFrom (λ i. pageEmpty (old image) (pageIn b i)) (pagesInBlock - parts) parts ⌝ }
 {
     let mut i: usize = PARTS;
     while i < PAGES_IN_BLOCK {
@@ -145,7 +146,7 @@ fn rest_empty(image: &[u8], b: usize) -> bool
 // What the header of block b's page 0, which is whole, makes of it.
 fn kind_by(image: &[u8], b: usize, f: Frame) -> Kind
     requires { ⌜ (b * blockSize + blockSize ≤ length (now image)) × (formAt (now image) (pageIn b 0) ≡ Form.Whole f) ⌝ }
-    ensures { λ r. ⌜ r ≡ kindBy (now (image .entry)) b f ⌝ }
+    ensures { λ r. ⌜ r ≡ kindBy (old image) b f ⌝ }
 {
     if f.kind == Frame::KEYS_LETTER {
         if key_block_whole(image, b, f) {
@@ -176,7 +177,7 @@ fn is_block_letter(kind: u8) -> bool
 // What block b is; outside the image it is nothing of its own. What is none is mostly told by its first byte.
 pub fn kind_of(image: &[u8], b: usize) -> Kind
     requires { ⌜ length (now image) % blockSize ≡ 0 ⌝ }
-    ensures { λ r. ⌜ r ≡ kindOf (now (image .entry)) b ⌝ }
+    ensures { λ r. ⌜ r ≡ kindOf (old image) b ⌝ }
 {
     if image.len() / BLOCK_SIZE <= b {
         return Kind::Other;
@@ -264,7 +265,7 @@ pub fn is_chosen(numbers: Numbers, b: usize) -> bool
 // Whether page g is a whole or torn N or D page. What is none is mostly told by its first byte.
 fn event_at(image: &[u8], g: usize) -> bool
     requires { ⌜ g * pageSize + pageSize ≤ length (now image) ⌝ }
-    ensures { λ r. ⌜ r ≡ headed (formAt (now (image .entry)) g) ⌝ }
+    ensures { λ r. ⌜ r ≡ headed (formAt (old image) g) ⌝ }
 {
     if !is_event_letter(image[g * Frame::PAGE]) {
         return false;
@@ -275,7 +276,7 @@ fn event_at(image: &[u8], g: usize) -> bool
 // Whether block b has a whole or torn N or D page.
 pub fn has_event(image: &[u8], b: usize) -> bool
     requires { ⌜ b * blockSize + blockSize ≤ length (now image) ⌝ }
-    ensures { λ r. ⌜ r ≡ hasEvents (now (image .entry)) b ⌝ }
+    ensures { λ r. ⌜ r ≡ hasEvents (old image) b ⌝ }
 {
     let mut i: usize = 0;
     while i < PAGES_IN_BLOCK {
@@ -290,7 +291,7 @@ pub fn has_event(image: &[u8], b: usize) -> bool
 // Whether block b is a data block.
 pub fn is_data(image: &[u8], numbers: Numbers, b: usize) -> bool
     requires { ⌜ b * blockSize + blockSize ≤ length (now image) ⌝ }
-    ensures { λ r. ⌜ r ≡ isData (now (image .entry)) numbers b ⌝ }
+    ensures { λ r. ⌜ r ≡ isData (old image) numbers b ⌝ }
 {
     if is_chosen(numbers, b) {
         return false;

@@ -15,16 +15,17 @@ use image::Power;
 use image::look;
 use page::plan::PLACES;
 ghost use mathlib.Core.Path.{_≡_};
+ghost use Rattle.base.specs.Lent.{old, new};
 ghost use Rattle.image.specs.Size.{blocks};
 ghost use Rattle.store.specs.Reply.{verdict};
 ghost use Rattle.store.specs.Outcome.{left, leftWhole, standing};
-ghost use Rattle.store.specs.Mount.{sizeTests, blockTests, mountOf};
+ghost use Rattle.store.specs.Mount.{sizeTests, blockTests, mountLeaves};
 ghost use Rattle.store.specs.Survey.{surveyOf, surveyNumbers, Surveyed};
 ghost use Rattle.store.specs.Taken.{MountChosen};
 
 // The tests of the image's size and of the buffers' lengths, in order.
 fn refuse_sizes(image: &[u8], map: &[u16], letters: &[u8], scratch: &[u32]) -> Reply
-    ensures { λ r. ⌜ r ≡ verdict (sizeTests (now (image .entry)) (now (map .entry)) (now (letters .entry)) (now (scratch .entry))) ⌝ }
+    ensures { λ r. ⌜ r ≡ verdict (sizeTests (old image) (old map) (old letters) (old scratch)) ⌝ }
 {
     if !look::size_right(image) {
         return Reply::ImageSize;
@@ -83,7 +84,8 @@ fn mount_chosen(
 ) -> Answer
     requires { ⌜ MountChosen (now image) (now map) (now letters) (now scratch) ⌝ }
     requires { ⌜ s ≡ surveyOf (now image) (blocks (now image)) ⌝ }
-    ensures { λ r. ⌜ standing r (now (image .exit)) (now (map .exit)) (now (letters .exit)) (now (scratch .exit)) ≡ left n k (mountOf (now (image .entry)) (now (map .entry)) (now (letters .entry)) (now (scratch .entry))) (now (image .entry)) ⌝ }
+    ensures { λ r. ⌜ standing r (new image) (new map) (new letters) (new scratch)
+        ≡ mountLeaves (left n k) (old image) (old map) (old letters) (old scratch) ⌝ }
 {
     let mut events = [0u8; 256];
     let commit = s.commit;
@@ -127,7 +129,8 @@ pub fn mount_cut(
     n: u64,
     k: usize,
 ) -> Answer
-    ensures { λ r. ⌜ standing r (now (image .exit)) (now (map .exit)) (now (letters .exit)) (now (scratch .exit)) ≡ left n k (mountOf (now (image .entry)) (now (map .entry)) (now (letters .entry)) (now (scratch .entry))) (now (image .entry)) ⌝ }
+    ensures { λ r. ⌜ standing r (new image) (new map) (new letters) (new scratch)
+        ≡ mountLeaves (left n k) (old image) (old map) (old letters) (old scratch) ⌝ }
 {
     let sizes = refuse_sizes(image, map, letters, scratch);
     if !replies::is_done(sizes) {
@@ -149,13 +152,9 @@ pub fn mount_cut(
 }
 
 // Mounts the image: the record of it, or map, letters and scratch filled where it is refused with 12 to 14.
-pub fn mount(
-    image: &mut [u8],
-    map: &mut [u16],
-    letters: &mut [u8],
-    scratch: &mut [u32],
-) -> Answer
-    ensures { λ r. ⌜ standing r (now (image .exit)) (now (map .exit)) (now (letters .exit)) (now (scratch .exit)) ≡ leftWhole (mountOf (now (image .entry)) (now (map .entry)) (now (letters .entry)) (now (scratch .entry))) (now (image .entry)) ⌝ }
+pub fn mount(image: &mut [u8], map: &mut [u16], letters: &mut [u8], scratch: &mut [u32]) -> Answer
+    ensures { λ r. ⌜ standing r (new image) (new map) (new letters) (new scratch)
+        ≡ mountLeaves leftWhole (old image) (old map) (old letters) (old scratch) ⌝ }
 {
     mount_cut(image, map, letters, scratch, ENOUGH, 0)
 }

@@ -12,6 +12,7 @@ ghost use mathlib.Core.Bool.{true, false, cond, not, _||_};
 ghost use Prim.Native.Nat.{ℕ, _<_, _%_};
 ghost use lib.ListN.{length, getD, set, replicate};
 ghost use lib.Dec.{eqb, leb};
+ghost use Rattle.base.specs.Lent.{old, new};
 ghost use Rattle.base.specs.Search.{allFrom};
 ghost use Rattle.base.specs.Fold.{listFrom};
 ghost use Rattle.page.specs.Plan.{places};
@@ -31,7 +32,7 @@ pub enum Rebuilt {
 // Whether place x fits, where its entry decides: the deciding sequence is 0.
 fn entry_fits(image: &[u8], map: &[u16], x: usize, sequence: u32) -> bool
     requires { ⌜ (length (now image) % blockSize ≡ 0) × (length (now map) ≡ mapSize) × (x < places) ⌝ }
-    ensures { λ r. ⌜ r ≡ not (eqb sequence 0) || placeFits (now (image .entry)) (now (map .entry)) x ⌝ }
+    ensures { λ r. ⌜ r ≡ not (eqb sequence 0) || placeFits (old image) (old map) x ⌝ }
 {
     if sequence != 0 {
         return true;
@@ -41,8 +42,10 @@ fn entry_fits(image: &[u8], map: &[u16], x: usize, sequence: u32) -> bool
 
 // Whether every place fits whose entry decides.
 fn entries_fit(image: &[u8], map: &[u16], scratch: &[u32]) -> bool
-    requires { ⌜ (length (now image) % blockSize ≡ 0) × (length (now map) ≡ mapSize) × (length (now scratch) ≡ places) ⌝ }
-    ensures { λ r. ⌜ r ≡ allFrom (λ x. not (eqb (getD (now (scratch .entry)) x 0) 0) || placeFits (now (image .entry)) (now (map .entry)) x) places 0 ⌝ }
+    requires { ⌜ (length (now image) % blockSize
+        ≡ 0) × (length (now map) ≡ mapSize) × (length (now scratch) ≡ places) ⌝ }
+    ensures { λ r. ⌜ r
+        ≡ allFrom (λ x. not (eqb (getD (old scratch) x 0) 0) || placeFits (old image) (old map) x) places 0 ⌝ }
 {
     let mut x: usize = 0;
     while x < PLACES {
@@ -57,7 +60,8 @@ fn entries_fit(image: &[u8], map: &[u16], scratch: &[u32]) -> bool
 // Makes the position of a key used; false where it was used before. A key that is none has no position.
 fn use_key(letters: &mut [u8], key: u16) -> bool
     requires { ⌜ length (now letters) ≡ positions ⌝ }
-    ensures { λ r. ⌜ (r ≡ not (eqb (getD (now (letters .entry)) key 0) usedLetter)) × (r ≡ true → now (letters .exit) ≡ set (now (letters .entry)) key usedLetter) ⌝ }
+    ensures { λ r. ⌜ (r ≡ not (eqb (getD (old letters) key 0) usedLetter))
+        × (r ≡ true → new letters ≡ set (old letters) key usedLetter) ⌝ }
 {
     let p = key as usize;
     if POSITIONS <= p {
@@ -72,8 +76,10 @@ fn use_key(letters: &mut [u8], key: u16) -> bool
 
 // Makes the positions that the map names used, where none was; whether no key is named twice.
 fn use_keys(map: &[u16], letters: &mut [u8]) -> bool
-    requires { ⌜ (length (now map) ≡ mapSize) × (length (now letters) ≡ positions) × ((p : ℕ) → p < positions → getD (now letters) p 0 ≡ usedLetter → ⊥) ⌝ }
-    ensures { λ r. ⌜ (r ≡ keysApart (now (map .entry))) × (r ≡ true → now (letters .exit) ≡ listFrom (λ p. cond (leb 1 (namedTimes (now (map .entry)) p)) usedLetter (getD (now (letters .entry)) p 0)) positions 0) ⌝ }
+    requires { ⌜ (length (now map) ≡ mapSize)
+        × (length (now letters) ≡ positions) × ((p : ℕ) → p < positions → getD (now letters) p 0 ≡ usedLetter → ⊥) ⌝ }
+    ensures { λ r. ⌜ (r ≡ keysApart (old map)) × (r ≡ true → new letters
+        ≡ listFrom (λ p. cond (leb 1 (namedTimes (old map) p)) usedLetter (getD (old letters) p 0)) positions 0) ⌝ }
 {
     let mut x: usize = 0;
     while x < PLACES {
@@ -87,7 +93,7 @@ fn use_keys(map: &[u16], letters: &mut [u8]) -> bool
 
 // Makes every number 0.
 fn clear_scratch(scratch: &mut [u32])
-    ensures { λ _. ⌜ now (scratch .exit) ≡ replicate (length (now (scratch .entry))) 0 ⌝ }
+    ensures { λ _. ⌜ new scratch ≡ replicate (length (old scratch)) 0 ⌝ }
 {
     let mut i = 0;
     while i < scratch.len() {
@@ -99,7 +105,7 @@ fn clear_scratch(scratch: &mut [u32])
 // Makes every place vacant, every position deleted and every deciding sequence 0.
 pub fn clear_record(map: &mut [u16], letters: &mut [u8], scratch: &mut [u32])
     requires { ⌜ (length (now map) ≡ mapSize) × (length (now letters) ≡ positions) × (length (now scratch) ≡ places) ⌝ }
-    ensures { λ _. ⌜ Cleared (now (map .exit)) (now (letters .exit)) (now (scratch .exit)) ⌝ }
+    ensures { λ _. ⌜ Cleared (new map) (new letters) (new scratch) ⌝ }
 {
     format::clear_map(map);
     bytes::fill(letters, entries::DELETED);
@@ -117,8 +123,10 @@ fn replay_fit(
     events: &mut [u8],
 ) -> Rebuilt
     requires { ⌜ (sizeRight (now image) ≡ true) × ((e : ℕ) × (kindOf (now image) c ≡ Kind.Commit e covered)) ⌝ }
-    requires { ⌜ (length (now map) ≡ mapSize) × (length (now letters) ≡ positions) × (length (now scratch) ≡ places) × (now events ≡ replicate mostBlocks 0) ⌝ }
-    ensures { λ r. ⌜ (r ≡ rebuiltOf (now (image .entry)) c) × (mountFits (now (image .entry)) c ≡ true → Rebuilding (now (image .entry)) c (now (map .exit)) (now (letters .exit)) (now (scratch .exit)) (now (events .exit))) ⌝ }
+    requires { ⌜ (length (now map) ≡ mapSize) × (length (now letters)
+        ≡ positions) × (length (now scratch) ≡ places) × (now events ≡ replicate mostBlocks 0) ⌝ }
+    ensures { λ r. ⌜ (r ≡ rebuiltOf (old image) c) × (mountFits (old image) c
+        ≡ true → Rebuilding (old image) c (new map) (new letters) (new scratch) (new events)) ⌝ }
 {
     let highest = replay::replay(image, c, covered, map, letters, scratch, events);
     if !entries_fit(image, map, scratch) {
@@ -141,8 +149,9 @@ pub fn rebuild_record(
     events: &mut [u8],
 ) -> Rebuilt
     requires { ⌜ (sizeRight (now image) ≡ true) × ((e : ℕ) × (kindOf (now image) c ≡ Kind.Commit e covered)) ⌝ }
-    requires { ⌜ (length (now map) ≡ mapSize) × (length (now letters) ≡ positions) × (length (now scratch) ≡ places) × (now events ≡ replicate mostBlocks 0) ⌝ }
-    ensures { λ r. ⌜ (r ≡ rebuiltOf (now (image .entry)) c) × (mountFits (now (image .entry)) c ≡ true → Rebuilding (now (image .entry)) c (now (map .exit)) (now (letters .exit)) (now (scratch .exit)) (now (events .exit))) × (mountFits (now (image .entry)) c ≡ false → Cleared (now (map .exit)) (now (letters .exit)) (now (scratch .exit))) ⌝ }
+    requires { ⌜ (length (now map) ≡ mapSize) × (length (now letters)
+        ≡ positions) × (length (now scratch) ≡ places) × (now events ≡ replicate mostBlocks 0) ⌝ }
+    ensures { λ r. ⌜ (r ≡ rebuiltOf (old image) c) × (mountFits (old image) c ≡ true → Rebuilding (old image) c (new map) (new letters) (new scratch) (new events)) × (mountFits (old image) c ≡ false → Cleared (new map) (new letters) (new scratch)) ⌝ }
 {
     match replay_fit(image, c, covered, map, letters, scratch, events) {
         Rebuilt::Fits(highest) => Rebuilt::Fits(highest),

@@ -10,6 +10,7 @@ ghost use mathlib.Core.Bool.{true};
 ghost use mathlib.Core.List.{map as each};
 ghost use Prim.Native.Nat.{ℕ, _≤_, _<_, _+_, _*_};
 ghost use lib.ListN.{length, set};
+ghost use Rattle.base.specs.Lent.{old, new};
 ghost use Rattle.page.specs.Plan.{filePlan, lastFile, places, countOf, startOf};
 ghost use Rattle.page.specs.Key.{positions};
 ghost use Rattle.page.specs.Header.{lastNumber};
@@ -50,8 +51,9 @@ pub fn keys_block(numbers: Numbers, q: usize) -> u32
 
 // The key of position p, from its slot of the chosen key block.
 pub fn key_held(image: &[u8], numbers: Numbers, p: usize) -> [u8; 16]
-    requires { ⌜ (numbers .keys0 * blockSize + blockSize ≤ length (now image)) × (numbers .keys1 * blockSize + blockSize ≤ length (now image)) ⌝ }
-    ensures { λ r. ⌜ r ≡ keyHeld (now (image .entry)) numbers p ⌝ }
+    requires { ⌜ (numbers .keys0 * blockSize + blockSize ≤ length (now image))
+        × (numbers .keys1 * blockSize + blockSize ≤ length (now image)) ⌝ }
+    ensures { λ r. ⌜ r ≡ keyHeld (old image) numbers p ⌝ }
 {
     keys::key_in_block(
         image,
@@ -62,8 +64,9 @@ pub fn key_held(image: &[u8], numbers: Numbers, p: usize) -> [u8; 16]
 
 // Makes the key of place x deleted, where the place has a node.
 pub fn release(map: &[u16], letters: &mut [u8], x: usize)
-    requires { ⌜ (length (now map) ≡ mapSize) × (length (now letters) ≡ positions) × (x < places) × (live (now map) x ≡ true → keyOf (now map) x < positions) ⌝ }
-    ensures { λ _. ⌜ now (letters .exit) ≡ released (now (map .entry)) (now (letters .entry)) x ⌝ }
+    requires { ⌜ (length (now map) ≡ mapSize) × (length (now letters)
+        ≡ positions) × (x < places) × (live (now map) x ≡ true → keyOf (now map) x < positions) ⌝ }
+    ensures { λ _. ⌜ new letters ≡ released (old map) (old letters) x ⌝ }
 {
     if map[x] == entries::NONE {
         return;
@@ -74,9 +77,11 @@ pub fn release(map: &[u16], letters: &mut [u8], x: usize)
 
 // Puts place x at page g and key position p.
 pub fn set_place(map: &mut [u16], letters: &mut [u8], x: usize, g: usize, p: usize)
-    requires { ⌜ (length (now map) ≡ mapSize) × (length (now letters) ≡ positions) × (x < places) × (live (now map) x ≡ true → keyOf (now map) x < positions) ⌝ }
+    requires { ⌜ (length (now map) ≡ mapSize) × (length (now letters)
+        ≡ positions) × (x < places) × (live (now map) x ≡ true → keyOf (now map) x < positions) ⌝ }
     requires { ⌜ (g < none) × (p < positions) ⌝ }
-    ensures { λ _. ⌜ (now (map .exit) ≡ set (set (now (map .entry)) x g) (places + x) p) × (now (letters .exit) ≡ set (released (now (map .entry)) (now (letters .entry)) x) p usedLetter) ⌝ }
+    ensures { λ _. ⌜ (new map ≡ set (set (old map) x g) (places + x) p)
+        × (new letters ≡ set (released (old map) (old letters) x) p usedLetter) ⌝ }
 {
     release(map, letters, x);
     map[x] = g as u16;
@@ -86,8 +91,10 @@ pub fn set_place(map: &mut [u16], letters: &mut [u8], x: usize, g: usize, p: usi
 
 // Makes place x vacant.
 fn empty_place(map: &mut [u16], letters: &mut [u8], x: usize)
-    requires { ⌜ (length (now map) ≡ mapSize) × (length (now letters) ≡ positions) × (x < places) × (live (now map) x ≡ true → keyOf (now map) x < positions) ⌝ }
-    ensures { λ _. ⌜ (now (map .exit) ≡ set (set (now (map .entry)) x none) (places + x) none) × (now (letters .exit) ≡ released (now (map .entry)) (now (letters .entry)) x) ⌝ }
+    requires { ⌜ (length (now map) ≡ mapSize) × (length (now letters)
+        ≡ positions) × (x < places) × (live (now map) x ≡ true → keyOf (now map) x < positions) ⌝ }
+    ensures { λ _. ⌜ (new map
+        ≡ set (set (old map) x none) (places + x) none) × (new letters ≡ released (old map) (old letters) x) ⌝ }
 {
     release(map, letters, x);
     map[x] = entries::NONE;
@@ -96,8 +103,10 @@ fn empty_place(map: &mut [u16], letters: &mut [u8], x: usize)
 
 // Makes the places of a file vacant from an offset on.
 pub fn remove(map: &mut [u16], letters: &mut [u8], file: u32, offset: u32)
-    requires { ⌜ (length (now map) ≡ mapSize) × (length (now letters) ≡ positions) × Planned file offset × ((x : ℕ) → x < places → live (now map) x ≡ true → keyOf (now map) x < positions) ⌝ }
-    ensures { λ _. ⌜ ((n : RecordNumbers) → recordOf (now (map .exit)) (now (letters .exit)) n ≡ removed (recordOf (now (map .entry)) (now (letters .entry)) n) file offset) ⌝ }
+    requires { ⌜ (length (now map) ≡ mapSize) × (length (now letters) ≡ positions)
+        × Planned file offset × ((x : ℕ) → x < places → live (now map) x ≡ true → keyOf (now map) x < positions) ⌝ }
+    ensures { λ _. ⌜ ((n : RecordNumbers)
+        → recordOf (new map) (new letters) n ≡ removed (recordOf (old map) (old letters) n) file offset) ⌝ }
 {
     let end = place_after(file);
     let mut x = place_at(file, offset);
@@ -110,7 +119,7 @@ pub fn remove(map: &mut [u16], letters: &mut [u8], file: u32, offset: u32)
 // Whether a place of a file from an offset on has a node.
 pub fn any_live(map: &[u16], file: u32, offset: u32) -> bool
     requires { ⌜ (length (now map) ≡ mapSize) × Planned file offset ⌝ }
-    ensures { λ r. ⌜ r ≡ anyLive (now (map .entry)) file offset ⌝ }
+    ensures { λ r. ⌜ r ≡ anyLive (old map) file offset ⌝ }
 {
     let end = place_after(file);
     let mut x = place_at(file, offset);
@@ -135,7 +144,7 @@ fn clean_letter(l: u8) -> u8
 
 // Makes every deleted position free.
 pub fn clean(letters: &mut [u8])
-    ensures { λ _. ⌜ now (letters .exit) ≡ each cleanLetter (now (letters .entry)) ⌝ }
+    ensures { λ _. ⌜ new letters ≡ each cleanLetter (old letters) ⌝ }
 {
     let mut p: usize = 0;
     while p < letters.len() {

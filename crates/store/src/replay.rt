@@ -16,7 +16,7 @@ ghost use mathlib.Core.Bool.{true, cond, _&&_};
 ghost use Prim.Native.Nat.{ℕ, _≤_, _<_, _+_, _*_, _/_, max};
 ghost use lib.ListN.{length, set, replicate};
 ghost use lib.Dec.{eqb, leb, ltb};
-ghost use Rattle.page.specs.Frame.{pageSize};
+ghost use Rattle.base.specs.Lent.{old, new};
 ghost use Rattle.page.specs.Plan.{places};
 ghost use Rattle.page.specs.Header.{inRange, nodeLetter};
 ghost use Rattle.page.specs.Key.{positions};
@@ -30,7 +30,7 @@ ghost use Rattle.store.specs.Replay.{pass, EachPlace, EachLetter, outran
 // The entry of place x in the commit of block c.
 fn entry_in(image: &[u8], c: usize, x: usize) -> Entry
     requires { ⌜ (c * blockSize + blockSize ≤ length (now image)) × (x < places) ⌝ }
-    ensures { λ r. ⌜ r ≡ entryIn (now (image .entry)) c x ⌝ }
+    ensures { λ r. ⌜ r ≡ entryIn (old image) c x ⌝ }
 {
     let g = c * PAGES_IN_BLOCK + entries::entry_part(x);
     entries::entry_in(look::payload_at(image, g), x)
@@ -63,7 +63,8 @@ fn entry_key(entry: Entry) -> u16
 // Puts a sequence, a page and a key at place x.
 fn put_place(map: &mut [u16], scratch: &mut [u32], x: usize, sequence: u32, page: u16, key: u16)
     requires { ⌜ (length (now map) ≡ mapSize) × (length (now scratch) ≡ places) × (x < places) ⌝ }
-    ensures { λ _. ⌜ EachPlace (λ y held. cond (eqb x y) (record { sequence = sequence; page = page; key = key }) held) (now (map .entry)) (now (scratch .entry)) (now (map .exit)) (now (scratch .exit)) ⌝ }
+    ensures { λ _. ⌜ EachPlace (λ y held. cond (eqb x y) (record { sequence = sequence; page = page; key = key }) held)
+        (old map) (old scratch) (new map) (new scratch) ⌝ }
 {
     scratch[x] = sequence;
     map[x] = page;
@@ -72,8 +73,10 @@ fn put_place(map: &mut [u16], scratch: &mut [u32], x: usize, sequence: u32, page
 
 // Puts the commit's entry at every place.
 fn read_entries(image: &[u8], c: usize, map: &mut [u16], scratch: &mut [u32])
-    requires { ⌜ (c * blockSize + blockSize ≤ length (now image)) × (length (now map) ≡ mapSize) × (length (now scratch) ≡ places) ⌝ }
-    ensures { λ _. ⌜ EachPlace (λ x held. byEntry (entryIn (now (image .entry)) c x)) (now (map .entry)) (now (scratch .entry)) (now (map .exit)) (now (scratch .exit)) ⌝ }
+    requires { ⌜ (c * blockSize + blockSize ≤ length (now image))
+        × (length (now map) ≡ mapSize) × (length (now scratch) ≡ places) ⌝ }
+    ensures { λ _. ⌜ EachPlace (λ x held. byEntry (entryIn (old image) c x)) (old map) (old scratch) (new map)
+        (new scratch) ⌝ }
 {
     let mut x: usize = 0;
     while x < PLACES {
@@ -96,7 +99,7 @@ fn unspent(letter: u8) -> u8
 // The letter of position p in the commit of block c.
 fn letter_in(image: &[u8], c: usize, p: usize) -> u8
     requires { ⌜ (c * blockSize + blockSize ≤ length (now image)) × (p < positions) ⌝ }
-    ensures { λ r. ⌜ r ≡ letterIn (now (image .entry)) c p ⌝ }
+    ensures { λ r. ⌜ r ≡ letterIn (old image) c p ⌝ }
 {
     let payload = look::payload_at(image, c * PAGES_IN_BLOCK + p / Frame::PAYLOAD);
     payload[p % Frame::PAYLOAD]
@@ -105,7 +108,8 @@ fn letter_in(image: &[u8], c: usize, p: usize) -> u8
 // Puts at every position the letter that it starts with.
 fn read_letters(image: &[u8], c: usize, letters: &mut [u8])
     requires { ⌜ (c * blockSize + blockSize ≤ length (now image)) × (length (now letters) ≡ positions) ⌝ }
-    ensures { λ _. ⌜ EachLetter (λ p l. cond (eqb (letterIn (now (image .entry)) c p) freeLetter) freeLetter deletedLetter) (now (letters .entry)) (now (letters .exit)) ⌝ }
+    ensures { λ _. ⌜ EachLetter (λ p l. cond (eqb (letterIn (old image) c p) freeLetter) freeLetter deletedLetter)
+        (old letters) (new letters) ⌝ }
 {
     let mut p: usize = 0;
     while p < POSITIONS {
@@ -117,7 +121,12 @@ fn read_letters(image: &[u8], c: usize, letters: &mut [u8])
 // An event gives place x a page and a key, where the place holds no higher sequence.
 fn take_place(map: &mut [u16], scratch: &mut [u32], x: usize, sequence: u32, page: u16, key: u16)
     requires { ⌜ (length (now map) ≡ mapSize) × (length (now scratch) ≡ places) × (x < places) ⌝ }
-    ensures { λ _. ⌜ EachPlace (λ y held. cond (eqb x y) (outranks (record { sequence = sequence; page = page; key = key }) held) held) (now (map .entry)) (now (scratch .entry)) (now (map .exit)) (now (scratch .exit)) ⌝ }
+    ensures { λ _. ⌜ EachPlace (λ y held. cond (eqb x y) (outranks (record {
+      sequence = sequence;
+      page = page;
+      key =
+          key;
+    }) held) held) (old map) (old scratch) (new map) (new scratch) ⌝ }
 {
     if scratch[x] <= sequence {
         put_place(map, scratch, x, sequence, page, key);
@@ -127,7 +136,12 @@ fn take_place(map: &mut [u16], scratch: &mut [u32], x: usize, sequence: u32, pag
 // A cut-off takes the places from first up to end.
 fn remove_places(map: &mut [u16], scratch: &mut [u32], first: usize, end: usize, sequence: u32)
     requires { ⌜ (length (now map) ≡ mapSize) × (length (now scratch) ≡ places) × (first ≤ end) × (end ≤ places) ⌝ }
-    ensures { λ _. ⌜ EachPlace (λ y held. cond (leb first y && ltb y end) (outranks (record { sequence = sequence; page = none; key = none }) held) held) (now (map .entry)) (now (scratch .entry)) (now (map .exit)) (now (scratch .exit)) ⌝ }
+    ensures { λ _. ⌜ EachPlace (λ y held. cond (leb first y && ltb y end) (outranks (record {
+      sequence = sequence;
+      page
+          = none;
+      key = none;
+    }) held) held) (old map) (old scratch) (new map) (new scratch) ⌝ }
 {
     let mut x = first;
     while x < end {
@@ -139,7 +153,8 @@ fn remove_places(map: &mut [u16], scratch: &mut [u32], first: usize, end: usize,
 // What the whole page g with header f gives its places.
 fn apply_event(map: &mut [u16], scratch: &mut [u32], g: usize, f: Frame, covered: u32)
     requires { ⌜ (length (now map) ≡ mapSize) × (length (now scratch) ≡ places) × (g < none) × (inRange f ≡ true) ⌝ }
-    ensures { λ _. ⌜ EachPlace (λ x. decideBy covered x g (Form.Whole f)) (now (map .entry)) (now (scratch .entry)) (now (map .exit)) (now (scratch .exit)) ⌝ }
+    ensures { λ _. ⌜ EachPlace (λ x. decideBy covered x g (Form.Whole f)) (old map) (old scratch) (new map)
+        (new scratch) ⌝ }
 {
     if f.number <= covered {
         return;
@@ -158,8 +173,9 @@ fn apply_event(map: &mut [u16], scratch: &mut [u32], g: usize, f: Frame, covered
 
 // What page g gives its places: only a whole page is an event.
 fn apply(map: &mut [u16], scratch: &mut [u32], g: usize, form: Form, covered: u32)
-    requires { ⌜ (length (now map) ≡ mapSize) × (length (now scratch) ≡ places) × (g < none) × (rangeRight form ≡ true) ⌝ }
-    ensures { λ _. ⌜ EachPlace (λ x. decideBy covered x g form) (now (map .entry)) (now (scratch .entry)) (now (map .exit)) (now (scratch .exit)) ⌝ }
+    requires { ⌜ (length (now map)
+        ≡ mapSize) × (length (now scratch) ≡ places) × (g < none) × (rangeRight form ≡ true) ⌝ }
+    ensures { λ _. ⌜ EachPlace (λ x. decideBy covered x g form) (old map) (old scratch) (new map) (new scratch) ⌝ }
 {
     match form {
         Form::Empty => {}
@@ -172,7 +188,8 @@ fn apply(map: &mut [u16], scratch: &mut [u32], g: usize, form: Form, covered: u3
 // A header of a node above the covered sequence leaves its key deleted.
 fn spend_key(letters: &mut [u8], f: Frame, covered: u32)
     requires { ⌜ (length (now letters) ≡ positions) × (inRange f ≡ true) ⌝ }
-    ensures { λ _. ⌜ EachLetter (λ p l. cond (eqb (f .kind) nodeLetter && ltb covered (f .number) && eqb (f .key) p) deletedLetter l) (now (letters .entry)) (now (letters .exit)) ⌝ }
+    ensures { λ _. ⌜ EachLetter (λ p l. cond (eqb (f .kind) nodeLetter && ltb covered (f .number) && eqb (f .key) p)
+        deletedLetter l) (old letters) (new letters) ⌝ }
 {
     if f.kind != Frame::NODE_LETTER {
         return;
@@ -187,7 +204,7 @@ fn spend_key(letters: &mut [u8], f: Frame, covered: u32)
 // What a page does to the letters: a torn node spends its key as a whole one does.
 fn spend(letters: &mut [u8], form: Form, covered: u32)
     requires { ⌜ (length (now letters) ≡ positions) × (rangeRight form ≡ true) ⌝ }
-    ensures { λ _. ⌜ EachLetter (λ p l. cond (spends covered p form) deletedLetter l) (now (letters .entry)) (now (letters .exit)) ⌝ }
+    ensures { λ _. ⌜ EachLetter (λ p l. cond (spends covered p form) deletedLetter l) (old letters) (new letters) ⌝ }
 {
     match form {
         Form::Empty => {}
@@ -200,7 +217,7 @@ fn spend(letters: &mut [u8], form: Form, covered: u32)
 // Notes the block of page g as one that has an event, where the page is a whole or torn N or D page.
 fn note(events: &mut [u8], g: usize, form: Form)
     requires { ⌜ (length (now events) ≡ mostBlocks) × (g / pagesInBlock < mostBlocks) ⌝ }
-    ensures { λ _. ⌜ now (events .exit) ≡ cond (headed form) (set (now (events .entry)) (g / pagesInBlock) 1) (now (events .entry)) ⌝ }
+    ensures { λ _. ⌜ new events ≡ cond (headed form) (set (old events) (g / pagesInBlock) 1) (old events) ⌝ }
 {
     if kinds::is_headed(form) {
         events[g / PAGES_IN_BLOCK] = 1;
@@ -241,10 +258,11 @@ fn replay_page(
     events: &mut [u8],
 ) -> u32
     requires { ⌜ (sizeRight (now image) ≡ true) × (g < pages (now image)) ⌝ }
-    requires { ⌜ (length (now map) ≡ mapSize) × (length (now letters) ≡ positions) × (length (now scratch) ≡ places) × (length (now events) ≡ mostBlocks) ⌝ }
-    ensures { λ r. ⌜ Passed (now (image .entry)) covered 1 g
-        (pass (now (map .entry)) (now (letters .entry)) (now (scratch .entry)) (now (events .entry)) highest)
-        (pass (now (map .exit)) (now (letters .exit)) (now (scratch .exit)) (now (events .exit)) r) ⌝ }
+    requires { ⌜ (length (now map) ≡ mapSize)
+        × (length (now letters) ≡ positions) × (length (now scratch) ≡ places) × (length (now events) ≡ mostBlocks) ⌝ }
+    ensures { λ r. ⌜ Passed (old image) covered 1 g
+        (pass (old map) (old letters) (old scratch) (old events) highest)
+        (pass (new map) (new letters) (new scratch) (new events) r) ⌝ }
 {
     if !kinds::is_event_letter(image[g * Frame::PAGE]) {
         return highest;
@@ -266,10 +284,11 @@ fn replay_pages(
     events: &mut [u8],
 ) -> u32
     requires { ⌜ sizeRight (now image) ≡ true ⌝ }
-    requires { ⌜ (length (now map) ≡ mapSize) × (length (now letters) ≡ positions) × (length (now scratch) ≡ places) × (length (now events) ≡ mostBlocks) ⌝ }
-    ensures { λ r. ⌜ Passed (now (image .entry)) covered (pages (now (image .entry))) 0
-        (pass (now (map .entry)) (now (letters .entry)) (now (scratch .entry)) (now (events .entry)) 0)
-        (pass (now (map .exit)) (now (letters .exit)) (now (scratch .exit)) (now (events .exit)) r) ⌝ }
+    requires { ⌜ (length (now map) ≡ mapSize)
+        × (length (now letters) ≡ positions) × (length (now scratch) ≡ places) × (length (now events) ≡ mostBlocks) ⌝ }
+    ensures { λ r. ⌜ Passed (old image) covered (pages (old image)) 0
+        (pass (old map) (old letters) (old scratch) (old events) 0)
+        (pass (new map) (new letters) (new scratch) (new events) r) ⌝ }
 {
     let n = image.len() / Frame::PAGE;
     let mut highest: u32 = 0;
@@ -292,8 +311,9 @@ pub fn replay(
     events: &mut [u8],
 ) -> u32
     requires { ⌜ (sizeRight (now image) ≡ true) × ((e : ℕ) × (kindOf (now image) c ≡ Kind.Commit e covered)) ⌝ }
-    requires { ⌜ (length (now map) ≡ mapSize) × (length (now letters) ≡ positions) × (length (now scratch) ≡ places) × (now events ≡ replicate mostBlocks 0) ⌝ }
-    ensures { λ r. ⌜ Replayed (now (image .entry)) c (pass (now (map .exit)) (now (letters .exit)) (now (scratch .exit)) (now (events .exit)) r) ⌝ }
+    requires { ⌜ (length (now map) ≡ mapSize) × (length (now letters)
+        ≡ positions) × (length (now scratch) ≡ places) × (now events ≡ replicate mostBlocks 0) ⌝ }
+    ensures { λ r. ⌜ Replayed (old image) c (pass (new map) (new letters) (new scratch) (new events) r) ⌝ }
 {
     read_entries(image, c, map, scratch);
     read_letters(image, c, letters);

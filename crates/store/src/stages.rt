@@ -16,6 +16,7 @@ ghost use mathlib.Core.Bool.{true, cond, _&&_};
 ghost use Prim.Native.Nat.{ℕ, _≤_, _<_, _+_, _*_, _/_};
 ghost use lib.ListN.{length, getD, set, replicate};
 ghost use lib.Dec.{eqb, ltb};
+ghost use Rattle.base.specs.Lent.{old, new};
 ghost use Rattle.base.specs.Search.{whichFrom};
 ghost use Rattle.page.specs.Key.{positions};
 ghost use Rattle.page.specs.Header.{lastNumber};
@@ -27,7 +28,6 @@ ghost use Rattle.store.specs.Record.{mapSize};
 ghost use Rattle.store.specs.Outcome.{answered};
 ghost use Rattle.store.specs.declared.Reply.the-variants.{Done, PowerCut};
 ghost use Rattle.store.specs.Format.{noiseSize};
-ghost use Rattle.store.specs.Write.{keysBlock};
 ghost use Rattle.store.specs.Stages.{isSpare, lowestSpare, atWork, begun, keysMoved, commitMoved, hasLive, erases, unusedErases, renewed, Able};
 
 // A call at work: the power that is left, and the record's numbers so far.
@@ -64,7 +64,7 @@ pub fn answer(p: Progress) -> Answer
 // Whether block b is spare: not chosen now, and chosen when the call began, so erased since, or empty.
 fn is_spare(image: &[u8], first: Numbers, numbers: Numbers, b: usize) -> bool
     requires { ⌜ b * blockSize + blockSize ≤ length (now image) ⌝ }
-    ensures { λ r. ⌜ r ≡ isSpare (now (image .entry)) first numbers b ⌝ }
+    ensures { λ r. ⌜ r ≡ isSpare (old image) first numbers b ⌝ }
 {
     if kinds::is_chosen(numbers, b) {
         return false;
@@ -77,7 +77,7 @@ fn is_spare(image: &[u8], first: Numbers, numbers: Numbers, b: usize) -> bool
 
 // The lowest spare block, or the number of blocks where there is none.
 fn lowest_spare(image: &[u8], first: Numbers, numbers: Numbers) -> usize
-    ensures { λ r. ⌜ r ≡ lowestSpare (now (image .entry)) first numbers ⌝ }
+    ensures { λ r. ⌜ r ≡ lowestSpare (old image) first numbers ⌝ }
 {
     let n = image.len() / BLOCK_SIZE;
     let mut b = 0;
@@ -101,7 +101,7 @@ fn replace_keys(
 ) -> Progress
     requires { ⌜ Able (now image) first (p .numbers) × (q < 2) ⌝ }
     requires { ⌜ (length (now letters) ≡ positions) × (length (now noise) ≡ noiseSize) ⌝ }
-    ensures { λ r. ⌜ atWork r (now (image .exit)) ≡ keysMoved (now (letters .entry)) (now (noise .entry)) first q (atWork p (now (image .entry))) ⌝ }
+    ensures { λ r. ⌜ atWork r (new image) ≡ keysMoved (old letters) (old noise) first q (atWork p (old image)) ⌝ }
 {
     let numbers = p.numbers;
     let b = lowest_spare(image, first, numbers);
@@ -133,7 +133,7 @@ pub fn replace_commit(
 ) -> Progress
     requires { ⌜ Able (now image) first (p .numbers) × (1 ≤ p .numbers .sequence) ⌝ }
     requires { ⌜ (length (now map) ≡ mapSize) × (length (now letters) ≡ positions) ⌝ }
-    ensures { λ r. ⌜ atWork r (now (image .exit)) ≡ commitMoved (now (map .entry)) (now (letters .entry)) first (atWork p (now (image .entry))) ⌝ }
+    ensures { λ r. ⌜ atWork r (new image) ≡ commitMoved (old map) (old letters) first (atWork p (old image)) ⌝ }
 {
     let numbers = p.numbers;
     let b = lowest_spare(image, first, numbers);
@@ -155,7 +155,7 @@ pub fn replace_commit(
 
 // Marks the block of a page; that of none is past the table.
 fn mark(marked: &mut [u8], page: u16)
-    ensures { λ _. ⌜ now (marked .exit) ≡ set (now (marked .entry)) (page / pagesInBlock) 1 ⌝ }
+    ensures { λ _. ⌜ new marked ≡ set (old marked) (page / pagesInBlock) 1 ⌝ }
 {
     let b = page as usize / PAGES_IN_BLOCK;
     if marked.len() <= b {
@@ -167,7 +167,8 @@ fn mark(marked: &mut [u8], page: u16)
 // Marks the blocks that have a live page.
 fn mark_live(map: &[u16], marked: &mut [u8])
     requires { ⌜ (length (now map) ≡ mapSize) × (now marked ≡ replicate mostBlocks 0) ⌝ }
-    ensures { λ _. ⌜ (length (now (marked .exit)) ≡ mostBlocks) × ((b : ℕ) → b < mostBlocks → hasLive (now (map .entry)) b ≡ ltb 0 (getD (now (marked .exit)) b 0)) ⌝ }
+    ensures { λ _. ⌜ (length (new marked)
+        ≡ mostBlocks) × ((b : ℕ) → b < mostBlocks → hasLive (old map) b ≡ ltb 0 (getD (new marked) b 0)) ⌝ }
 {
     let mut x: usize = 0;
     while x < PLACES {
@@ -179,7 +180,8 @@ fn mark_live(map: &[u16], marked: &mut [u8])
 // Erases block b if it is a data block and not marked.
 fn erase_unmarked(image: &mut [u8], numbers: Numbers, b: usize, mark: u8, p: Power) -> Power
     requires { ⌜ b * blockSize + blockSize ≤ length (now image) ⌝ }
-    ensures { λ r. ⌜ device r (now (image .exit)) ≡ cond (eqb mark 0 && isData (now (image .entry)) numbers b) (act (erase b) (device p (now (image .entry)))) (device p (now (image .entry))) ⌝ }
+    ensures { λ r. ⌜ device r (new image) ≡ cond (eqb mark 0 && isData (old image) numbers b) (act (erase b)
+        (device p (old image))) (device p (old image)) ⌝ }
 {
     if mark != 0 {
         return p;
@@ -193,7 +195,8 @@ fn erase_unmarked(image: &mut [u8], numbers: Numbers, b: usize, mark: u8, p: Pow
 // Erases the data blocks that are not marked, in order.
 fn erase_all_unmarked(image: &mut [u8], numbers: Numbers, marked: &[u8], p: Power) -> Power
     requires { ⌜ (blocksIn (now image) ≤ mostBlocks) × (length (now marked) ≡ mostBlocks) ⌝ }
-    ensures { λ r. ⌜ device r (now (image .exit)) ≡ run (erases (whichFrom (λ b. eqb (getD (now (marked .entry)) b 0) 0 && isData (now (image .entry)) numbers b) (blocksIn (now (image .entry))) 0)) (device p (now (image .entry))) ⌝ }
+    ensures { λ r. ⌜ device r (new image) ≡ run (erases (whichFrom (λ b. eqb (getD (old marked) b 0) 0 && isData
+        (old image) numbers b) (blocksIn (old image)) 0)) (device p (old image)) ⌝ }
 {
     let n = image.len() / BLOCK_SIZE;
     let mut q = p;
@@ -208,7 +211,7 @@ fn erase_all_unmarked(image: &mut [u8], numbers: Numbers, marked: &[u8], p: Powe
 // Erases the data blocks without a live page, in order.
 fn erase_unused(image: &mut [u8], map: &[u16], numbers: Numbers, p: Power) -> Power
     requires { ⌜ (sizeRight (now image) ≡ true) × (length (now map) ≡ mapSize) ⌝ }
-    ensures { λ r. ⌜ device r (now (image .exit)) ≡ run (unusedErases (now (map .entry)) numbers (now (image .entry))) (device p (now (image .entry))) ⌝ }
+    ensures { λ r. ⌜ device r (new image) ≡ run (unusedErases (old map) numbers (old image)) (device p (old image)) ⌝ }
 {
     let mut marked = [0u8; 256];
     mark_live(map, &mut marked);
@@ -224,10 +227,12 @@ pub fn renew(
     first: Numbers,
     p: Progress,
 ) -> Progress
-    requires { ⌜ Able (now image) first (p .numbers) × (isChosen first (p .numbers .keys0) ≡ true) × (isChosen first (p .numbers .keys1) ≡ true) ⌝ }
+    requires { ⌜ Able (now image) first (p .numbers)
+        × (isChosen first (p .numbers .keys0) ≡ true) × (isChosen first (p .numbers .keys1) ≡ true) ⌝ }
     requires { ⌜ (1 ≤ p .numbers .sequence) × (p .numbers .epoch ≤ lastNumber) ⌝ }
-    requires { ⌜ (length (now map) ≡ mapSize) × (length (now letters) ≡ positions) × (length (now noise) ≡ noiseSize) ⌝ }
-    ensures { λ r. ⌜ atWork r (now (image .exit)) ≡ renewed (now (map .entry)) (now (letters .entry)) (now (noise .entry)) first (atWork p (now (image .entry))) ⌝ }
+    requires { ⌜ (length (now map)
+        ≡ mapSize) × (length (now letters) ≡ positions) × (length (now noise) ≡ noiseSize) ⌝ }
+    ensures { λ r. ⌜ atWork r (new image) ≡ renewed (old map) (old letters) (old noise) first (atWork p (old image)) ⌝ }
 {
     let keys0 = replace_keys(image, letters, noise, first, p, 0);
     let keys1 = replace_keys(image, letters, noise, first, keys0, 1);

@@ -9,6 +9,7 @@ ghost use mathlib.Core.Bool.{cond, _||_};
 ghost use mathlib.Core.List.{map};
 ghost use Prim.Native.Nat.{ℕ, _≤_, _<_, _+_, _*_};
 ghost use lib.ListN.{length, getD};
+ghost use Rattle.base.specs.Lent.{old, new};
 ghost use Rattle.base.specs.Search.{whichFrom};
 ghost use Rattle.image.specs.Size.{blockSize, mostBlocks, blocks};
 ghost use Rattle.image.specs.Look.{blockEmpty};
@@ -20,7 +21,8 @@ ghost use Rattle.store.specs.Mount.{isStray};
 // Erases block b, unless it is kept or empty.
 fn erase_unless(image: &mut [u8], b: usize, kept: bool, p: Power) -> Power
     requires { ⌜ b * blockSize + blockSize ≤ length (now image) ⌝ }
-    ensures { λ r. ⌜ device r (now (image .exit)) ≡ cond (kept || blockEmpty (now (image .entry)) b) (device p (now (image .entry))) (act (erase b) (device p (now (image .entry)))) ⌝ }
+    ensures { λ r. ⌜ device r (new image)
+        ≡ cond (kept || blockEmpty (old image) b) (device p (old image)) (act (erase b) (device p (old image))) ⌝ }
 {
     if kept {
         return p;
@@ -33,8 +35,10 @@ fn erase_unless(image: &mut [u8], b: usize, kept: bool, p: Power) -> Power
 
 // Erases the strays, in order. The events say of each block, by 1 or 0, whether it has a whole or torn N or D page.
 pub fn erase_strays(image: &mut [u8], events: &[u8], numbers: Numbers, p: Power) -> Power
-    requires { ⌜ (blocks (now image) ≤ mostBlocks) × (length (now events) ≡ mostBlocks) × ((b : ℕ) → b < blocks (now image) → getD (now events) b 0 ≡ cond (hasEvents (now image) b) 1 0) ⌝ }
-    ensures { λ r. ⌜ device r (now (image .exit)) ≡ run (map erase (whichFrom (isStray (now (image .entry)) numbers) (blocks (now (image .entry))) 0)) (device p (now (image .entry))) ⌝ }
+    requires { ⌜ (blocks (now image) ≤ mostBlocks) × (length (now events) ≡ mostBlocks)
+        × ((b : ℕ) → b < blocks (now image) → getD (now events) b 0 ≡ cond (hasEvents (now image) b) 1 0) ⌝ }
+    ensures { λ r. ⌜ device r (new image)
+        ≡ run (map erase (whichFrom (isStray (old image) numbers) (blocks (old image)) 0)) (device p (old image)) ⌝ }
 {
     let n = image.len() / look::BLOCK_SIZE;
     let mut q = p;

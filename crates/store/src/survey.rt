@@ -6,6 +6,7 @@ use image::look::BLOCK_SIZE;
 ghost use mathlib.Core.Path.{_≡_};
 ghost use Prim.Native.Nat.{_%_, max};
 ghost use lib.ListN.{length};
+ghost use Rattle.base.specs.Lent.{old};
 ghost use Rattle.image.specs.Size.{blockSize, blocks};
 ghost use Rattle.store.specs.Find.{isFound, foundAt};
 ghost use Rattle.store.specs.Survey.{noBest, betterBy, coveredNext, epochIn, noSurvey, surveyNext, surveyOf};
@@ -132,7 +133,7 @@ fn survey_next(s: Survey, b: usize, kind: Kind) -> Survey
 // Passes over the blocks; the kind of each is worked out once.
 pub fn survey_blocks(image: &[u8]) -> Survey
     requires { ⌜ length (now image) % blockSize ≡ 0 ⌝ }
-    ensures { λ r. ⌜ r ≡ surveyOf (now (image .entry)) (blocks (now (image .entry))) ⌝ }
+    ensures { λ r. ⌜ r ≡ surveyOf (old image) (blocks (old image)) ⌝ }
 {
     let n = image.len() / BLOCK_SIZE;
     let mut s = no_survey();

@@ -14,6 +14,7 @@ use page::plan::MAP_SIZE;
 ghost use mathlib.Core.Path.{_≡_};
 ghost use mathlib.Core.Bool.{true};
 ghost use Prim.Native.Nat.{_≤_};
+ghost use Rattle.base.specs.Lent.{old};
 ghost use Rattle.page.specs.Header.{lastNumber};
 ghost use Rattle.image.specs.Size.{sizeRight};
 ghost use Rattle.store.specs.Reply.{verdict};
@@ -25,14 +26,14 @@ ghost use Rattle.store.specs.Taken.{Buffers};
 
 // Whether map and letters have the right lengths.
 pub fn buffers_right(map: &[u16], letters: &[u8]) -> bool
-    ensures { λ r. ⌜ r ≡ buffersRight (now (map .entry)) (now (letters .entry)) ⌝ }
+    ensures { λ r. ⌜ r ≡ buffersRight (old map) (old letters) ⌝ }
 {
     (map.len() == MAP_SIZE) & (letters.len() == POSITIONS)
 }
 
 // The tests of what every call is lent, in order.
 fn refuse_lent(image: &[u8], map: &[u16], letters: &[u8]) -> Reply
-    ensures { λ r. ⌜ r ≡ verdict (lentTests (now (image .entry)) (now (map .entry)) (now (letters .entry))) ⌝ }
+    ensures { λ r. ⌜ r ≡ verdict (lentTests (old image) (old map) (old letters)) ⌝ }
 {
     if !look::size_right(image) {
         return Reply::ImageSize;
@@ -58,7 +59,7 @@ pub fn refuse_plan(file: u32, offset: u32) -> Reply
 
 // The tests that write, read and cut-off begin with, in order.
 pub fn refuse_place(image: &[u8], map: &[u16], letters: &[u8], file: u32, offset: u32) -> Reply
-    ensures { λ r. ⌜ r ≡ verdict (placeTests (now (image .entry)) (now (map .entry)) (now (letters .entry)) file offset) ⌝ }
+    ensures { λ r. ⌜ r ≡ verdict (placeTests (old image) (old map) (old letters) file offset) ⌝ }
 {
     let reply = refuse_lent(image, map, letters);
     if !replies::is_done(reply) {
@@ -69,7 +70,7 @@ pub fn refuse_place(image: &[u8], map: &[u16], letters: &[u8], file: u32, offset
 
 // The tests that format, commit and wipe begin with, in order.
 pub fn refuse_noise(image: &[u8], map: &[u16], letters: &[u8], noise: &[u8]) -> Reply
-    ensures { λ r. ⌜ r ≡ verdict (formatTests (now (image .entry)) (now (map .entry)) (now (letters .entry)) (now (noise .entry))) ⌝ }
+    ensures { λ r. ⌜ r ≡ verdict (formatTests (old image) (old map) (old letters) (old noise)) ⌝ }
 {
     let reply = refuse_lent(image, map, letters);
     if !replies::is_done(reply) {
@@ -90,7 +91,7 @@ pub fn refuse_renewal(
     more: u32,
 ) -> Reply
     requires { ⌜ (sizeRight (now image) ≡ true) × Buffers (now map) (now letters) × (more ≤ lastNumber) ⌝ }
-    ensures { λ r. ⌜ r ≡ verdict (renewalTests (now (image .entry)) (recordOf (now (map .entry)) (now (letters .entry)) numbers) more) ⌝ }
+    ensures { λ r. ⌜ r ≡ verdict (renewalTests (old image) (recordOf (old map) (old letters) numbers) more) ⌝ }
 {
     if !fit::fits(image, map, letters, numbers) {
         return Reply::RecordUnfit;
@@ -114,7 +115,8 @@ pub fn refuse_node(
     offset: u32,
     buffer: &[u8],
 ) -> Reply
-    ensures { λ r. ⌜ r ≡ verdict (nodeTests (now (image .entry)) (recordOf (now (map .entry)) (now (letters .entry)) numbers) file offset (now (buffer .entry))) ⌝ }
+    ensures { λ r. ⌜ r
+        ≡ verdict (nodeTests (old image) (recordOf (old map) (old letters) numbers) file offset (old buffer)) ⌝ }
 {
     let reply = refuse_place(image, map, letters, file, offset);
     if !replies::is_done(reply) {

@@ -11,13 +11,14 @@ use crate::tests;
 ghost use mathlib.Core.Path.{_≡_};
 ghost use mathlib.Core.List.{[]};
 ghost use Prim.Native.Nat.{_≤_};
+ghost use Rattle.base.specs.Lent.{old, new};
 ghost use Rattle.page.specs.Header.{lastNumber};
 ghost use Rattle.image.specs.Look.{emptyBlocks};
 ghost use Rattle.image.specs.Power.{powerFor};
 ghost use Rattle.store.specs.Reply.{verdict};
 ghost use Rattle.store.specs.Record.{recordOf};
 ghost use Rattle.store.specs.Outcome.{left, leftWhole, standing};
-ghost use Rattle.store.specs.Wipe.{removedFirst, wipeTests, wipeOf};
+ghost use Rattle.store.specs.Wipe.{removedFirst, wipeTests, wipeLeaves};
 ghost use Rattle.store.specs.Stages.{atWork, after};
 ghost use Rattle.store.specs.Taken.{Ready, Planned, WipeTaken};
 
@@ -31,7 +32,8 @@ fn refuse_wipe(
     file: u32,
     offset: u32,
 ) -> Reply
-    ensures { λ r. ⌜ r ≡ verdict (wipeTests (now (image .entry)) (recordOf (now (map .entry)) (now (letters .entry)) numbers) (now (noise .entry)) file offset) ⌝ }
+    ensures { λ r. ⌜ r
+        ≡ verdict (wipeTests (old image) (recordOf (old map) (old letters) numbers) (old noise) file offset) ⌝ }
 {
     let reply = tests::refuse_noise(image, map, letters, noise);
     if !replies::is_done(reply) {
@@ -55,8 +57,9 @@ fn shorten(
     n: u64,
     k: usize,
 ) -> Progress
-    requires { ⌜ Ready (now image) (recordOf (now map) (now letters) numbers) × Planned file offset × (numbers .epoch ≤ lastNumber) × (1 ≤ emptyBlocks (now image)) ⌝ }
-    ensures { λ r. ⌜ (atWork r (now (image .exit)) ≡ after (powerFor n k) (now (image .entry)) (removedFirst (now (image .entry)) (recordOf (now (map .entry)) (now (letters .entry)) numbers) file offset)) × (recordOf (now (map .exit)) (now (letters .exit)) (r .numbers) ≡ removedFirst (now (image .entry)) (recordOf (now (map .entry)) (now (letters .entry)) numbers) file offset .after) ⌝ }
+    requires { ⌜ Ready (now image) (recordOf (now map) (now letters) numbers)
+        × Planned file offset × (numbers .epoch ≤ lastNumber) × (1 ≤ emptyBlocks (now image)) ⌝ }
+    ensures { λ r. ⌜ (atWork r (new image) ≡ after (powerFor n k) (old image) (removedFirst (old image) (recordOf (old map) (old letters) numbers) file offset)) × (recordOf (new map) (new letters) (r .numbers) ≡ removedFirst (old image) (recordOf (old map) (old letters) numbers) file offset .after) ⌝ }
 {
     record::remove(map, letters, file, offset);
     let begun = stages::begin(numbers, n, k);
@@ -82,7 +85,8 @@ fn wipe_taken(
     k: usize,
 ) -> Answer
     requires { ⌜ WipeTaken (now image) (recordOf (now map) (now letters) numbers) (now noise) file offset ⌝ }
-    ensures { λ r. ⌜ standing r (now (image .exit)) (now (map .exit)) (now (letters .exit)) [] ≡ left n k (wipeOf (now (image .entry)) (recordOf (now (map .entry)) (now (letters .entry)) numbers) (now (noise .entry)) file offset) (now (image .entry)) ⌝ }
+    ensures { λ r. ⌜ standing r (new image) (new map) (new letters) []
+        ≡ wipeLeaves (left n k) (old image) (old map) (old letters) numbers (old noise) file offset ⌝ }
 {
     let shorter = shorten(image, map, letters, numbers, file, offset, n, k);
     stages::answer(stages::renew(image, map, letters, noise, numbers, shorter))
@@ -100,7 +104,8 @@ pub fn wipe_cut(
     n: u64,
     k: usize,
 ) -> Answer
-    ensures { λ r. ⌜ standing r (now (image .exit)) (now (map .exit)) (now (letters .exit)) [] ≡ left n k (wipeOf (now (image .entry)) (recordOf (now (map .entry)) (now (letters .entry)) numbers) (now (noise .entry)) file offset) (now (image .entry)) ⌝ }
+    ensures { λ r. ⌜ standing r (new image) (new map) (new letters) []
+        ≡ wipeLeaves (left n k) (old image) (old map) (old letters) numbers (old noise) file offset ⌝ }
 {
     let reply = refuse_wipe(image, map, letters, numbers, noise, file, offset);
     if !replies::is_done(reply) {
@@ -119,7 +124,8 @@ pub fn wipe(
     file: u32,
     offset: u32,
 ) -> Answer
-    ensures { λ r. ⌜ standing r (now (image .exit)) (now (map .exit)) (now (letters .exit)) [] ≡ leftWhole (wipeOf (now (image .entry)) (recordOf (now (map .entry)) (now (letters .entry)) numbers) (now (noise .entry)) file offset) (now (image .entry)) ⌝ }
+    ensures { λ r. ⌜ standing r (new image) (new map) (new letters) []
+        ≡ wipeLeaves leftWhole (old image) (old map) (old letters) numbers (old noise) file offset ⌝ }
 {
     wipe_cut(image, map, letters, numbers, noise, file, offset, ENOUGH, 0)
 }

@@ -1,10 +1,13 @@
 // The store for C: each call over numbers and lent slices, with its reply as a number.
 use store::Answer;
 use store::Numbers;
+use store::commit;
 use store::cut_off;
 use store::format;
+use store::mount;
 use store::read;
 use store::replies;
+use store::wipe;
 use store::write;
 ghost use mathlib.Core.Path.{_≡_};
 ghost use mathlib.Core.List.{[]};
@@ -13,7 +16,10 @@ ghost use Rattle.store.specs.Reply.{numberOf};
 ghost use Rattle.store.specs.Outcome.{left, leftWhole};
 ghost use Rattle.store.specs.Format.{formatLeaves};
 ghost use Rattle.store.specs.Read.{readLeaves};
+ghost use Rattle.store.specs.Mount.{mountLeaves};
 ghost use Rattle.store.specs.CutOff.{cutOffLeaves};
+ghost use Rattle.store.specs.Commit.{commitLeaves};
+ghost use Rattle.store.specs.Wipe.{wipeLeaves};
 ghost use Rattle.store.specs.Write.{writeLeaves};
 ghost use Rattle.recorder.specs.Face.{numbersOf, fiveOf, faced, face};
 
@@ -168,5 +174,116 @@ pub extern "C" fn johvimaru_cut_off_cut(
 {
     let before = numbers_of(five);
     let answer = cut_off::cut_off_cut(image, map, letters, before, file, offset, n, k);
+    hand_over(answer, five)
+}
+
+// Mounts the image: makes the record that its pages say, and erases what a power failure left over. Where it is refused the
+// numbers become 0.
+#[no_mangle]
+pub extern "C" fn johvimaru_mount(
+    image: &mut [u8],
+    map: &mut [u16],
+    letters: &mut [u8],
+    five: &mut [u32; 5],
+    scratch: &mut [u32],
+) -> u32
+    ensures { λ r. ⌜ faced r (new image) (new map) (new letters) (new five) (new scratch)
+        ≡ face (mountLeaves leftWhole (old image) (old map) (old letters) (old scratch)) ⌝ }
+{
+    let answer = mount::mount(image, map, letters, scratch);
+    hand_over(answer, five)
+}
+
+// A mount of which the power lasts for n steps and the first k bytes of the next.
+#[no_mangle]
+pub extern "C" fn johvimaru_mount_cut(
+    image: &mut [u8],
+    map: &mut [u16],
+    letters: &mut [u8],
+    five: &mut [u32; 5],
+    scratch: &mut [u32],
+    n: u64,
+    k: usize,
+) -> u32
+    ensures { λ r. ⌜ faced r (new image) (new map) (new letters) (new five) (new scratch)
+        ≡ face (mountLeaves (left n k) (old image) (old map) (old letters) (old scratch)) ⌝ }
+{
+    let answer = mount::mount_cut(image, map, letters, scratch, n, k);
+    hand_over(answer, five)
+}
+
+// Commits: gives every position that is not used a key from the noise, and erases the data blocks without a live page.
+#[no_mangle]
+pub extern "C" fn johvimaru_commit(
+    image: &mut [u8],
+    map: &mut [u16],
+    letters: &mut [u8],
+    five: &mut [u32; 5],
+    noise: &[u8],
+) -> u32
+    ensures { λ r. ⌜ faced r (new image) (new map) (new letters) (new five) []
+        ≡ face (commitLeaves leftWhole (old image) (old map) (old letters) (numbersOf (old five)) (old noise)) ⌝ }
+{
+    let before = numbers_of(five);
+    let answer = commit::commit(image, map, letters, before, noise);
+    hand_over(answer, five)
+}
+
+// A commit of which the power lasts for n steps and the first k bytes of the next.
+#[no_mangle]
+pub extern "C" fn johvimaru_commit_cut(
+    image: &mut [u8],
+    map: &mut [u16],
+    letters: &mut [u8],
+    five: &mut [u32; 5],
+    noise: &[u8],
+    n: u64,
+    k: usize,
+) -> u32
+    ensures { λ r. ⌜ faced r (new image) (new map) (new letters) (new five) []
+        ≡ face (commitLeaves (left n k) (old image) (old map) (old letters) (numbersOf (old five)) (old noise)) ⌝ }
+{
+    let before = numbers_of(five);
+    let answer = commit::commit_cut(image, map, letters, before, noise, n, k);
+    hand_over(answer, five)
+}
+
+// Removes the nodes of a file from an offset on, and commits: their keys are gone.
+#[no_mangle]
+pub extern "C" fn johvimaru_wipe(
+    image: &mut [u8],
+    map: &mut [u16],
+    letters: &mut [u8],
+    five: &mut [u32; 5],
+    noise: &[u8],
+    file: u32,
+    offset: u32,
+) -> u32
+    ensures { λ r. ⌜ faced r (new image) (new map) (new letters) (new five) [] ≡ face (wipeLeaves leftWhole
+        (old image) (old map) (old letters) (numbersOf (old five)) (old noise) file offset) ⌝ }
+{
+    let before = numbers_of(five);
+    let answer = wipe::wipe(image, map, letters, before, noise, file, offset);
+    hand_over(answer, five)
+}
+
+// A wipe of which the power lasts for n steps and the first k bytes of the next.
+#[no_mangle]
+pub extern "C" fn johvimaru_wipe_cut(
+    image: &mut [u8],
+    map: &mut [u16],
+    letters: &mut [u8],
+    five: &mut [u32; 5],
+    noise: &[u8],
+    file: u32,
+    offset: u32,
+    n: u64,
+    k: usize,
+) -> u32
+    ensures { λ r. ⌜ faced r (new image) (new map) (new letters) (new five) [] ≡ face (wipeLeaves (left n k)
+        (old image) (old map) (old letters) (numbersOf (old five)) (old noise) file offset) ⌝ }
+{
+    let before = numbers_of(five);
+    let answer = wipe::wipe_cut(image, map, letters, before, noise, file, offset, n, k);
     hand_over(answer, five)
 }

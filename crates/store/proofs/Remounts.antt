@@ -6,12 +6,12 @@ use mathlib.Core.Logic.{_⊎_, inl, inr}
 use mathlib.Core.Bool.{Bool, true, false, not, _||_, or-true}
 use mathlib.Core.List.{List, [], map as each}
 use lib.Dec.{eqb}
-use lib.ListN.{length, getD}
+use lib.ListN.{length}
 use borrow.Author.Tests.{eq-eqb}
 use Rattle.base.specs.Search.{whichFrom, highestFrom}
 use Rattle.base.specs.Fold.{listFrom}
 use Rattle.base.proofs.Choice.{true-false}
-use Rattle.base.proofs.Searches.{all-agree, any-agree, which-agree, highest-agree, highest-bounds, highest-least}
+use Rattle.base.proofs.Searches.{all-agree, any-agree, highest-agree, highest-bounds, highest-least}
 use Rattle.base.proofs.Folds.{fold-agree, listFrom-agree}
 use Rattle.page.specs.Frame.{payloadSize}
 use Rattle.page.specs.Plan.{places}
@@ -20,15 +20,15 @@ use Rattle.page.specs.Entry.{none, entryPart}
 use Rattle.page.specs.declared.Form.{Form}
 use Rattle.image.specs.Size.{pagesInBlock, blocks, pages, sizeRight}
 use Rattle.image.specs.Look.{pageAt, blockAt, blockEmpty, formAt}
-use Rattle.image.specs.Step.{erase, playAll}
+use Rattle.image.specs.Step.{erase}
 use Rattle.image.proofs.Looks.{sized}
 use Rattle.image.proofs.Empties.{block-empty-same}
 use Rattle.image.proofs.Step.{page-of-same}
 use Rattle.image.proofs.Forms.{form-same}
-use Rattle.store.specs.Kind.{pageIn, kindOf, keysEpoch, commitEpoch, coveredBy, headed, isChosen, isData, hasEvents}
-use Rattle.store.specs.Record.{Record, pageOf, placeFits, keysApart, fits}
+use Rattle.store.specs.Kind.{pageIn, kindOf, keysEpoch, commitEpoch, coveredBy, headed, isChosen, hasEvents}
+use Rattle.store.specs.Record.{pageOf, placeFits, fits}
 use Rattle.store.specs.Find.{isFound, foundAt}
-use Rattle.store.specs.Mount.{chosenCommit, chosenKeys, coveredIn, letterIn, entryIn, byEntry, Decision, decideBy, decision, mountMap, mountScratch, entriesFit, spends, isSpent, unusedLetter, mountLetter, sequenceOf, epochOf, mountNumbers, mounted, isStray, mountSteps, mountOf}
+use Rattle.store.specs.Mount.{chosenCommit, chosenKeys, coveredIn, letterIn, entryIn, byEntry, decideBy, decision, mountMap, mountScratch, entriesFit, spends, isSpent, mountLetter, sequenceOf, epochOf, mountNumbers, mounted, isStray, mountSteps, mountOf}
 use Rattle.store.specs.Outcome.{Outcome, leftWhole}
 use Rattle.store.specs.Taken.{Buffers, MountTaken}
 use Rattle.store.specs.declared.Numbers.{Numbers}
@@ -45,7 +45,7 @@ use Rattle.store.proofs.Decisions.{mount-map-agree, mount-scratch-agree
 use Rattle.store.proofs.Mounts.{mounted-fit, mounted-fits}
 use Rattle.store.proofs.Erasures.{stray-is}
 use Rattle.store.proofs.Outcomes.{taken, mount-outcome}
-use Rattle.store.proofs.Sweeps.{Swept, sweep, decide-unheaded, spends-unheaded, sequence-unheaded, kept-page, kept-form, kept-kind, epoch-lowered, headed-kept, form-swept}
+use Rattle.store.proofs.Sweeps.{Swept, sweep, decide-unheaded, spends-unheaded, sequence-unheaded, kept-page, kept-kind, epoch-lowered, headed-kept, form-swept}
 
 -- the blocks that a mount chooses, and the image that it leaves
 abbrev commitAt : List ℕ → ℕ

@@ -1,10 +1,10 @@
 -- One pass over the blocks, block by block: the first state, each step, and what it found at the end.
-use Prim.Native.Nat.{ℕ, _+_, suc, zero, max}
+use Prim.Native.Nat.{ℕ, _+_, suc, max}
 use native.Mathlib.Omega.{arith}
 use native.Mathlib.Nat.{zero-add}
 use native.Mathlib.Numerals.{add-one}
-use mathlib.Core.Path.{_≡_, refl, sym, ap, _∙_}
-use mathlib.Core.Bool.{Bool, true, false, cond}
+use mathlib.Core.Path.{_≡_, sym, ap, _∙_}
+use mathlib.Core.Bool.{cond}
 use mathlib.Core.List.{List}
 use lib.Dec.{ltb}
 use Rattle.base.specs.Search.{highestFrom}
@@ -12,13 +12,12 @@ use Rattle.base.proofs.Choice.{cond-ap}
 use Rattle.base.proofs.Searches.{highest-join}
 use Rattle.store.specs.Kind.{kindOf, keysEpoch, commitEpoch, coveredBy}
 use Rattle.store.specs.Mount.{rankOf, foremost, coveredIn, epochOf}
-use Rattle.store.specs.Survey.{bestOf, coveredAt, surveyOf, noBest, betterBy, coveredNext, noSurvey, surveyNext}
-use Rattle.store.specs.declared.Kind.{Kind}
+use Rattle.store.specs.Survey.{bestOf, coveredAt, surveyOf, noBest, betterBy, noSurvey, surveyNext}
 use Rattle.store.specs.declared.Found.{Found}
-use Rattle.store.specs.declared.Found.the-variants.{At, Nothing}
+use Rattle.store.specs.declared.Found.the-variants.{At}
 use Rattle.store.specs.declared.survey.Best.{Best}
 use Rattle.store.specs.declared.survey.Survey.{Survey}
-use Rattle.store.proofs.Choices.{foremost-none, foremost-next, better}
+use Rattle.store.proofs.Choices.{foremost-none, foremost-next}
 
 -- ---- the highest value, with one number more after the others
 highest-next : (f : ℕ → ℕ) (n : ℕ) → highestFrom f (suc n) 0 ≡ max (highestFrom f n 0) (f n)

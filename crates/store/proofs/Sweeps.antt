@@ -5,7 +5,7 @@ use native.Mathlib.Decide.{decLt}
 use mathlib.Core.Path.{_≡_, refl, sym, ap, _∙_}
 use mathlib.Core.Logic.{_⊎_, inl, inr, ⊎-elim}
 use mathlib.Core.Bool.{Bool, true, false, cond, _&&_, _||_}
-use mathlib.Core.List.{List, [], _∷_, map}
+use mathlib.Core.List.{List, _∷_, map}
 use lib.Dec.{eqb, leb, ltb}
 use lib.ListN.{length, replicate}
 use Rattle.base.specs.Search.{whichFrom}
@@ -13,7 +13,6 @@ use Rattle.base.proofs.Choice.{true-false, cond-same}
 use Rattle.base.proofs.Searches.{any-fails}
 use Rattle.page.specs.Frame.{erased}
 use Rattle.page.specs.Header.{nodeLetter, cutOffLetter}
-use Rattle.page.specs.declared.Frame.{Frame}
 use Rattle.page.specs.declared.Form.{Form}
 use Rattle.page.specs.declared.Form.the-variants.{Empty, Whole, Torn, Spoilt}
 use Rattle.image.specs.Size.{blockSize, pagesInBlock, blocks, pages, sizeRight}
@@ -23,7 +22,7 @@ use Rattle.image.proofs.Step.{whole-length, block-whole-other, block-erase, pag
 use Rattle.image.proofs.Empties.{empty-block-page, block-empty-of}
 use Rattle.image.proofs.Forms.{form-same}
 use Rattle.image.proofs.Looks.{sized}
-use Rattle.store.specs.Kind.{pageIn, kindOf, isEventLetter, headed, hasEvents}
+use Rattle.store.specs.Kind.{pageIn, kindOf, headed, hasEvents}
 use Rattle.store.specs.Mount.{Decision, sets, cuts, decideBy, spends, sequenceOf}
 use Rattle.store.specs.declared.Kind.{Kind}
 use Rattle.store.specs.declared.Kind.the-variants.{Other}

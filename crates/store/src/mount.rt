@@ -23,6 +23,9 @@ ghost use Rattle.store.specs.Mount.{sizeTests, blockTests, mountLeaves};
 ghost use Rattle.store.specs.Survey.{surveyOf, surveyNumbers, Surveyed};
 ghost use Rattle.store.specs.Taken.{MountChosen};
 
+// An image has at most 256 blocks.
+const MOST_BLOCKS: usize = 256;
+
 // The tests of the image's size and of the buffers' lengths, in order.
 fn refuse_sizes(image: &[u8], map: &[u16], letters: &[u8], scratch: &[u32]) -> Reply
     ensures { λ r. ⌜ r ≡ verdict (sizeTests (old image) (old map) (old letters) (old scratch)) ⌝ }
@@ -87,7 +90,7 @@ fn mount_chosen(
     ensures { λ r. ⌜ standing r (new image) (new map) (new letters) (new scratch)
         ≡ mountLeaves (left n k) (old image) (old map) (old letters) (old scratch) ⌝ }
 {
-    let mut events = [0u8; 256];
+    let mut events = [0u8; MOST_BLOCKS];
     let commit = s.commit;
     let Rebuilt::Fits(highest) = rebuild::rebuild_record(
         image,

@@ -1,3 +1,4 @@
+-- Field by field.
 use Rattle.store.specs.Survey.{surveyNext}
 use borrow.Author.Needs.{needs}
 use Rattle.store.proofs.survey.survey_next.Statement.{statement}

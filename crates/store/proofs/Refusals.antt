@@ -74,6 +74,11 @@ module _ (img map letters : List ℕ) {v : Reply} where
       → verdict (formatTests img map letters noise) ≡ verdict (drop 2 (formatTests img map letters noise))
   noise-goes-on noise = passes-first (lentTests img map letters) (drop 2 (formatTests img map letters noise)) (refl, (refl, tt))
 
+pub plan-passed : (file offset : ℕ) {v : Reply} → v ≡ verdict (planTests file offset) → isDone v ≡ true → Planned file offset
+plan-passed file offset e d =
+    let t = verdict-done (planTests file offset) (refl, (refl, tt)) (sym e ∙ done-true _ d) in
+    planned-true file offset (t .0) (t .1 .0)
+
 -- ---- the tests of size, buffers, file and offset
 pub record Placeable (img map letters : List ℕ) (file offset : ℕ) : Type 0 where
   pub size : sizeRight img ≡ true

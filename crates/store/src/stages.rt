@@ -200,7 +200,7 @@ fn erase_all_unmarked(image: &mut [u8], numbers: Numbers, marked: &[u8], p: Powe
 {
     let n = image.len() / BLOCK_SIZE;
     let mut q = p;
-    let mut b = 0;
+    let mut b: usize = 0;
     while b < n {
         q = erase_unmarked(image, numbers, b, marked[b], q);
         b += 1;

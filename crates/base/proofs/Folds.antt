@@ -3,9 +3,11 @@ use Prim.Native.Nat.{ℕ, zero, suc, _+_, _-_, _<_, _≤_}
 use native.Mathlib.Omega.{arith}
 use native.Mathlib.Nat.{add-zero, zero-add}
 use native.Mathlib.Numerals.{add-one}
+use native.Mathlib.Decide.{decLt}
 use mathlib.Core.Path.{_≡_, refl, ap, subst, _∙_}
-use mathlib.Core.List.{[], _∷_}
-use lib.ListN.{length, getD}
+use mathlib.Core.List.{List, [], _∷_}
+use lib.ListN.{length, getD, set}
+use lib.Seq.{getD-set-same, getD-set-other}
 use Rattle.base.specs.Fold.{foldFrom, listFrom}
 
 module _ {S : Type 0} (f : ℕ → S → S) (n i : ℕ) (s : S) where
@@ -79,3 +81,21 @@ pub fold-last : {S : Type 0} (f : ℕ → S → S) (n i : ℕ) (s : S) → foldF
 unfolding foldFrom
 fold-last f zero i s = rw add-zero
 fold-last f (suc n) i s = let k : i + suc n ≡ suc i + n = omega arith in rw k (fold-last f n (suc i) (f i s))
+
+-- a fold over a row and then over the next
+pub fold-join : {S : Type 0} (f : ℕ → S → S) (m n i : ℕ) (s : S) → foldFrom f (m + n) i s ≡ foldFrom f n (i + m) (foldFrom f m i s)
+unfolding foldFrom
+fold-join f zero n i s = rw (zero-add, add-zero)
+fold-join f (suc m) n i s =
+    let k : suc m + n ≡ suc (m + n) = omega arith in
+    let l : i + suc m ≡ suc i + m = omega arith in
+    rw (k, l) (fold-join f m n (suc i) (f i s))
+
+-- ---- a list that is filled from the front: one more element
+pub filled-next : {A : Type 0} (f : ℕ → A) (d : A) (xs : List A) (i : ℕ) (v : A) → i < length xs → v ≡ f i → ((j : ℕ) → j < i → getD xs j d ≡ f j)
+    → (j : ℕ) → j < i + 1 → getD (set xs i v) j d ≡ f j
+filled-next f d xs i v h e so-far j l =
+    elim (decLt j i) [
+      | yes m ↦ getD-set-other xs i j v d (λ q. omega arith) ∙ so-far j m
+      | no m ↦ let q : j ≡ i = omega arith in rw q (getD-set-same xs i v d h ∙ e)
+    ]

@@ -1,15 +1,15 @@
 -- The laws of searching and counting, over any test: the steps of a loop that goes up, and what an answer says.
-use Prim.Native.Nat.{ℕ, zero, suc, _+_, _-_, _<_, _≤_}
+use Prim.Native.Nat.{ℕ, zero, suc, _+_, _-_, _<_, _≤_, max}
 use native.Mathlib.Omega.{arith}
-use native.Mathlib.Nat.{zero-add}
+use native.Mathlib.Nat.{zero-add, add-zero}
 use mathlib.Core.List.{[], _∷_}
 use lib.ListN.{length}
 use lib.Dec.{leb}
 use borrow.Author.Tests.{leb-true, le-leb, lt-leb}
 use native.Mathlib.Numerals.{add-one}
 use native.Mathlib.Decide.{decLt}
-use mathlib.Core.Path.{_≡_, refl, _∙_}
-use mathlib.Core.Bool.{Bool, true, false, cond, _||_}
+use mathlib.Core.Path.{_≡_, refl, sym, _∙_}
+use mathlib.Core.Bool.{Bool, true, false, cond, _||_, or-assoc}
 use Rattle.base.proofs.Choice.{and-true, and-intro, or-left, true-false}
 use Rattle.base.specs.Search.{firstFrom, countFrom, allFrom, anyFrom, whichFrom, highestFrom}
 
@@ -201,6 +201,15 @@ any-agree p q zero i h = refl
 any-agree p q (suc n) i h =
     rw (h i (omega arith) (omega arith), any-agree p q n (suc i) (λ j a b. h j (omega arith) (omega arith)))
 
+-- any of a row or of the next
+pub any-join : (p : ℕ → Bool) (m n i : ℕ) → anyFrom p (m + n) i ≡ (anyFrom p m i || anyFrom p n (i + m))
+unfolding anyFrom
+any-join p zero n i = rw (zero-add, add-zero)
+any-join p (suc m) n i =
+    let k : suc m + n ≡ suc (m + n) = omega arith in
+    let l : i + suc m ≡ suc i + m = omega arith in
+    rw (k, l, any-join p m n (suc i)) (sym (or-assoc (p i) (anyFrom p m (suc i)) (anyFrom p n (suc i + m))))
+
 -- ---- tests that agree, for all
 pub all-agree : (p q : ℕ → Bool) (n i : ℕ) → ((j : ℕ) → i ≤ j → j < i + n → p j ≡ q j) → allFrom p n i ≡ allFrom q n i
 unfolding allFrom
@@ -313,6 +322,15 @@ unfolding highestFrom
 highest-agree f g zero i h = refl
 highest-agree f g (suc n) i h =
     rw (h i (omega arith) (omega arith), highest-agree f g n (suc i) (λ j a b. h j (omega arith) (omega arith)))
+
+-- of a row and the next
+pub highest-join : (f : ℕ → ℕ) (m n i : ℕ) → highestFrom f (m + n) i ≡ max (highestFrom f m i) (highestFrom f n (i + m))
+unfolding highestFrom
+highest-join f zero n i = rw (zero-add, add-zero) (omega arith)
+highest-join f (suc m) n i =
+    let k : suc m + n ≡ suc (m + n) = omega arith in
+    let l : i + suc m ≡ suc i + m = omega arith in
+    rw (k, l, highest-join f m n (suc i)) (omega arith)
 
 -- ---- where a search ends
 pub first-is : (p : ℕ → Bool) (n i b : ℕ) → i ≤ b → b ≤ i + n → (b < i + n → p b ≡ true) → ((a : ℕ) → i ≤ a → a < b → p a ≡ false) → firstFrom p n i ≡ b

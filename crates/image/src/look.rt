@@ -5,9 +5,10 @@ use page::forms;
 ghost use mathlib.Core.Path.{_≡_};
 ghost use Prim.Native.Nat.{_≤_, _+_, _*_};
 ghost use lib.ListN.{length};
-ghost use Rattle.page.specs.Frame.{pageSize};
+ghost use Rattle.page.specs.Frame.{pageSize, payloadSize};
+ghost use Rattle.page.specs.Page.{payloadOf};
 ghost use Rattle.image.specs.Size.{blockSize, blocks, sizeRight};
-ghost use Rattle.image.specs.Look.{formAt, pageEmpty, blockEmpty, lowestEmpty, emptyBlocks};
+ghost use Rattle.image.specs.Look.{pageAt, formAt, pageEmpty, blockEmpty, lowestEmpty, emptyBlocks};
 
 // A block has 4,096 bytes, 16 pages.
 pub const BLOCK_SIZE: usize = 4096;
@@ -40,6 +41,15 @@ pub fn form_at(image: &[u8], g: usize) -> Form
 {
     let at = g * Frame::PAGE;
     forms::form(&image[at..at + Frame::PAGE])
+}
+
+// The payload of page g.
+pub fn payload_at<'a>(image: &'a [u8], g: usize) -> &'a [u8]
+    requires { ⌜ g * pageSize + pageSize ≤ length (now image) ⌝ }
+    ensures { λ r. ⌜ (now r ≡ payloadOf (pageAt (now (image .entry)) g)) × (length (now r) ≡ payloadSize) ⌝ }
+{
+    let at = g * Frame::PAGE + Frame::HEADER;
+    &image[at..at + Frame::PAYLOAD]
 }
 
 // Whether page g is empty.

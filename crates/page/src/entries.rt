@@ -14,7 +14,7 @@ ghost use Rattle.base.specs.Search.{allFrom};
 ghost use Rattle.page.specs.Frame.{payloadSize};
 ghost use Rattle.page.specs.Plan.{places};
 ghost use Rattle.page.specs.Key.{positions};
-ghost use Rattle.page.specs.Entry.{isLetter, entrySize, entriesInPart, parts, entryBytes, entryOf, isEntry, entriesFrom, commitPayload, validPayload};
+ghost use Rattle.page.specs.Entry.{isLetter, entrySize, entriesInPart, parts, entryBytes, entryOf, isEntry, entryPart, entryAt, entriesFrom, commitPayload, validPayload};
 
 // The letters of a key position: free, used, deleted.
 pub const FREE: u8 = b'f';
@@ -80,6 +80,23 @@ pub fn read_entry(src: &[u8]) -> Entry
         return Entry::Misspelt;
     }
     Entry::At(page, key)
+}
+
+// The part of a commit that holds the entry of place x.
+pub fn entry_part(x: usize) -> usize
+    requires { ⌜ x < places ⌝ }
+    ensures { λ r. ⌜ (r ≡ entryPart x) × (r < parts) ⌝ }
+{
+    FIRST_ENTRY_PART + x / ENTRIES_IN_PART
+}
+
+// The entry of place x in the payload of its part.
+pub fn entry_in(payload: &[u8], x: usize) -> Entry
+    requires { ⌜ length (now payload) ≡ payloadSize ⌝ }
+    ensures { λ r. ⌜ r ≡ entryOf (part (now (payload .entry)) (entryAt x) entrySize) ⌝ }
+{
+    let at = ENTRY_SIZE * (x % ENTRIES_IN_PART);
+    read_entry(&payload[at..at + ENTRY_SIZE])
 }
 
 // Writes the entries of a map's places from first on, as many as a part holds.

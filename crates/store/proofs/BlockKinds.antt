@@ -30,7 +30,7 @@ use Rattle.page.specs.declared.Form.the-variants.{Empty, Whole, Torn, Spoilt}
 use Rattle.page.proofs.HeaderLaws.{header-spelt}
 use Rattle.image.specs.Size.{blockSize, pagesInBlock, blocks}
 use Rattle.image.specs.Look.{pageAt, formAt, pageEmpty}
-use Rattle.store.specs.Kind.{pageIn, sameFrame, wholeWith, keyBlockWhole, commitBlockWhole, kindOfFirst, kindOf, isEventLetter, headed, isChosen, isData, hasEvents}
+use Rattle.store.specs.Kind.{pageIn, sameFrame, wholeWith, keyBlockWhole, commitBlockWhole, isBlockLetter, kindOfFirst, kindOf, isEventLetter, headed, isChosen, isData, hasEvents}
 use Rattle.store.specs.Find.{isOpen}
 use Rattle.store.specs.declared.Numbers.{Numbers}
 use Rattle.store.specs.declared.Kind.{Kind}
@@ -56,20 +56,25 @@ form-in-range : (img : List ℕ) (g : ℕ) (f : Frame) → headerIn (formAt img 
 unfolding formAt formOf
 form-in-range img g f e = header-is (part (pageAt img g) 0 headerSize) f (sym (header-in _ (pageAt img g)) ∙ e) .1
 
--- the letter of a whole or torn N or D page is its first byte
+-- the letter of a whole or torn page is its first byte
+first-byte : (img : List ℕ) (g : ℕ) → getD (part (pageAt img g) 0 headerSize) 0 0 ≡ getD img (g * pageSize) 0
+unfolding pageAt
+first-byte img g =
+    part-at (pageAt img g) 0 headerSize 0 0 (omega arith)
+    ∙ part-at img (g * pageSize) pageSize 0 0 (omega arith)
+    ∙ ap (λ (a : ℕ). getD img a 0) (omega arith)
+
+pub whole-letter : (img : List ℕ) (g : ℕ) (f : Frame) → formAt img g ≡ Whole f → f .kind ≡ getD img (g * pageSize) 0
+unfolding formAt formOf
+whole-letter img g f e = header-is (part (pageAt img g) 0 headerSize) f (sym (header-in _ (pageAt img g)) ∙ ap headerIn e) .0 ∙ first-byte img g
+
 pub headed-letter : (img : List ℕ) (g : ℕ) → headed (formAt img g) ≡ true → isEventLetter (getD img (g * pageSize) 0) ≡ true
-unfolding formAt formOf pageAt
+unfolding formAt formOf
 headed-letter img g = go (headerOf (part (pageAt img g) 0 headerSize)) refl
   where
-    first : getD (part (pageAt img g) 0 headerSize) 0 0 ≡ getD img (g * pageSize) 0
-    first =
-        part-at (pageAt img g) 0 headerSize 0 0 (omega arith)
-        ∙ part-at img (g * pageSize) pageSize 0 0 (omega arith)
-        ∙ ap (λ (a : ℕ). getD img a 0) (omega arith)
-
     go : (h : Header) → headerOf (part (pageAt img g) 0 headerSize) ≡ h → headed (formBy h (pageAt img g)) ≡ true → isEventLetter (getD img (g * pageSize) 0) ≡ true
     go (Is f) q e =
-        let k = header-is (part (pageAt img g) 0 headerSize) f q .0 ∙ first in
+        let k = header-is (part (pageAt img g) 0 headerSize) f q .0 ∙ first-byte img g in
         let both = cond-ap headed (closed (pageAt img g)) (Whole f) (Torn f) ∙ cond-same (closed (pageAt img g)) (isEventLetter (f .kind)) in
         rw (← k) (sym both ∙ e)
     go Invalid q e =
@@ -331,6 +336,25 @@ module _ (img : List ℕ) (b : ℕ) where
 pub kind-unbegun : (img : List ℕ) (b : ℕ) → pageEmpty img (pageIn b 0) ≡ true → kindOf img b ≡ Other
 unfolding kindOf
 kind-unbegun img b e = rw (empty-form img (pageIn b 0) e)
+
+-- nor is one that begins with another letter than K and C
+pub kind-unlettered : (img : List ℕ) (b : ℕ) → isBlockLetter (getD img (b * blockSize) 0) ≡ false → kindOf img b ≡ Other
+unfolding kindOf
+kind-unlettered img b e = go (formAt img (pageIn b 0)) refl
+  where
+    neither : (a c p q : Bool) (k l : Kind) → a || c ≡ false → cond (a && p) k (cond (c && q) l Other) ≡ Other
+    neither true c p q k l e = absurd (true-false refl e)
+    neither false true p q k l e = absurd (true-false refl e)
+    neither false false p q k l e = refl
+
+    go : (m : Form) → formAt img (pageIn b 0) ≡ m → kindOfFirst img b m ≡ Other
+    go Empty q = refl
+    go (Whole f) q =
+        let a : pageIn b 0 * pageSize ≡ b * blockSize = omega arith in
+        let k : f .kind ≡ getD img (b * blockSize) 0 = whole-letter img (pageIn b 0) f q ∙ ap (λ (i : ℕ). getD img i 0) a in
+        neither (eqb (f .kind) keysLetter) (eqb (f .kind) commitLetter) _ _ _ _ (ap isBlockLetter k ∙ e)
+    go (Torn f) q = refl
+    go Spoilt q = refl
 
 -- ---- data blocks
 -- a whole key or commit block has no whole or torn N or D page

@@ -29,7 +29,7 @@ use Rattle.store.proofs.Fits.{Fit, fit-fits, place-fits, named-by, by-n
 use Rattle.store.proofs.Decisions.{entries-fit}
 
 -- ---- next numbers: sequences and epochs end at 99,999,999
-sequence-most : (img : List ℕ) (g : ℕ) → sequenceOf (formAt img g) ≤ lastNumber
+pub sequence-most : (img : List ℕ) (g : ℕ) → sequenceOf (formAt img g) ≤ lastNumber
 sequence-most img g = go (formAt img g) refl
   where
     by-letter : (b : Bool) (n : ℕ) → n ≤ lastNumber → cond b n 0 ≤ lastNumber
@@ -42,7 +42,7 @@ sequence-most img g = go (formAt img g) refl
     go (Torn f) e = by-letter (isEventLetter (f .kind)) (f .number) (number-range f (torn-in-range img g f e) .1)
     go Spoilt e = omega arith
 
-epoch-most : (img : List ℕ) (b : ℕ) → epochOf img b ≤ lastNumber
+pub epoch-most : (img : List ℕ) (b : ℕ) → epochOf img b ≤ lastNumber
 epoch-most img b =
     let c = of-commit-epoch (λ e. e ≤ lastNumber) (kindOf img b) (omega arith) (λ e s k. commit-range img b e s k .1) in
     let k0 = of-keys-epoch (λ e. e ≤ lastNumber) 0 (kindOf img b) (omega arith) (λ e k. keys-range img b 0 e k .2) in

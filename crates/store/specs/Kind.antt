@@ -46,6 +46,10 @@ commitBlockWhole img b e s =
     allFrom (partWhole img b e s) parts 0
     && allFrom (λ i. pageEmpty img (pageIn b i)) (pagesInBlock - parts) parts
 
+-- the letters that a key block and a commit block begin with
+abbrev pub isBlockLetter : ℕ → Bool
+isBlockLetter kind = eqb kind keysLetter || eqb kind commitLetter
+
 -- what the header of a block's page 0 would make of it
 abbrev pub kindBy : List ℕ → ℕ → Frame → Kind
 kindBy img b f =

@@ -5,6 +5,9 @@
 --   Outcome   what a call leaves: reply, flash steps, record and lent buffer; and the same where the power fails
 --   Find      the lowest free key and the page that a write takes
 --   Format, Mount, Write, Read, CutOff, Commit, Wipe   the outcome of each call
+--   Survey    what mount finds in one pass over the blocks
+--   Replay    mount's pass over the pages, as it changes the lent lists
+--   Rebuild   the record that mount makes from the commit and the pages
 --   Taken     for each call, by name, what is known where it passed all its tests
 -- Letters used throughout: g a page of the image, b a block, p a key position, x a place, e an epoch, s a sequence, n and k the power.
 pub mod Reply
@@ -19,4 +22,7 @@ pub mod Read
 pub mod CutOff
 pub mod Commit
 pub mod Wipe
+pub mod Survey
+pub mod Replay
+pub mod Rebuild
 pub mod Taken

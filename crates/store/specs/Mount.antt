@@ -170,6 +170,19 @@ mountTests img map letters scratch =
     ∷ (entriesFit img c && keysApart (mountMap img c) else EntryUnfit)
     ∷ []
 
+-- the first two of these tests, and the two of the blocks
+abbrev pub sizeTests : List ℕ → List ℕ → List ℕ → List ℕ → List Test
+sizeTests img map letters scratch =
+    (sizeRight img else ImageSize)
+    ∷ (buffersRight map letters && eqb (length scratch) places else BufferLength)
+    ∷ []
+
+abbrev pub blockTests : Found → Found → Found → List Test
+blockTests commit keys0 keys1 =
+    (isFound commit else NoCommit)
+    ∷ (isFound keys0 && isFound keys1 else NoKeyBlock)
+    ∷ []
+
 -- refusals 12 to 14 fill map with 65,535, letters with d, scratch with 0; 1 and 2 change nothing; either way the numbers are all 0
 abbrev pub fills : Reply → Bool
 fills v = leb (numberOf NoKeyBlock) (numberOf v)

@@ -41,6 +41,15 @@ pub record FormatTaken (img map letters noise : List ℕ) : Type 0 where
   pub buffers : Buffers map letters
   pub noiseFull : length noise ≡ noiseSize
 
+-- a mount that has chosen its blocks
+pub record MountChosen (img map letters scratch : List ℕ) : Type 0 where
+  pub size : sizeRight img ≡ true
+  pub buffers : Buffers map letters
+  pub scratchFull : length scratch ≡ places
+  pub commitThere : isFound (chosenCommit img) ≡ true
+  pub keys0There : isFound (chosenKeys img 0) ≡ true
+  pub keys1There : isFound (chosenKeys img 1) ≡ true
+
 pub record MountTaken (img map letters scratch : List ℕ) : Type 0 where
   pub size : sizeRight img ≡ true
   pub buffers : Buffers map letters

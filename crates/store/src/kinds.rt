@@ -9,6 +9,7 @@ use page::Frame;
 use page::entries;
 use page::entries::PARTS;
 ghost use mathlib.Core.Path.{_≡_};
+ghost use mathlib.Core.Bool.{cond};
 ghost use Prim.Native.Nat.{_≤_, _<_, _+_, _*_, _-_, _%_};
 ghost use lib.ListN.{length};
 ghost use Rattle.base.specs.Search.{allFrom, anyFrom};
@@ -17,7 +18,7 @@ ghost use Rattle.page.specs.Entry.{parts, validPayload};
 ghost use Rattle.page.specs.Page.{payloadOf};
 ghost use Rattle.image.specs.Size.{blockSize, pagesInBlock};
 ghost use Rattle.image.specs.Look.{pageAt, pageEmpty, formAt};
-ghost use Rattle.store.specs.Kind.{pageIn, sameFrame, wholeWith, keyBlockWhole, partWhole, kindBy, kindOf, keysEpoch, commitEpoch, coveredBy, isEventLetter, headed, hasEvents, isChosen, isData};
+ghost use Rattle.store.specs.Kind.{pageIn, sameFrame, wholeWith, keyBlockWhole, partWhole, isBlockLetter, kindBy, kindOf, keysEpoch, commitEpoch, coveredBy, isEventLetter, headed, hasEvents, isChosen, isData};
 
 // Whether two headers are the same, field by field.
 fn same_frame(f: Frame, h: Frame) -> bool
@@ -80,8 +81,7 @@ fn payload_valid(image: &[u8], g: usize, i: usize) -> bool
     requires { ⌜ g * pageSize + pageSize ≤ length (now image) ⌝ }
     ensures { λ r. ⌜ r ≡ validPayload i (payloadOf (pageAt (now (image .entry)) g)) ⌝ }
 {
-    let start = g * Frame::PAGE + Frame::HEADER;
-    entries::valid_payload(&image[start..start + Frame::PAYLOAD], i)
+    entries::valid_payload(look::payload_at(image, g), i)
 }
 
 // Whether page i of block b is a whole part i of a commit of epoch e that covers s, with a valid payload.
@@ -166,12 +166,22 @@ fn kind_by(image: &[u8], b: usize, f: Frame) -> Kind
     }
 }
 
-// What block b is; outside the image it is nothing of its own.
+// Whether a kind letter is K or C.
+fn is_block_letter(kind: u8) -> bool
+    ensures { λ r. ⌜ r ≡ isBlockLetter kind ⌝ }
+{
+    (kind == Frame::KEYS_LETTER) | (kind == Frame::COMMIT_LETTER)
+}
+
+// What block b is; outside the image it is nothing of its own. What is none is mostly told by its first byte.
 pub fn kind_of(image: &[u8], b: usize) -> Kind
     requires { ⌜ length (now image) % blockSize ≡ 0 ⌝ }
     ensures { λ r. ⌜ r ≡ kindOf (now (image .entry)) b ⌝ }
 {
     if image.len() / BLOCK_SIZE <= b {
+        return Kind::Other;
+    }
+    if !is_block_letter(image[b * BLOCK_SIZE]) {
         return Kind::Other;
     }
     match look::form_at(image, b * PAGES_IN_BLOCK) {
@@ -216,10 +226,20 @@ pub fn covered_by(kind: Kind) -> u32
 }
 
 // Whether a kind letter is N or D.
-fn is_event_letter(kind: u8) -> bool
+pub fn is_event_letter(kind: u8) -> bool
     ensures { λ r. ⌜ r ≡ isEventLetter kind ⌝ }
 {
     (kind == Frame::NODE_LETTER) | (kind == Frame::CUT_OFF_LETTER)
+}
+
+// The sequence of an N or D header, 0 of any other.
+pub fn event_number(f: Frame) -> u32
+    ensures { λ r. ⌜ r ≡ cond (isEventLetter (f .kind)) (f .number) 0 ⌝ }
+{
+    if is_event_letter(f.kind) {
+        return f.number;
+    }
+    0
 }
 
 // Whether a page is a whole or torn N or D page.

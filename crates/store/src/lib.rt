@@ -3,9 +3,14 @@ mod find;
 mod fit;
 pub mod format;
 mod kinds;
+pub mod mount;
 pub mod read;
+mod rebuild;
 mod record;
+mod replay;
 pub mod replies;
+mod strays;
+mod survey;
 mod tests;
 pub mod write;
 

@@ -1,4 +1,4 @@
--- `store::kinds::kind_of` meets its contract: outside the image there is no kind; else page 0 decides.
+-- `store::kinds::kind_of` meets its contract: outside the image there is no kind, nor behind another letter than K and C; else page 0 decides.
 use Prim.Native.Nat.{ℕ, _*_}
 use native.Mathlib.Omega.{arith}
 use native.Mathlib.Nat.{add-zero}
@@ -8,7 +8,8 @@ use Rattle.page.specs.declared.Form.{Form}
 use Rattle.image.specs.Size.{pagesInBlock}
 use Rattle.image.specs.Look.{formAt}
 use Rattle.store.specs.Kind.{pageIn, kindOfFirst, kindOf}
-use Rattle.store.proofs.BlockKinds.{kind-outside}
+use Rattle.store.proofs.BlockKinds.{kind-outside, kind-unlettered}
+use Rattle.store.proofs.Refusals.{failed}
 use borrow.Author.Needs.{needs}
 use Rattle.store.proofs.kinds.kind_of.Statement.{statement}
 use Rattle.store.proofs.kinds.kind_of.Tie as tie
@@ -20,6 +21,20 @@ by-first img b m n e q = let f : formAt img (pageIn b 0) ≡ n = rw add-zero (sy
 
 returns : tie.Need-returns
 returns c = sym (kind-outside (c .before .before .args .image .now) (c .before .before .args .b) (omega arith))
+
+mul-is-block-letter : tie.Need-mul-is-block-letter
+mul-is-block-letter c = search needs
+
+shared-slice-read-is-block-letter : tie.Need-shared-slice-read-is-block-letter
+shared-slice-read-is-block-letter c = search needs
+
+is-block-letter-requires : tie.Need-is-block-letter-requires
+is-block-letter-requires c κs = search needs
+
+returns-2 : tie.Need-returns-2
+returns-2 c =
+    let a = c .before .before .before .before .before .args in
+    sym (kind-unlettered (a .image .now) (a .b) (failed (c .before .is-block-letter .ensures) (c .if2 .taken)))
 
 mul-form-at : tie.Need-mul-form-at
 mul-form-at c = search needs
@@ -42,24 +57,24 @@ enum-told-2 c = search needs
 enum-told-3 : tie.Need-enum-told-3
 enum-told-3 c = search needs
 
-returns-2 : tie.Need-returns-2
-returns-2 c =
-    let a = c .before .before .before .before .before .args in
-    sym (by-first (a .image .now) (a .b) _ _ (c .before .before .form-at .ensures) (c .enum-told .given .1))
-
 returns-3 : tie.Need-returns-3
 returns-3 c =
-    let a = c .before .before .before .before .before .before .before .args in
-    c .kind-by .ensures ∙ sym (by-first (a .image .now) (a .b) _ _ (c .before .before .before .before .form-at .ensures) (c .before .before .f .given .1))
+    let a = c .before .before .before .before .before .before .before .before .args in
+    sym (by-first (a .image .now) (a .b) _ _ (c .before .before .form-at .ensures) (c .enum-told .given .1))
 
 returns-4 : tie.Need-returns-4
 returns-4 c =
-    let a = c .before .before .before .before .before .args in
-    sym (by-first (a .image .now) (a .b) _ _ (c .before .before .form-at .ensures) (c .enum-told2 .given .1))
+    let a = c .before .before .before .before .before .before .before .before .before .before .args in
+    c .kind-by .ensures ∙ sym (by-first (a .image .now) (a .b) _ _ (c .before .before .before .before .form-at .ensures) (c .before .before .f .given .1))
 
 returns-5 : tie.Need-returns-5
 returns-5 c =
-    let a = c .before .before .before .before .before .args in
+    let a = c .before .before .before .before .before .before .before .before .args in
+    sym (by-first (a .image .now) (a .b) _ _ (c .before .before .form-at .ensures) (c .enum-told2 .given .1))
+
+returns-6 : tie.Need-returns-6
+returns-6 c =
+    let a = c .before .before .before .before .before .before .before .before .args in
     sym (by-first (a .image .now) (a .b) _ _ (c .before .before .form-at .ensures) (c .enum-told3 .given .1))
 
 pub kind-of-spec : {M : Type 1} → statement M
@@ -67,6 +82,10 @@ kind-of-spec =
     tie.close
     (tie.spec
     returns
+    mul-is-block-letter
+    shared-slice-read-is-block-letter
+    is-block-letter-requires
+    returns-2
     mul-form-at
     form-at-requires
     enum-told
@@ -74,7 +93,7 @@ kind-of-spec =
     kind-by-requires
     enum-told-2
     enum-told-3
-    returns-2
     returns-3
     returns-4
-    returns-5)
+    returns-5
+    returns-6)

@@ -1,0 +1,120 @@
+-- The record is made first, then the strays are erased with what power there is.
+use native.Mathlib.Omega.{arith}
+use mathlib.Core.Path.{refl}
+use Rattle.image.proofs.Looks.{sized}
+use Rattle.store.proofs.Rebuilds.{fits-rebuilt}
+use Rattle.store.proofs.MountCalls.{survey-commit, survey-kind, survey-ranges, pages-refuse, mount-left}
+use borrow.Author.Needs.{needs}
+use Rattle.store.proofs.mount.mount_chosen.Statement.{statement}
+use Rattle.store.proofs.mount.mount_chosen.Tie as tie
+
+found-at-requires : tie.Need-found-at-requires
+found-at-requires c κs = search needs
+
+slice-aggregate-rebuild-record : tie.Need-slice-aggregate-rebuild-record
+slice-aggregate-rebuild-record c = search needs
+
+rebuild-record-requires : tie.Need-rebuild-record-requires
+rebuild-record-requires c κs =
+    let s = c .before .before .before .before .before .before .before .before .before .before .before in
+    let a = s .args in
+    let m = s .pre .0 in
+    let e = survey-commit (a .image .now) (a .s) (s .pre .1) _ (c .before .before .before .before .found-at .ensures) in
+    ((m .size, survey-kind (a .image .now) (a .s) (s .pre .1) (m .commitThere) _ e), (m .buffers .mapFull, m .buffers .lettersFull, m .scratchFull, refl))
+
+enum-known-highest : tie.Need-enum-known-highest
+enum-known-highest c = search needs
+
+enum-told : tie.Need-enum-told
+enum-told c = search needs
+
+no-numbers-requires : tie.Need-no-numbers-requires
+no-numbers-requires c κs = search needs
+
+same-length : tie.Need-same-length
+same-length c = search needs
+
+same-length-2 : tie.Need-same-length-2
+same-length-2 c = search needs
+
+same-length-3 : tie.Need-same-length-3
+same-length-3 c = search needs
+
+same-length-4 : tie.Need-same-length-4
+same-length-4 c = search needs
+
+returns : tie.Need-returns
+returns c =
+    let s = c .before .before .before .before .before .before .before .before .before .before .before .before .before .before .before .before .before .before .before .before .before .before in
+    let a = s .args in
+    let r = c .before .before .before .before .before .before .before .before .before .before .rebuild-record .ensures in
+    rw (c .no-numbers .ensures)
+    (pages-refuse (a .image .now) (a .map .now) (a .letters .now) (a .scratch .now) (s .pre .0) (a .n) (a .k) _ _ _ _ _ (survey-commit (a .image .now) (a .s) (s .pre .1) _ (c .before .before .before .before .before .before .before .before .before .before .before .before .before .before .before .found-at .ensures)) (r .0) (c .before .enum-told .given .1) (r .2))
+
+numbers-of-requires : tie.Need-numbers-of-requires
+numbers-of-requires c κs =
+    let s = c .before .before .before .before .before .before .before .before .before .before .before .before .before .before .before .before .before .before .before .before .before .before in
+    let a = s .args in
+    let m = s .pre .0 in
+    let h = fits-rebuilt (a .image .now) _ _ _ (c .before .before .before .before .before .before .before .before .before .before .rebuild-record .ensures .0) (c .before .highest .given .1) in
+    survey-ranges (a .image .now) (a .s) (s .pre .1) (m .size) (m .commitThere) (m .keys0There) (m .keys1There) _ (h .1)
+
+slice-aggregate-erase-strays : tie.Need-slice-aggregate-erase-strays
+slice-aggregate-erase-strays c = search needs
+
+erase-strays-requires : tie.Need-erase-strays-requires
+erase-strays-requires c κs =
+    let s = c .before .before .before .before .before .before .before .before .before .before .before .before .before .before .before .before .before .before .before .before .before .before .before .before .before in
+    let a = s .args in
+    let r = c .before .before .before .before .before .before .before .before .before .before .before .before .before .rebuild-record .ensures in
+    let h = fits-rebuilt (a .image .now) _ _ _ (r .0) (c .before .before .before .before .highest .given .1) in
+    (sized (a .image .now) (s .pre .0 .size) .most, omega arith, r .1 (h .0) .eventsMade)
+
+taken-requires : tie.Need-taken-requires
+taken-requires c κs = search needs
+
+same-length-5 : tie.Need-same-length-5
+same-length-5 c = search needs
+
+same-length-6 : tie.Need-same-length-6
+same-length-6 c = search needs
+
+same-length-7 : tie.Need-same-length-7
+same-length-7 c = search needs
+
+same-length-8 : tie.Need-same-length-8
+same-length-8 c = search needs
+
+returns-2 : tie.Need-returns-2
+returns-2 c =
+    let s = c .before .before .before .before .before .before .before .before .before .before .before .before .before .before .before .before .before .before .before .before .before .before .before .before .before .before .before .before .before in
+    let a = s .args in
+    let r = c .before .before .before .before .before .before .before .before .before .before .before .before .before .before .before .before .before .rebuild-record .ensures in
+    rw (c .taken .ensures)
+    (mount-left (a .image .now) (a .map .now) (a .letters .now) (a .scratch .now) (s .pre .0) (a .n) (a .k) _ _ _ _ _ (survey-commit (a .image .now) (a .s) (s .pre .1) _ (c .before .before .before .before .before .before .before .before .before .before .before .before .before .before .before .before .before .before .before .before .before .before .found-at .ensures)) (r .0)
+    _ _ _ (a .s) _ _ (c .before .before .before .before .before .before .before .before .highest .given .1) (r .1) (s .pre .1) (c .before .before .before .before .before .before .numbers-of .ensures) (c .before .before .before .erase-strays .ensures))
+
+pub mount-chosen-spec : {M : Type 1} → statement M
+mount-chosen-spec =
+    tie.close
+    (tie.spec
+    found-at-requires
+    slice-aggregate-rebuild-record
+    rebuild-record-requires
+    enum-known-highest
+    enum-told
+    no-numbers-requires
+    same-length
+    same-length-2
+    same-length-3
+    same-length-4
+    returns
+    numbers-of-requires
+    slice-aggregate-erase-strays
+    erase-strays-requires
+    taken-requires
+    same-length-5
+    same-length-6
+    same-length-7
+    same-length-8
+    returns-2)

@@ -1,0 +1,42 @@
+-- Document 01, "Calls and their refusals", Mount: the record that the chosen commit and the pages give, or that it is refused with 14.
+use Prim.Native.Nat.{ℕ, _<_}
+use mathlib.Core.Path.{_≡_}
+use mathlib.Core.Bool.{Bool, cond, _&&_}
+use mathlib.Core.List.{List}
+use lib.ListN.{getD, replicate}
+use Rattle.base.specs.Search.{highestFrom}
+use Rattle.base.specs.Fold.{listFrom}
+use Rattle.page.specs.Plan.{places}
+use Rattle.page.specs.Key.{positions}
+use Rattle.page.specs.Entry.{none, deletedLetter}
+use Rattle.image.specs.Size.{blocks, pages}
+use Rattle.image.specs.Look.{formAt}
+use Rattle.store.specs.Kind.{hasEvents}
+use Rattle.store.specs.Record.{mapSize, keysApart}
+use Rattle.store.specs.Mount.{mountMap, mountScratch, entriesFit, mountLetter, sequenceOf}
+use Rattle.store.specs.declared.rebuild.Rebuilt.{Rebuilt}
+use Rattle.store.specs.declared.rebuild.Rebuilt.the-variants.{Fits, Unfit}
+
+-- every live entry fits, and no key is named twice
+abbrev pub mountFits : List ℕ → ℕ → Bool
+mountFits img c = entriesFit img c && keysApart (mountMap img c)
+
+-- the highest sequence of all whole or torn N and D pages
+abbrev pub highestSequence : List ℕ → ℕ
+highestSequence img = highestFrom (λ g. sequenceOf (formAt img g)) (pages img) 0
+
+unfoldable pub rebuiltOf : List ℕ → ℕ → Rebuilt
+rebuiltOf img c = cond (mountFits img c) (Fits (highestSequence img)) Unfit
+
+-- the lent lists after that; the events say of each block, by 1 or 0, whether it has a whole or torn N or D page
+pub record Rebuilding (img : List ℕ) (c : ℕ) (map letters scratch events : List ℕ) : Type 0 where
+  pub mapMade : map ≡ mountMap img c
+  pub lettersMade : letters ≡ listFrom (mountLetter img c) positions 0
+  pub scratchMade : scratch ≡ mountScratch img c
+  pub eventsMade : (b : ℕ) → b < blocks img → getD events b 0 ≡ cond (hasEvents img b) 1 0
+
+-- refusals 12 to 14 fill map with 65,535, letters with d, scratch with 0
+pub record Cleared (map letters scratch : List ℕ) : Type 0 where
+  pub mapCleared : map ≡ replicate mapSize none
+  pub lettersCleared : letters ≡ replicate positions deletedLetter
+  pub scratchCleared : scratch ≡ replicate places 0

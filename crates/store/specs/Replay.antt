@@ -1,0 +1,80 @@
+-- Document 01, "Calls and their refusals", Mount: what the pass over the pages makes of the lent map, letters and scratch.
+--   Pass, pass   what the pass keeps: the lent lists, the blocks that have events, the highest sequence
+--   heldAt       what map and scratch hold of a place
+--   EachPlace, EachLetter   what a change makes of each place, of each letter
+--   outranks     an event against what a place holds
+--   Passed       what some pages in a row make of it
+--   Replayed     what the whole pass leaves
+use Prim.Native.Nat.{ℕ, _+_, _<_, _/_, max}
+use mathlib.Core.Path.{_≡_}
+use mathlib.Core.Bool.{Bool, true, cond, _&&_}
+use mathlib.Core.List.{List}
+use lib.ListN.{getD}
+use lib.Dec.{eqb, leb}
+use Rattle.base.specs.Search.{anyFrom, highestFrom}
+use Rattle.base.specs.Fold.{foldFrom, listFrom}
+use Rattle.page.specs.Plan.{places}
+use Rattle.page.specs.Header.{inRange}
+use Rattle.page.specs.Key.{positions}
+use Rattle.page.specs.Entry.{deletedLetter}
+use Rattle.page.specs.declared.Form.{Form}
+use Rattle.page.specs.declared.Form.the-variants.{Empty, Whole, Torn, Spoilt}
+use Rattle.image.specs.Size.{pagesInBlock, mostBlocks, blocks, pages}
+use Rattle.image.specs.Look.{formAt}
+use Rattle.store.specs.Kind.{headed, hasEvents}
+use Rattle.store.specs.Record.{pageOf, keyOf}
+use Rattle.store.specs.Mount.{Decision, decideBy, spends, sequenceOf, unusedLetter, mountMap, mountScratch}
+
+-- map, letters and scratch, for each block whether an event was seen there, and the highest sequence so far
+pub record Pass : Type 0 where
+  pub map : List ℕ
+  pub letters : List ℕ
+  pub scratch : List ℕ
+  pub events : List ℕ
+  pub highest : ℕ
+
+abbrev pub pass : List ℕ → List ℕ → List ℕ → List ℕ → ℕ → Pass
+pass map letters scratch events highest =
+    record { map = map; letters = letters; scratch = scratch; events = events; highest = highest }
+
+-- what map and scratch hold of place x
+abbrev pub heldAt : List ℕ → List ℕ → ℕ → Decision
+heldAt map scratch x = record { sequence = getD scratch x 0; page = pageOf map x; key = keyOf map x }
+
+-- each place of the second map and scratch holds what f makes of what it held in the first
+abbrev pub EachPlace : (ℕ → Decision → Decision) → List ℕ → List ℕ → List ℕ → List ℕ → Type 0
+EachPlace f map scratch map' scratch' = (x : ℕ) → x < places → heldAt map' scratch' x ≡ f x (heldAt map scratch x)
+
+-- each of the second letters is what f makes of the first
+abbrev pub EachLetter : (ℕ → ℕ → ℕ) → List ℕ → List ℕ → Type 0
+EachLetter f letters letters' = (p : ℕ) → p < positions → getD letters' p 0 ≡ f p (getD letters p 0)
+
+-- an event's decision against what a place holds: ties to the event, which stands on the higher page
+abbrev pub outranks : Decision → Decision → Decision
+outranks event held = cond (leb (held .sequence) (event .sequence)) event held
+
+-- the header of a form, if it has one, is in range
+abbrev pub rangeRight : Form → Bool
+rangeRight Empty = true
+rangeRight (Whole f) = inRange f
+rangeRight (Torn f) = inRange f
+rangeRight Spoilt = true
+
+-- page g is a whole or torn N or D page of block b
+abbrev pub eventOf : List ℕ → ℕ → ℕ → Bool
+eventOf img b g = eqb (g / pagesInBlock) b && headed (formAt img g)
+
+-- what the n pages from g on, above the covered sequence s, make of t
+pub record Passed (img : List ℕ) (s n g : ℕ) (t t' : Pass) : Type 0 where
+  pub place : EachPlace (λ x. foldFrom (λ i. decideBy s x i (formAt img i)) n g) (t .map) (t .scratch) (t' .map) (t' .scratch)
+  pub letter : EachLetter (λ p l. cond (anyFrom (λ i. spends s p (formAt img i)) n g) deletedLetter l) (t .letters) (t' .letters)
+  pub event : (b : ℕ) → b < mostBlocks → getD (t' .events) b 0 ≡ cond (anyFrom (eventOf img b) n g) 1 (getD (t .events) b 0)
+  pub highest : t' .highest ≡ max (t .highest) (highestFrom (λ i. sequenceOf (formAt img i)) n g)
+
+-- what the pass leaves, with the commit in block c: map and scratch, the letters but for the keys that live nodes name, the blocks with events, and the highest sequence
+pub record Replayed (img : List ℕ) (c : ℕ) (t : Pass) : Type 0 where
+  pub map : t .map ≡ mountMap img c
+  pub scratch : t .scratch ≡ mountScratch img c
+  pub letters : t .letters ≡ listFrom (unusedLetter img c) positions 0
+  pub events : (b : ℕ) → b < blocks img → getD (t .events) b 0 ≡ cond (hasEvents img b) 1 0
+  pub highest : t .highest ≡ highestFrom (λ g. sequenceOf (formAt img g)) (pages img) 0

@@ -1,0 +1,154 @@
+// The working record that a mount makes: the pages are replayed, the deciding entries are tested, and the letters of the positions that are named become u.
+use crate::Kind;
+use crate::fit;
+use crate::format;
+use crate::replay;
+use page::bytes;
+use page::entries;
+use page::keys::POSITIONS;
+use page::plan::PLACES;
+ghost use mathlib.Core.Path.{_≡_};
+ghost use mathlib.Core.Bool.{true, false, cond, not, _||_};
+ghost use Prim.Native.Nat.{ℕ, _<_, _%_};
+ghost use lib.ListN.{length, getD, set, replicate};
+ghost use lib.Dec.{eqb, leb};
+ghost use Rattle.base.specs.Search.{allFrom};
+ghost use Rattle.base.specs.Fold.{listFrom};
+ghost use Rattle.page.specs.Plan.{places};
+ghost use Rattle.page.specs.Key.{positions};
+ghost use Rattle.page.specs.Entry.{usedLetter};
+ghost use Rattle.image.specs.Size.{blockSize, mostBlocks, sizeRight};
+ghost use Rattle.store.specs.Kind.{kindOf};
+ghost use Rattle.store.specs.Record.{mapSize, placeFits, namedTimes, keysApart};
+ghost use Rattle.store.specs.Rebuild.{Rebuilding, rebuiltOf, Cleared, mountFits};
+
+// What the pages give: the highest sequence, or that an entry does not fit or a key is named twice.
+pub enum Rebuilt {
+    Fits(u32),
+    Unfit,
+}
+
+// Whether place x fits, where its entry decides: the deciding sequence is 0.
+fn entry_fits(image: &[u8], map: &[u16], x: usize, sequence: u32) -> bool
+    requires { ⌜ (length (now image) % blockSize ≡ 0) × (length (now map) ≡ mapSize) × (x < places) ⌝ }
+    ensures { λ r. ⌜ r ≡ not (eqb sequence 0) || placeFits (now (image .entry)) (now (map .entry)) x ⌝ }
+{
+    if sequence != 0 {
+        return true;
+    }
+    fit::place_fits(image, map, x)
+}
+
+// Whether every place fits whose entry decides.
+fn entries_fit(image: &[u8], map: &[u16], scratch: &[u32]) -> bool
+    requires { ⌜ (length (now image) % blockSize ≡ 0) × (length (now map) ≡ mapSize) × (length (now scratch) ≡ places) ⌝ }
+    ensures { λ r. ⌜ r ≡ allFrom (λ x. not (eqb (getD (now (scratch .entry)) x 0) 0) || placeFits (now (image .entry)) (now (map .entry)) x) places 0 ⌝ }
+{
+    let mut x: usize = 0;
+    while x < PLACES {
+        if !entry_fits(image, map, x, scratch[x]) {
+            return false;
+        }
+        x += 1;
+    }
+    true
+}
+
+// Makes the position of a key used; false where it was used before. A key that is none has no position.
+fn use_key(letters: &mut [u8], key: u16) -> bool
+    requires { ⌜ length (now letters) ≡ positions ⌝ }
+    ensures { λ r. ⌜ (r ≡ not (eqb (getD (now (letters .entry)) key 0) usedLetter)) × (r ≡ true → now (letters .exit) ≡ set (now (letters .entry)) key usedLetter) ⌝ }
+{
+    let p = key as usize;
+    if POSITIONS <= p {
+        return true;
+    }
+    if letters[p] == entries::USED {
+        return false;
+    }
+    letters[p] = entries::USED;
+    true
+}
+
+// Makes the positions that the map names used, where none was; whether no key is named twice.
+fn use_keys(map: &[u16], letters: &mut [u8]) -> bool
+    requires { ⌜ (length (now map) ≡ mapSize) × (length (now letters) ≡ positions) × ((p : ℕ) → p < positions → getD (now letters) p 0 ≡ usedLetter → ⊥) ⌝ }
+    ensures { λ r. ⌜ (r ≡ keysApart (now (map .entry))) × (r ≡ true → now (letters .exit) ≡ listFrom (λ p. cond (leb 1 (namedTimes (now (map .entry)) p)) usedLetter (getD (now (letters .entry)) p 0)) positions 0) ⌝ }
+{
+    let mut x: usize = 0;
+    while x < PLACES {
+        if !use_key(letters, map[PLACES + x]) {
+            return false;
+        }
+        x += 1;
+    }
+    true
+}
+
+// Makes every number 0.
+fn clear_scratch(scratch: &mut [u32])
+    ensures { λ _. ⌜ now (scratch .exit) ≡ replicate (length (now (scratch .entry))) 0 ⌝ }
+{
+    let mut i = 0;
+    while i < scratch.len() {
+        scratch[i] = 0;
+        i += 1;
+    }
+}
+
+// Makes every place vacant, every position deleted and every deciding sequence 0.
+pub fn clear_record(map: &mut [u16], letters: &mut [u8], scratch: &mut [u32])
+    requires { ⌜ (length (now map) ≡ mapSize) × (length (now letters) ≡ positions) × (length (now scratch) ≡ places) ⌝ }
+    ensures { λ _. ⌜ Cleared (now (map .exit)) (now (letters .exit)) (now (scratch .exit)) ⌝ }
+{
+    format::clear_map(map);
+    bytes::fill(letters, entries::DELETED);
+    clear_scratch(scratch);
+}
+
+// Replays the pages over the commit in block c, then tests what it gives. Events get 1 for each block with a whole or torn N or D page.
+fn replay_fit(
+    image: &[u8],
+    c: usize,
+    covered: u32,
+    map: &mut [u16],
+    letters: &mut [u8],
+    scratch: &mut [u32],
+    events: &mut [u8],
+) -> Rebuilt
+    requires { ⌜ (sizeRight (now image) ≡ true) × ((e : ℕ) × (kindOf (now image) c ≡ Kind.Commit e covered)) ⌝ }
+    requires { ⌜ (length (now map) ≡ mapSize) × (length (now letters) ≡ positions) × (length (now scratch) ≡ places) × (now events ≡ replicate mostBlocks 0) ⌝ }
+    ensures { λ r. ⌜ (r ≡ rebuiltOf (now (image .entry)) c) × (mountFits (now (image .entry)) c ≡ true → Rebuilding (now (image .entry)) c (now (map .exit)) (now (letters .exit)) (now (scratch .exit)) (now (events .exit))) ⌝ }
+{
+    let highest = replay::replay(image, c, covered, map, letters, scratch, events);
+    if !entries_fit(image, map, scratch) {
+        return Rebuilt::Unfit;
+    }
+    if !use_keys(map, letters) {
+        return Rebuilt::Unfit;
+    }
+    Rebuilt::Fits(highest)
+}
+
+// Makes the record of the commit in block c and the pages, or clears it where that does not fit.
+pub fn rebuild_record(
+    image: &[u8],
+    c: usize,
+    covered: u32,
+    map: &mut [u16],
+    letters: &mut [u8],
+    scratch: &mut [u32],
+    events: &mut [u8],
+) -> Rebuilt
+    requires { ⌜ (sizeRight (now image) ≡ true) × ((e : ℕ) × (kindOf (now image) c ≡ Kind.Commit e covered)) ⌝ }
+    requires { ⌜ (length (now map) ≡ mapSize) × (length (now letters) ≡ positions) × (length (now scratch) ≡ places) × (now events ≡ replicate mostBlocks 0) ⌝ }
+    ensures { λ r. ⌜ (r ≡ rebuiltOf (now (image .entry)) c) × (mountFits (now (image .entry)) c ≡ true → Rebuilding (now (image .entry)) c (now (map .exit)) (now (letters .exit)) (now (scratch .exit)) (now (events .exit))) × (mountFits (now (image .entry)) c ≡ false → Cleared (now (map .exit)) (now (letters .exit)) (now (scratch .exit))) ⌝ }
+{
+    match replay_fit(image, c, covered, map, letters, scratch, events) {
+        Rebuilt::Fits(highest) => Rebuilt::Fits(highest),
+        Rebuilt::Unfit => {
+            clear_record(map, letters, scratch);
+            Rebuilt::Unfit
+        }
+    }
+}

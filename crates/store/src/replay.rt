@@ -1,0 +1,301 @@
+// Mount's pass over the pages: what the commit says of each place and position, then every whole or torn N or D page in order.
+use crate::Kind;
+use crate::kinds;
+use crate::record;
+use image::look;
+use image::look::PAGES_IN_BLOCK;
+use page::Entry;
+use page::Form;
+use page::Frame;
+use page::entries;
+use page::keys::POSITIONS;
+use page::plan;
+use page::plan::PLACES;
+ghost use mathlib.Core.Path.{_≡_};
+ghost use mathlib.Core.Bool.{true, cond, _&&_};
+ghost use Prim.Native.Nat.{ℕ, _≤_, _<_, _+_, _*_, _/_, max};
+ghost use lib.ListN.{length, set, replicate};
+ghost use lib.Dec.{eqb, leb, ltb};
+ghost use Rattle.page.specs.Frame.{pageSize};
+ghost use Rattle.page.specs.Plan.{places};
+ghost use Rattle.page.specs.Header.{inRange, nodeLetter};
+ghost use Rattle.page.specs.Key.{positions};
+ghost use Rattle.page.specs.Entry.{none, freeLetter, deletedLetter};
+ghost use Rattle.image.specs.Size.{blockSize, pagesInBlock, mostBlocks, pages, sizeRight};
+ghost use Rattle.store.specs.Kind.{kindOf, headed};
+ghost use Rattle.store.specs.Record.{mapSize};
+ghost use Rattle.store.specs.Mount.{letterIn, entryIn, byEntry, decideBy, spends, sequenceOf};
+ghost use Rattle.store.specs.Replay.{pass, EachPlace, EachLetter, outranks, rangeRight, Passed, Replayed};
+
+// The entry of place x in the commit of block c.
+fn entry_in(image: &[u8], c: usize, x: usize) -> Entry
+    requires { ⌜ (c * blockSize + blockSize ≤ length (now image)) × (x < places) ⌝ }
+    ensures { λ r. ⌜ r ≡ entryIn (now (image .entry)) c x ⌝ }
+{
+    let g = c * PAGES_IN_BLOCK + entries::entry_part(x);
+    entries::entry_in(look::payload_at(image, g), x)
+}
+
+// The page that an entry gives, none where it gives no page.
+fn entry_page(entry: Entry) -> u16
+    requires { ⌜ byEntry entry .page ≤ none ⌝ }
+    ensures { λ r. ⌜ r ≡ byEntry entry .page ⌝ }
+{
+    match entry {
+        Entry::At(page, _) => page as u16,
+        Entry::Vacant => entries::NONE,
+        Entry::Misspelt => entries::NONE,
+    }
+}
+
+// The key position that an entry gives, none where it gives no page.
+fn entry_key(entry: Entry) -> u16
+    requires { ⌜ byEntry entry .key ≤ none ⌝ }
+    ensures { λ r. ⌜ r ≡ byEntry entry .key ⌝ }
+{
+    match entry {
+        Entry::At(_, key) => key as u16,
+        Entry::Vacant => entries::NONE,
+        Entry::Misspelt => entries::NONE,
+    }
+}
+
+// Puts a sequence, a page and a key at place x.
+fn put_place(map: &mut [u16], scratch: &mut [u32], x: usize, sequence: u32, page: u16, key: u16)
+    requires { ⌜ (length (now map) ≡ mapSize) × (length (now scratch) ≡ places) × (x < places) ⌝ }
+    ensures { λ _. ⌜ EachPlace (λ y held. cond (eqb x y) (record { sequence = sequence; page = page; key = key }) held) (now (map .entry)) (now (scratch .entry)) (now (map .exit)) (now (scratch .exit)) ⌝ }
+{
+    scratch[x] = sequence;
+    map[x] = page;
+    map[PLACES + x] = key;
+}
+
+// Puts the commit's entry at every place.
+fn read_entries(image: &[u8], c: usize, map: &mut [u16], scratch: &mut [u32])
+    requires { ⌜ (c * blockSize + blockSize ≤ length (now image)) × (length (now map) ≡ mapSize) × (length (now scratch) ≡ places) ⌝ }
+    ensures { λ _. ⌜ EachPlace (λ x held. byEntry (entryIn (now (image .entry)) c x)) (now (map .entry)) (now (scratch .entry)) (now (map .exit)) (now (scratch .exit)) ⌝ }
+{
+    let mut x: usize = 0;
+    while x < PLACES {
+        let entry = entry_in(image, c, x);
+        put_place(map, scratch, x, 0, entry_page(entry), entry_key(entry));
+        x += 1;
+    }
+}
+
+// The letter that a position starts with: f stays f, any other becomes d.
+fn unspent(letter: u8) -> u8
+    ensures { λ r. ⌜ r ≡ cond (eqb letter freeLetter) freeLetter deletedLetter ⌝ }
+{
+    if letter == entries::FREE {
+        return entries::FREE;
+    }
+    entries::DELETED
+}
+
+// The letter of position p in the commit of block c.
+fn letter_in(image: &[u8], c: usize, p: usize) -> u8
+    requires { ⌜ (c * blockSize + blockSize ≤ length (now image)) × (p < positions) ⌝ }
+    ensures { λ r. ⌜ r ≡ letterIn (now (image .entry)) c p ⌝ }
+{
+    let payload = look::payload_at(image, c * PAGES_IN_BLOCK + p / Frame::PAYLOAD);
+    payload[p % Frame::PAYLOAD]
+}
+
+// Puts at every position the letter that it starts with.
+fn read_letters(image: &[u8], c: usize, letters: &mut [u8])
+    requires { ⌜ (c * blockSize + blockSize ≤ length (now image)) × (length (now letters) ≡ positions) ⌝ }
+    ensures { λ _. ⌜ EachLetter (λ p l. cond (eqb (letterIn (now (image .entry)) c p) freeLetter) freeLetter deletedLetter) (now (letters .entry)) (now (letters .exit)) ⌝ }
+{
+    let mut p: usize = 0;
+    while p < POSITIONS {
+        letters[p] = unspent(letter_in(image, c, p));
+        p += 1;
+    }
+}
+
+// An event gives place x a page and a key, where the place holds no higher sequence.
+fn take_place(map: &mut [u16], scratch: &mut [u32], x: usize, sequence: u32, page: u16, key: u16)
+    requires { ⌜ (length (now map) ≡ mapSize) × (length (now scratch) ≡ places) × (x < places) ⌝ }
+    ensures { λ _. ⌜ EachPlace (λ y held. cond (eqb x y) (outranks (record { sequence = sequence; page = page; key = key }) held) held) (now (map .entry)) (now (scratch .entry)) (now (map .exit)) (now (scratch .exit)) ⌝ }
+{
+    if scratch[x] <= sequence {
+        put_place(map, scratch, x, sequence, page, key);
+    }
+}
+
+// A cut-off takes the places from first up to end.
+fn remove_places(map: &mut [u16], scratch: &mut [u32], first: usize, end: usize, sequence: u32)
+    requires { ⌜ (length (now map) ≡ mapSize) × (length (now scratch) ≡ places) × (first ≤ end) × (end ≤ places) ⌝ }
+    ensures { λ _. ⌜ EachPlace (λ y held. cond (leb first y && ltb y end) (outranks (record { sequence = sequence; page = none; key = none }) held) held) (now (map .entry)) (now (scratch .entry)) (now (map .exit)) (now (scratch .exit)) ⌝ }
+{
+    let mut x = first;
+    while x < end {
+        take_place(map, scratch, x, sequence, entries::NONE, entries::NONE);
+        x += 1;
+    }
+}
+
+// What the whole page g with header f gives its places.
+fn apply_event(map: &mut [u16], scratch: &mut [u32], g: usize, f: Frame, covered: u32)
+    requires { ⌜ (length (now map) ≡ mapSize) × (length (now scratch) ≡ places) × (g < none) × (inRange f ≡ true) ⌝ }
+    ensures { λ _. ⌜ EachPlace (λ x. decideBy covered x g (Form.Whole f)) (now (map .entry)) (now (scratch .entry)) (now (map .exit)) (now (scratch .exit)) ⌝ }
+{
+    if f.number <= covered {
+        return;
+    }
+    if f.kind == Frame::NODE_LETTER {
+        let x = record::place_at(f.unit, f.part);
+        take_place(map, scratch, x, f.number, g as u16, f.key as u16);
+        return;
+    }
+    if f.kind == Frame::CUT_OFF_LETTER {
+        let first = record::place_at(f.unit, f.part);
+        let end = plan::start(f.unit) + plan::count(f.unit);
+        remove_places(map, scratch, first, end as usize, f.number);
+    }
+}
+
+// What page g gives its places: only a whole page is an event.
+fn apply(map: &mut [u16], scratch: &mut [u32], g: usize, form: Form, covered: u32)
+    requires { ⌜ (length (now map) ≡ mapSize) × (length (now scratch) ≡ places) × (g < none) × (rangeRight form ≡ true) ⌝ }
+    ensures { λ _. ⌜ EachPlace (λ x. decideBy covered x g form) (now (map .entry)) (now (scratch .entry)) (now (map .exit)) (now (scratch .exit)) ⌝ }
+{
+    match form {
+        Form::Empty => {}
+        Form::Whole(f) => apply_event(map, scratch, g, f, covered),
+        Form::Torn(_) => {}
+        Form::Spoilt => {}
+    }
+}
+
+// A header of a node above the covered sequence leaves its key deleted.
+fn spend_key(letters: &mut [u8], f: Frame, covered: u32)
+    requires { ⌜ (length (now letters) ≡ positions) × (inRange f ≡ true) ⌝ }
+    ensures { λ _. ⌜ EachLetter (λ p l. cond (eqb (f .kind) nodeLetter && ltb covered (f .number) && eqb (f .key) p) deletedLetter l) (now (letters .entry)) (now (letters .exit)) ⌝ }
+{
+    if f.kind != Frame::NODE_LETTER {
+        return;
+    }
+    if f.number <= covered {
+        return;
+    }
+    let p = f.key as usize;
+    letters[p] = entries::DELETED;
+}
+
+// What a page does to the letters: a torn node spends its key as a whole one does.
+fn spend(letters: &mut [u8], form: Form, covered: u32)
+    requires { ⌜ (length (now letters) ≡ positions) × (rangeRight form ≡ true) ⌝ }
+    ensures { λ _. ⌜ EachLetter (λ p l. cond (spends covered p form) deletedLetter l) (now (letters .entry)) (now (letters .exit)) ⌝ }
+{
+    match form {
+        Form::Empty => {}
+        Form::Whole(f) => spend_key(letters, f, covered),
+        Form::Torn(f) => spend_key(letters, f, covered),
+        Form::Spoilt => {}
+    }
+}
+
+// Notes the block of page g as one that has an event, where the page is a whole or torn N or D page.
+fn note(events: &mut [u8], g: usize, form: Form)
+    requires { ⌜ (length (now events) ≡ mostBlocks) × (g / pagesInBlock < mostBlocks) ⌝ }
+    ensures { λ _. ⌜ now (events .exit) ≡ cond (headed form) (set (now (events .entry)) (g / pagesInBlock) 1) (now (events .entry)) ⌝ }
+{
+    if kinds::is_headed(form) {
+        events[g / PAGES_IN_BLOCK] = 1;
+    }
+}
+
+// The sequence of a whole or torn N or D page, 0 of any other.
+fn sequence_of(form: Form) -> u32
+    ensures { λ r. ⌜ r ≡ sequenceOf form ⌝ }
+{
+    match form {
+        Form::Empty => 0,
+        Form::Whole(f) => kinds::event_number(f),
+        Form::Torn(f) => kinds::event_number(f),
+        Form::Spoilt => 0,
+    }
+}
+
+// The higher of two numbers.
+fn higher(a: u32, b: u32) -> u32
+    ensures { λ r. ⌜ r ≡ max a b ⌝ }
+{
+    if a < b {
+        return b;
+    }
+    a
+}
+
+// What page g makes of the lists; returns the highest sequence. What is no event is mostly told by its first byte.
+fn replay_page(
+    image: &[u8],
+    g: usize,
+    covered: u32,
+    highest: u32,
+    map: &mut [u16],
+    letters: &mut [u8],
+    scratch: &mut [u32],
+    events: &mut [u8],
+) -> u32
+    requires { ⌜ (sizeRight (now image) ≡ true) × (g < pages (now image)) ⌝ }
+    requires { ⌜ (length (now map) ≡ mapSize) × (length (now letters) ≡ positions) × (length (now scratch) ≡ places) × (length (now events) ≡ mostBlocks) ⌝ }
+    ensures { λ r. ⌜ Passed (now (image .entry)) covered 1 g
+        (pass (now (map .entry)) (now (letters .entry)) (now (scratch .entry)) (now (events .entry)) highest)
+        (pass (now (map .exit)) (now (letters .exit)) (now (scratch .exit)) (now (events .exit)) r) ⌝ }
+{
+    if !kinds::is_event_letter(image[g * Frame::PAGE]) {
+        return highest;
+    }
+    let form = look::form_at(image, g);
+    apply(map, scratch, g, form, covered);
+    spend(letters, form, covered);
+    note(events, g, form);
+    higher(highest, sequence_of(form))
+}
+
+// What all pages make of the lists, in order; returns the highest sequence.
+fn replay_pages(
+    image: &[u8],
+    covered: u32,
+    map: &mut [u16],
+    letters: &mut [u8],
+    scratch: &mut [u32],
+    events: &mut [u8],
+) -> u32
+    requires { ⌜ sizeRight (now image) ≡ true ⌝ }
+    requires { ⌜ (length (now map) ≡ mapSize) × (length (now letters) ≡ positions) × (length (now scratch) ≡ places) × (length (now events) ≡ mostBlocks) ⌝ }
+    ensures { λ r. ⌜ Passed (now (image .entry)) covered (pages (now (image .entry))) 0
+        (pass (now (map .entry)) (now (letters .entry)) (now (scratch .entry)) (now (events .entry)) 0)
+        (pass (now (map .exit)) (now (letters .exit)) (now (scratch .exit)) (now (events .exit)) r) ⌝ }
+{
+    let n = image.len() / Frame::PAGE;
+    let mut highest: u32 = 0;
+    let mut g: usize = 0;
+    while g < n {
+        highest = replay_page(image, g, covered, highest, map, letters, scratch, events);
+        g += 1;
+    }
+    highest
+}
+
+// The whole pass, with the commit in block c, which covers covered; returns the highest sequence of the pages.
+pub fn replay(
+    image: &[u8],
+    c: usize,
+    covered: u32,
+    map: &mut [u16],
+    letters: &mut [u8],
+    scratch: &mut [u32],
+    events: &mut [u8],
+) -> u32
+    requires { ⌜ (sizeRight (now image) ≡ true) × ((e : ℕ) × (kindOf (now image) c ≡ Kind.Commit e covered)) ⌝ }
+    requires { ⌜ (length (now map) ≡ mapSize) × (length (now letters) ≡ positions) × (length (now scratch) ≡ places) × (now events ≡ replicate mostBlocks 0) ⌝ }
+    ensures { λ r. ⌜ Replayed (now (image .entry)) c (pass (now (map .exit)) (now (letters .exit)) (now (scratch .exit)) (now (events .exit)) r) ⌝ }
+{
+    read_entries(image, c, map, scratch);
+    read_letters(image, c, letters);
+    replay_pages(image, covered, map, letters, scratch, events)
+}

@@ -126,6 +126,18 @@ foremost-agree rank rank' n same = answers-unique rank' n (foremost rank n) (for
         }
     go Nothing f = λ a h. omega (arith, same a h, f a h)
 
+-- ranks of which none is higher than before, and the foremost's as it was
+pub foremost-lowered : (rank rank' : ℕ → ℕ) (n b : ℕ) → rank' b ≡ rank b → ((a : ℕ) → a < n → rank' a ≤ rank a) → foremost rank n ≡ At b → foremost rank' n ≡ At b
+foremost-lowered rank rank' n b same low e =
+    let f = foremost-at rank n b e in
+    at-foremost rank' n b
+    (record {
+      below = f .below;
+      ranked = omega (arith, f .ranked);
+      highest = λ a h. omega (arith, low a h, f .highest a h);
+      lowest = λ a h. omega (arith, low a (omega (arith, f .below)), f .lowest a h);
+    })
+
 -- ---- the chosen blocks, by an epoch of their kinds: commitEpoch for the commit, keysEpoch q for key block q
 abbrev pub chosenBy : (Kind → ℕ) → List ℕ → Found
 chosenBy epoch img = foremost (λ b. epoch (kindOf img b)) (blocks img)

@@ -1,11 +1,11 @@
 -- What the code of a mount needs where it goes on, and that it leaves what the call's definition says.
-use Prim.Native.Nat.{ℕ, _+_, _<_, _≤_, max}
+use Prim.Native.Nat.{ℕ, _<_, _≤_}
 use native.Mathlib.Omega.{arith}
 use mathlib.Core.Path.{_≡_, refl, sym, ap, _∙_}
-use mathlib.Core.Bool.{Bool, true, false, cond, _||_}
-use mathlib.Core.List.{List, [], map as each}
+use mathlib.Core.Bool.{true, false, cond, _||_}
+use mathlib.Core.List.{List, map as each}
 use lib.Dec.{eqb, leb}
-use lib.ListN.{length, drop, replicate}
+use lib.ListN.{length, drop}
 use borrow.Author.Tests.{leb-true, eqb-true, eq-eqb}
 use Rattle.base.specs.Search.{whichFrom, highestFrom}
 use Rattle.base.proofs.Choice.{and-true}
@@ -27,7 +27,7 @@ use Rattle.store.specs.Format.{buffersRight, noNumbers}
 use Rattle.store.specs.Mount.{chosenCommit, chosenKeys, coveredIn, sequenceOf, epochOf, mountNumbers, mounted, isStray, mountSteps, mountTests, sizeTests, blockTests, mountOf}
 use Rattle.store.specs.Survey.{surveyOf, coveredAt, surveyNumbers, Surveyed}
 use Rattle.store.specs.Rebuild.{mountFits, highestSequence, rebuiltOf, Rebuilding, Cleared}
-use Rattle.store.specs.Taken.{Buffers, MountChosen, MountTaken}
+use Rattle.store.specs.Taken.{Buffers, MountChosen}
 use Rattle.store.specs.declared.Numbers.{Numbers}
 use Rattle.store.specs.declared.survey.Survey.{Survey}
 use Rattle.store.specs.declared.rebuild.Rebuilt.{Rebuilt}
@@ -35,7 +35,7 @@ use Rattle.store.specs.declared.rebuild.Rebuilt.the-variants.{Fits, Unfi
 use Rattle.store.specs.declared.Kind.the-variants.{Commit}
 use Rattle.store.specs.declared.Reply.{Reply}
 use Rattle.store.specs.declared.Reply.the-variants.{Done, EntryUnfit, PowerCut}
-use Rattle.store.proofs.Verdicts.{Passes, verdict-done, verdict-among, verdict-pass, verdict-stop, done-true, buffers-true, buffers-right, mount-reply, mount-taken, mount-done}
+use Rattle.store.proofs.Verdicts.{verdict-done, verdict-among, done-true, buffers-true, buffers-right, mount-reply, mount-taken}
 use Rattle.store.proofs.Refusals.{refuses-first, passes-first}
 use Rattle.store.proofs.BlockKinds.{commit-range}
 use Rattle.store.proofs.Choices.{commit-chosen, keys-chosen}

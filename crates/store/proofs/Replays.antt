@@ -1,11 +1,11 @@
 -- Mount's pass over the pages: what each step makes of a place, a letter, the blocks with events and the highest sequence; and what the whole pass leaves.
-use Prim.Native.Nat.{ℕ, zero, suc, _+_, _-_, _*_, _/_, _%_, _<_, _≤_, max}
+use Prim.Native.Nat.{ℕ, _+_, _-_, _*_, _/_, _%_, _<_, _≤_, max}
 use native.Mathlib.Omega.{arith}
 use native.Mathlib.Nat.{zero-add}
 use native.Mathlib.Decide.{decLt}
 use mathlib.Core.Path.{_≡_, refl, sym, ap, _∙_}
 use mathlib.Core.Bool.{Bool, true, false, cond, not, _&&_, _||_, and-true as and-true-right, and-false, or-false}
-use mathlib.Core.List.{List, _++_}
+use mathlib.Core.List.{List}
 use lib.Dec.{eqb, leb, ltb}
 use lib.ListN.{length, getD, set, replicate, length-set, getD-replicate}
 use lib.Seq.{getD-set-same, getD-set-other, ext-getD}
@@ -43,6 +43,13 @@ use Rattle.store.specs.Replay.{Pass, heldAt, EachPlace, EachLetter, outr
 use Rattle.store.specs.declared.Kind.the-variants.{Commit}
 use Rattle.store.proofs.BlockKinds.{whole-in-range, torn-in-range, commit-inside}
 use Rattle.store.proofs.Decisions.{setBy, cutBy, mount-map-length, mount-page, mount-key, mount-scratch-length, mount-sequence}
+
+-- two tests, in either order
+swap-tests : {A : Type 0} (a b : Bool) (x y : A) → cond a (cond b x y) y ≡ cond b (cond a x y) y
+swap-tests true true x y = refl
+swap-tests true false x y = refl
+swap-tests false true x y = refl
+swap-tests false false x y = refl
 
 -- neither of two tests
 or-fails : (a b : Bool) → a || b ≡ false → (a ≡ false) × (b ≡ false)
@@ -143,13 +150,7 @@ module _ (s g : ℕ) (f : Frame) where
   node-takes map scratch map' scratch' at above node planned here takes x h =
       takes x h
       ∙ rw (here, lt-ltb s (f .number) above, node, place-at filePlan (f .unit) (f .part) (planned .offsetRight))
-      (go (eqb (placeAt (f .unit) (f .part)) x) (leb (getD scratch x 0) (f .number)) (heldAt map scratch x))
-    where
-      go : (b t : Bool) (d : Decision) → cond b (cond t (setBy g f) d) d ≡ cond t (cond b (setBy g f) d) d
-      go true true d = refl
-      go true false d = refl
-      go false true d = refl
-      go false false d = refl
+      (swap-tests (eqb (placeAt (f .unit) (f .part)) x) (leb (getD scratch x 0) (f .number)) (setBy g f) (heldAt map scratch x))
 
   -- and D the places of its file from its offset on
   pub cut-off-takes : (map scratch map' scratch' : List ℕ) (first start count : ℕ) → s < f .number → f .kind ≡ cutOffLetter
@@ -160,13 +161,7 @@ module _ (s g : ℕ) (f : Frame) where
   cut-off-takes map scratch map' scratch' first start count above cut-off here starts counts takes x h =
       takes x h
       ∙ rw (here, starts, counts, lt-ltb s (f .number) above, cut-off)
-      (go (leb (placeAt (f .unit) (f .part)) x && ltb x (startOf filePlan (f .unit) + countOf filePlan (f .unit))) (leb (getD scratch x 0) (f .number)) (heldAt map scratch x))
-    where
-      go : (b t : Bool) (d : Decision) → cond b (cond t (cutBy f) d) d ≡ cond t (cond b (cutBy f) d) d
-      go true true d = refl
-      go true false d = refl
-      go false true d = refl
-      go false false d = refl
+      (swap-tests (leb (placeAt (f .unit) (f .part)) x && ltb x (startOf filePlan (f .unit) + countOf filePlan (f .unit))) (leb (getD scratch x 0) (f .number)) (cutBy f) (heldAt map scratch x))
 
 -- the places of a file end with the plan
 pub file-end : (file : ℕ) → file ≤ lastFile → startOf filePlan file + countOf filePlan file ≤ places

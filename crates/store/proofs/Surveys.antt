@@ -1,32 +1,28 @@
 -- One pass over the blocks, block by block: the first state, each step, and what it found at the end.
-use Prim.Native.Nat.{ℕ, _+_, suc, zero, max}
+use Prim.Native.Nat.{ℕ, _+_, suc, max}
 use native.Mathlib.Omega.{arith}
 use native.Mathlib.Nat.{zero-add}
 use native.Mathlib.Numerals.{add-one}
-use mathlib.Core.Path.{_≡_, refl, sym, ap, _∙_}
-use mathlib.Core.Bool.{Bool, true, false, cond}
+use mathlib.Core.Path.{_≡_, sym, ap, _∙_}
+use mathlib.Core.Bool.{cond}
 use mathlib.Core.List.{List}
 use lib.Dec.{ltb}
 use Rattle.base.specs.Search.{highestFrom}
 use Rattle.base.proofs.Choice.{cond-ap}
+use Rattle.base.proofs.Searches.{highest-join}
 use Rattle.store.specs.Kind.{kindOf, keysEpoch, commitEpoch, coveredBy}
 use Rattle.store.specs.Mount.{rankOf, foremost, coveredIn, epochOf}
-use Rattle.store.specs.Survey.{bestOf, coveredAt, surveyOf, noBest, betterBy, coveredNext, noSurvey, surveyNext}
-use Rattle.store.specs.declared.Kind.{Kind}
+use Rattle.store.specs.Survey.{bestOf, coveredAt, surveyOf, noBest, betterBy, noSurvey, surveyNext}
 use Rattle.store.specs.declared.Found.{Found}
-use Rattle.store.specs.declared.Found.the-variants.{At, Nothing}
+use Rattle.store.specs.declared.Found.the-variants.{At}
 use Rattle.store.specs.declared.survey.Best.{Best}
 use Rattle.store.specs.declared.survey.Survey.{Survey}
-use Rattle.store.proofs.Choices.{foremost-none, foremost-next, better}
+use Rattle.store.proofs.Choices.{foremost-none, foremost-next}
 
 -- ---- the highest value, with one number more after the others
-pub highest-last : (f : ℕ → ℕ) (n i : ℕ) → highestFrom f (suc n) i ≡ max (highestFrom f n i) (f (i + n))
+highest-next : (f : ℕ → ℕ) (n : ℕ) → highestFrom f (suc n) 0 ≡ max (highestFrom f n 0) (f n)
 unfolding highestFrom
-highest-last f zero i = let e : i + 0 ≡ i = omega arith in rw e (omega arith)
-highest-last f (suc n) i =
-    let e : suc i + n ≡ i + suc n = omega arith in
-    let r : highestFrom f (suc n) (suc i) ≡ max (highestFrom f n (suc i)) (f (i + suc n)) = rw e at (highest-last f n (suc i)) in
-    omega arith
+highest-next f n = ap (λ (m : ℕ). highestFrom f m 0) (sym (add-one n)) ∙ highest-join f n 1 0 ∙ rw zero-add (omega arith)
 
 -- ---- the foremost
 best-none : (rank : ℕ → ℕ) → bestOf rank 0 ≡ noBest
@@ -62,4 +58,4 @@ unfolding surveyOf surveyNext
 survey-next img b =
     rw add-one
     (same-parts (best-next (λ a. commitEpoch (kindOf img a)) b) (covered-next img b) (best-next (λ a. keysEpoch 0 (kindOf img a)) b) (best-next (λ a. keysEpoch 1 (kindOf img a)) b)
-    (sym (highest-last (epochOf img) b 0 ∙ rw zero-add)))
+    (sym (highest-next (epochOf img) b)))

@@ -3,9 +3,11 @@
 --   heldAt       what map and scratch hold of a place
 --   EachPlace, EachLetter   what a change makes of each place, of each letter
 --   outranks     an event against what a place holds
+--   rangeRight   a form whose header, if any, is in range
+--   eventOf      a page that is a whole or torn N or D page of a block
 --   Passed       what some pages in a row make of it
 --   Replayed     what the whole pass leaves
-use Prim.Native.Nat.{ℕ, _+_, _<_, _/_, max}
+use Prim.Native.Nat.{ℕ, _<_, _/_, max}
 use mathlib.Core.Path.{_≡_}
 use mathlib.Core.Bool.{Bool, true, cond, _&&_}
 use mathlib.Core.List.{List}

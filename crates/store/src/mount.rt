@@ -22,6 +22,9 @@ ghost use Rattle.store.specs.Mount.{sizeTests, blockTests, mountOf};
 ghost use Rattle.store.specs.Survey.{surveyOf, surveyNumbers, Surveyed};
 ghost use Rattle.store.specs.Taken.{MountChosen};
 
+// An image has at most 256 blocks.
+const MOST_BLOCKS: usize = 256;
+
 // The tests of the image's size and of the buffers' lengths, in order.
 fn refuse_sizes(image: &[u8], map: &[u16], letters: &[u8], scratch: &[u32]) -> Reply
     ensures { λ r. ⌜ r ≡ verdict (sizeTests (now (image .entry)) (now (map .entry)) (now (letters .entry)) (now (scratch .entry))) ⌝ }
@@ -85,7 +88,7 @@ fn mount_chosen(
     requires { ⌜ s ≡ surveyOf (now image) (blocks (now image)) ⌝ }
     ensures { λ r. ⌜ standing r (now (image .exit)) (now (map .exit)) (now (letters .exit)) (now (scratch .exit)) ≡ left n k (mountOf (now (image .entry)) (now (map .entry)) (now (letters .entry)) (now (scratch .entry))) (now (image .entry)) ⌝ }
 {
-    let mut events = [0u8; 256];
+    let mut events = [0u8; MOST_BLOCKS];
     let commit = s.commit;
     let Rebuilt::Fits(highest) = rebuild::rebuild_record(
         image,
@@ -149,12 +152,7 @@ pub fn mount_cut(
 }
 
 // Mounts the image: the record of it, or map, letters and scratch filled where it is refused with 12 to 14.
-pub fn mount(
-    image: &mut [u8],
-    map: &mut [u16],
-    letters: &mut [u8],
-    scratch: &mut [u32],
-) -> Answer
+pub fn mount(image: &mut [u8], map: &mut [u16], letters: &mut [u8], scratch: &mut [u32]) -> Answer
     ensures { λ r. ⌜ standing r (now (image .exit)) (now (map .exit)) (now (letters .exit)) (now (scratch .exit)) ≡ leftWhole (mountOf (now (image .entry)) (now (map .entry)) (now (letters .entry)) (now (scratch .entry))) (now (image .entry)) ⌝ }
 {
     mount_cut(image, map, letters, scratch, ENOUGH, 0)

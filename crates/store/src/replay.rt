@@ -16,7 +16,6 @@ ghost use mathlib.Core.Bool.{true, cond, _&&_};
 ghost use Prim.Native.Nat.{ℕ, _≤_, _<_, _+_, _*_, _/_, max};
 ghost use lib.ListN.{length, set, replicate};
 ghost use lib.Dec.{eqb, leb, ltb};
-ghost use Rattle.page.specs.Frame.{pageSize};
 ghost use Rattle.page.specs.Plan.{places};
 ghost use Rattle.page.specs.Header.{inRange, nodeLetter};
 ghost use Rattle.page.specs.Key.{positions};
@@ -177,11 +176,10 @@ fn spend_key(letters: &mut [u8], f: Frame, covered: u32)
     if f.kind != Frame::NODE_LETTER {
         return;
     }
-    if f.number <= covered {
-        return;
+    if covered < f.number {
+        let p = f.key as usize;
+        letters[p] = entries::DELETED;
     }
-    let p = f.key as usize;
-    letters[p] = entries::DELETED;
 }
 
 // What a page does to the letters: a torn node spends its key as a whole one does.

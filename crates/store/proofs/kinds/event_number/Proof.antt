@@ -1,5 +1,4 @@
 -- `store::kinds::event_number` meets its contract.
-use mathlib.Core.Path.{refl, sym, ap, _∙_}
 use borrow.Author.Needs.{needs}
 use Rattle.store.proofs.kinds.event_number.Statement.{statement}
 use Rattle.store.proofs.kinds.event_number.Tie as tie

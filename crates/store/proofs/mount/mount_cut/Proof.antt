@@ -81,9 +81,11 @@ mount-chosen-requires : tie.Need-mount-chosen-requires
 mount-chosen-requires c κs =
     let a = c .before .before .before .before .before .before .before .before .before .before .before .before .before .before .before .before .before .before .before .before .args in
     let found = c .before .before .before .before .before .before .before .survey-blocks .ensures in
-    let tests = survey-tests (a .image .now) _ found in
-    (blocks-passed (a .image .now) (a .map .now) (a .letters .now) (a .scratch .now) _ _ (c .before .before .before .before .before .before .before .before .before .before .before .refuse-sizes .ensures) (passed (c .before .before .before .before .before .before .before .before .before .before .is-done .ensures) (c .before .before .before .before .before .before .before .before .before .if1 .left))
-    (c .before .before .before .before .before .before .refuse-blocks .ensures ∙ ap verdict tests) (passed (c .before .before .before .before .before .is-done2 .ensures) (c .before .before .before .before .if2 .left)), found)
+    let tests = survey-tests (a .image .now) _ found in (
+      blocks-passed (a .image .now) (a .map .now) (a .letters .now) (a .scratch .now) _ _ (c .before .before .before .before .before .before .before .before .before .before .before .refuse-sizes .ensures) (passed (c .before .before .before .before .before .before .before .before .before .before .is-done .ensures) (c .before .before .before .before .before .before .before .before .before .if1 .left))
+          (c .before .before .before .before .before .before .refuse-blocks .ensures ∙ ap verdict tests) (passed (c .before .before .before .before .before .is-done2 .ensures) (c .before .before .before .before .if2 .left)),
+      found,
+    )
 
 same-length-9 : tie.Need-same-length-9
 same-length-9 c = search needs

@@ -1,6 +1,5 @@
 -- `store::replay::apply_event` meets its contract, by the header's sequence and kind.
 use native.Mathlib.Omega.{arith}
-use mathlib.Core.Path.{_≡_, sym, ap, subst, _∙_}
 use Rattle.store.specs.Replay.{heldAt}
 use Rattle.store.proofs.Replays.{covered-stays, other-stays, node-takes, cut-off-takes, file-end, node-planned, cut-off-planned}
 use borrow.Author.Needs.{needs}
@@ -10,7 +9,7 @@ use Rattle.store.proofs.replay.apply_event.Tie as tie
 returns : tie.Need-returns
 returns c =
     let a = c .before .before .before .before .args in
-    λ x h. covered-stays (a .covered) (a .g) (a .f) x (heldAt (a .map .now) (a .scratch .now) x) (c .if1 .taken)
+    λ x h. covered-stays (a .covered) (a .g) (a .f) x (heldAt (a .map .now) (a .scratch .now) x) (omega (arith, c .if1 .taken))
 
 place-at-requires : tie.Need-place-at-requires
 place-at-requires c κs = node-planned (c .before .before .before .before .before .before .args .f) (c .if2 .taken) (c .before .before .before .before .before .before .pre .3) .0
@@ -37,7 +36,7 @@ returns-2 c =
     let t = c .before .before .before .before .take-place in
     let node = c .before .before .before .before .before .before .before .before .before .if2 .taken in
     node-takes (a .covered) (a .g) (a .f) (a .map .now) (a .scratch .now) (t .last .0) (t .last .1 .0) (c .before .before .before .before .before .before .before .before .place-at .result)
-    (c .before .before .before .before .before .before .before .before .before .before .before .if1 .left) node (node-planned (a .f) node (s .pre .3) .0) (c .before .before .before .before .before .before .before .before .place-at .ensures .0) (t .ensures)
+    (omega (arith, c .before .before .before .before .before .before .before .before .before .before .before .if1 .left)) node (node-planned (a .f) node (s .pre .3) .0) (c .before .before .before .before .before .before .before .before .place-at .ensures .0) (t .ensures)
 
 place-at-requires-2 : tie.Need-place-at-requires-2
 place-at-requires-2 c κs = cut-off-planned (c .before .before .before .before .before .before .before .before .args .f) (c .if3 .taken) (c .before .before .before .before .before .before .before .before .pre .3)
@@ -79,7 +78,7 @@ returns-3 c =
     let count = c .before .before .before .before .before .before .before .count in
     let first = c .before .before .before .before .before .before .before .before .before .place-at2 in
     cut-off-takes (a .covered) (a .g) (a .f) (a .map .now) (a .scratch .now) (t .last .0) (t .last .1 .0) (first .result) (start .result) (count .result)
-    (c .before .before .before .before .before .before .before .before .before .before .before .before .before .before .if1 .left) (c .before .before .before .before .before .before .before .before .before .before .if3 .taken) (first .ensures .0) (start .ensures) (count .ensures) (t .ensures)
+    (omega (arith, c .before .before .before .before .before .before .before .before .before .before .before .before .before .before .if1 .left)) (c .before .before .before .before .before .before .before .before .before .before .if3 .taken) (first .ensures .0) (start .ensures) (count .ensures) (t .ensures)
 
 returns-4 : tie.Need-returns-4
 returns-4 c =

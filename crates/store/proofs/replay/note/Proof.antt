@@ -1,5 +1,4 @@
 -- `store::replay::note` meets its contract: the mark is set where the page is headed.
-use mathlib.Core.Path.{refl}
 use borrow.Author.Needs.{needs}
 use Rattle.store.proofs.replay.note.Statement.{statement}
 use Rattle.store.proofs.replay.note.Tie as tie

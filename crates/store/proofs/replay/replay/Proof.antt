@@ -1,5 +1,5 @@
 -- `store::replay::replay` meets its contract: the pass begins with what the commit says, and then the pages do their part.
-use mathlib.Core.Path.{_≡_, refl, ap, _∙_}
+use mathlib.Core.Path.{refl, ap, _∙_}
 use Prim.Native.Nat.{ℕ}
 use lib.ListN.{length, length-replicate}
 use Rattle.image.specs.Size.{mostBlocks}

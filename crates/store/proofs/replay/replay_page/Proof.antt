@@ -1,6 +1,6 @@
 -- `store::replay::replay_page` meets its contract: a page that begins with another byte than N and D changes nothing; any other does by its form.
 use Prim.Native.Nat.{max}
-use mathlib.Core.Path.{sym, ap, _∙_}
+use mathlib.Core.Path.{ap, _∙_}
 use native.Mathlib.Omega.{arith}
 use Rattle.store.specs.Replay.{pass}
 use Rattle.store.proofs.BlockKinds.{unheaded}

@@ -1,5 +1,6 @@
 -- `store::replay::take_place` meets its contract: the event is put where the place holds no higher sequence.
 use Rattle.store.proofs.Replays.{take-held, left-held}
+use native.Mathlib.Omega.{arith}
 use borrow.Author.Needs.{needs}
 use Rattle.store.proofs.replay.take_place.Statement.{statement}
 use Rattle.store.proofs.replay.take_place.Tie as tie
@@ -23,12 +24,12 @@ returns : tie.Need-returns
 returns c =
     let a = c .before .before .before .before .before .before .before .before .before .before .before .args in
     let p = c .before .before .before .before .put-place in
-    take-held (a .map .now) (a .scratch .now) (a .x) (record { sequence = a .sequence; page = a .page; key = a .key }) (p .last .0) (p .last .1 .0) (c .before .before .before .before .before .before .before .if1 .taken) (p .ensures)
+    take-held (a .map .now) (a .scratch .now) (a .x) (record { sequence = a .sequence; page = a .page; key = a .key }) (p .last .0) (p .last .1 .0) (omega (arith, c .before .before .before .before .before .before .before .if1 .taken)) (p .ensures)
 
 returns-2 : tie.Need-returns-2
 returns-2 c =
     let a = c .before .before .before .before .args in
-    left-held (a .map .now) (a .scratch .now) (a .x) (record { sequence = a .sequence; page = a .page; key = a .key }) (c .if1 .left)
+    left-held (a .map .now) (a .scratch .now) (a .x) (record { sequence = a .sequence; page = a .page; key = a .key }) (omega (arith, c .if1 .left))
 
 pub take-place-spec : {M : Type 1} → statement M
 take-place-spec =

@@ -53,10 +53,12 @@ loop-again c =
     let t : l .b < blocks (a .image .now) = omega arith in
     let kept = c .before .before .before .before .before .is-chosen .result || not (eqb (getD (a .events .now) (l .b) 0) 0) || blockEmpty (l .image) (l .b) in
     let stray : isStray (a .image .now) (a .numbers) (l .b) ≡ not kept
-    = rw (c .before .before .before .before .before .is-chosen .ensures) (kept-is (a .image .now) (l .image) (a .numbers) (l .b) (getD (a .events .now) (l .b) 0) (s .pre .2 (l .b) t) (l .inv .2 (l .b) (omega arith))) in
-    (omega arith, w .kept .0 ∙ l .inv .1,
-    λ i h. unless-other kept (l .b) i (l .q) (w .result) (l .image) (w .last .0) (w .ensures) (omega arith) (λ e. omega arith) ∙ l .inv .2 i (omega arith),
-    l .inv .3 ∙ strays-next (isStray (a .image .now) (a .numbers)) (blocks (a .image .now)) (l .b) kept (device (l .q) (l .image)) (device (w .result) (w .last .0)) t stray (w .ensures))
+    = rw (c .before .before .before .before .before .is-chosen .ensures) (kept-is (a .image .now) (l .image) (a .numbers) (l .b) (getD (a .events .now) (l .b) 0) (s .pre .2 (l .b) t) (l .inv .2 (l .b) (omega arith))) in (
+      omega arith,
+      w .kept .0 ∙ l .inv .1,
+      λ i h. unless-other kept (l .b) i (l .q) (w .result) (l .image) (w .last .0) (w .ensures) (omega arith) (λ e. omega arith) ∙ l .inv .2 i (omega arith),
+      l .inv .3 ∙ strays-next (isStray (a .image .now) (a .numbers)) (blocks (a .image .now)) (l .b) kept (device (l .q) (l .image)) (device (w .result) (w .last .0)) t stray (w .ensures),
+    )
 
 same-length : tie.Need-same-length Inv-loop μ-loop
 same-length c = c .before .loop .inv .1

@@ -1,3 +1,4 @@
+-- The test decides.
 use borrow.Author.Tests.{lt-ltb, le-ltb}
 use Rattle.store.proofs.survey.better.Statement.{statement}
 use Rattle.store.proofs.survey.better.Tie as tie

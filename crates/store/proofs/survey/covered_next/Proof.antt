@@ -1,3 +1,4 @@
+-- The test decides.
 use borrow.Author.Tests.{lt-ltb, le-ltb}
 use borrow.Author.Needs.{needs}
 use Rattle.store.proofs.survey.covered_next.Statement.{statement}

@@ -1,3 +1,4 @@
+-- Field by field.
 use borrow.Author.Needs.{needs}
 use Rattle.store.proofs.survey.no_survey.Statement.{statement}
 use Rattle.store.proofs.survey.no_survey.Tie as tie

@@ -1,3 +1,4 @@
+-- The survey is that of the blocks below b.
 use borrow.Author.Needs.{needs}
 use Prim.Native.Nat.{_≤_, _-_}
 use native.Mathlib.Omega.{arith}

@@ -1,3 +1,4 @@
+-- Field by field.
 use Rattle.store.specs.Survey.{surveyNext}
 use borrow.Author.Needs.{needs}
 use Rattle.store.proofs.survey.survey_next.Statement.{statement}
@@ -33,8 +34,17 @@ larger-requires c κs = search needs
 returns : tie.Need-returns
 unfolding surveyNext
 returns c =
-    rw (c .before .before .before .before .before .before .before .better .ensures, c .before .before .before .before .before .before .covered-next .ensures, c .before .before .before .before .better2 .ensures, c .before .before .better3 .ensures, c .larger .ensures,
-      c .before .before .before .before .before .before .before .before .commit-epoch .ensures, c .before .before .before .before .before .keys-epoch .ensures, c .before .before .before .keys-epoch2 .ensures, c .before .epoch-in .ensures)
+    rw (
+      c .before .before .before .before .before .before .before .better .ensures,
+      c .before .before .before .before .before .before .covered-next .ensures,
+      c .before .before .before .before .better2 .ensures,
+      c .before .before .better3 .ensures,
+      c .larger .ensures,
+      c .before .before .before .before .before .before .before .before .commit-epoch .ensures,
+      c .before .before .before .before .before .keys-epoch .ensures,
+      c .before .before .before .keys-epoch2 .ensures,
+      c .before .epoch-in .ensures,
+    )
 
 pub survey-next-spec : {M : Type 1} → statement M
 survey-next-spec =

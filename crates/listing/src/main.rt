@@ -10,6 +10,7 @@ use store::replies;
 ghost use mathlib.Core.Path.{_≡_};
 ghost use Prim.Native.Nat.{_≤_};
 ghost use lib.ListN.{length, take};
+ghost use Rattle.base.specs.Lent.{old, new};
 ghost use Rattle.listing.specs.Listing.{listingOf, listed, textSize};
 
 // The most bytes that an image has.
@@ -27,7 +28,7 @@ const IMAGE_SIZE: u32 = 1;
 // Mounts an image and writes its listing.
 fn list_image(image: &mut [u8], out: &mut [u8]) -> usize
     requires { ⌜ textSize ≤ length (now out) ⌝ }
-    ensures { λ r. ⌜ (r ≤ textSize) × (take r (now (out .exit)) ≡ listingOf (now (image .entry))) ⌝ }
+    ensures { λ r. ⌜ (r ≤ textSize) × (take r (new out) ≡ listingOf (old image)) ⌝ }
 {
     let mut map = [0u16; MAP];
     let mut letters = [0u8; POSITIONS];
@@ -40,7 +41,7 @@ fn list_image(image: &mut [u8], out: &mut [u8]) -> usize
 // Writes the listing of what was read.
 fn list(input: &mut [u8], out: &mut [u8]) -> usize
     requires { ⌜ textSize ≤ length (now out) ⌝ }
-    ensures { λ r. ⌜ (r ≤ textSize) × (take r (now (out .exit)) ≡ listed (now (input .entry))) ⌝ }
+    ensures { λ r. ⌜ (r ≤ textSize) × (take r (new out) ≡ listed (old input)) ⌝ }
 {
     if LONGEST < input.len() {
         return text::put_refusal(out, IMAGE_SIZE);

@@ -10,6 +10,7 @@ ghost use mathlib.Core.List.{_++_};
 ghost use Prim.Native.Nat.{_≤_, _<_, _+_, _*_};
 ghost use lib.ListN.{length, take};
 ghost use lib.Dec.{eqb};
+ghost use Rattle.base.specs.Lent.{old, new};
 ghost use Rattle.page.specs.Column.{spell};
 ghost use Rattle.page.specs.Plan.{lastFile, places};
 ghost use Rattle.page.specs.Key.{positions};
@@ -21,7 +22,7 @@ const LINE_END: u8 = b'\n';
 // Writes n in w columns.
 fn put_number(out: &mut [u8], at: usize, w: usize, n: u32) -> usize
     requires { ⌜ (at + w ≤ length (now out)) × (1 ≤ w) ⌝ }
-    ensures { λ r. ⌜ (r ≡ at + w) × (take r (now (out .exit)) ≡ take at (now (out .entry)) ++ spell w n) ⌝ }
+    ensures { λ r. ⌜ (r ≡ at + w) × (take r (new out) ≡ take at (old out) ++ spell w n) ⌝ }
 {
     columns::put_at(out, at, w, n);
     at + w
@@ -30,7 +31,7 @@ fn put_number(out: &mut [u8], at: usize, w: usize, n: u32) -> usize
 // Ends the line.
 fn put_line_end(out: &mut [u8], at: usize) -> usize
     requires { ⌜ at < length (now out) ⌝ }
-    ensures { λ r. ⌜ (r ≡ at + 1) × (take r (now (out .exit)) ≡ take at (now (out .entry)) ++ lineEnd) ⌝ }
+    ensures { λ r. ⌜ (r ≡ at + 1) × (take r (new out) ≡ take at (old out) ++ lineEnd) ⌝ }
 {
     out[at] = LINE_END;
     at + 1
@@ -39,7 +40,7 @@ fn put_line_end(out: &mut [u8], at: usize) -> usize
 // Writes the row of a node.
 fn put_row(out: &mut [u8], at: usize, file: u32, offset: u32, page: u16, key: u16) -> usize
     requires { ⌜ at + rowSize ≤ length (now out) ⌝ }
-    ensures { λ r. ⌜ (r ≡ at + rowSize) × (take r (now (out .exit)) ≡ take at (now (out .entry)) ++ row file offset page key) ⌝ }
+    ensures { λ r. ⌜ (r ≡ at + rowSize) × (take r (new out) ≡ take at (old out) ++ row file offset page key) ⌝ }
 {
     let after_file = put_number(out, at, 4, file);
     let after_offset = put_number(out, after_file, 4, offset);
@@ -73,7 +74,7 @@ fn offset_of(x: usize, file: u32) -> u32
 // Writes the row of place x, if it has a node.
 fn put_place(out: &mut [u8], at: usize, map: &[u16], x: usize) -> usize
     requires { ⌜ (at + rowSize ≤ length (now out)) × (length (now map) ≡ mapSize) × (x < places) ⌝ }
-    ensures { λ r. ⌜ (r ≤ at + rowSize) × (take r (now (out .exit)) ≡ take at (now (out .entry)) ++ rowOf (now (map .entry)) x) ⌝ }
+    ensures { λ r. ⌜ (r ≤ at + rowSize) × (take r (new out) ≡ take at (old out) ++ rowOf (old map) x) ⌝ }
 {
     if map[x] == entries::NONE {
         return at;
@@ -85,7 +86,7 @@ fn put_place(out: &mut [u8], at: usize, map: &[u16], x: usize) -> usize
 // Writes the rows of all places.
 fn put_rows(out: &mut [u8], map: &[u16]) -> usize
     requires { ⌜ (textSize ≤ length (now out)) × (length (now map) ≡ mapSize) ⌝ }
-    ensures { λ r. ⌜ (r ≤ rowSize * places) × (take r (now (out .exit)) ≡ rowsFrom (now (map .entry)) places 0) ⌝ }
+    ensures { λ r. ⌜ (r ≤ rowSize * places) × (take r (new out) ≡ rowsFrom (old map) places 0) ⌝ }
 {
     let mut at: usize = 0;
     let mut x: usize = 0;
@@ -106,7 +107,7 @@ fn one_if_same(a: u8, b: u8) -> u32
 // How many positions have letter l.
 fn count(letters: &[u8], l: u8) -> u32
     requires { ⌜ length (now letters) ≡ positions ⌝ }
-    ensures { λ r. ⌜ r ≡ total l (now (letters .entry)) ⌝ }
+    ensures { λ r. ⌜ r ≡ total l (old letters) ⌝ }
 {
     let mut n: u32 = 0;
     let mut p: usize = 0;
@@ -120,7 +121,7 @@ fn count(letters: &[u8], l: u8) -> u32
 // Writes the line of totals.
 fn put_totals(out: &mut [u8], at: usize, letters: &[u8]) -> usize
     requires { ⌜ (at + totalsSize ≤ length (now out)) × (length (now letters) ≡ positions) ⌝ }
-    ensures { λ r. ⌜ (r ≡ at + totalsSize) × (take r (now (out .exit)) ≡ take at (now (out .entry)) ++ totals (now (letters .entry))) ⌝ }
+    ensures { λ r. ⌜ (r ≡ at + totalsSize) × (take r (new out) ≡ take at (old out) ++ totals (old letters)) ⌝ }
 {
     let after_used = put_number(out, at, 6, count(letters, entries::USED));
     let after_free = put_number(out, after_used, 6, count(letters, entries::FREE));
@@ -131,7 +132,7 @@ fn put_totals(out: &mut [u8], at: usize, letters: &[u8]) -> usize
 // Writes the line of a refusal.
 pub fn put_refusal(out: &mut [u8], n: u32) -> usize
     requires { ⌜ textSize ≤ length (now out) ⌝ }
-    ensures { λ r. ⌜ (r ≤ textSize) × (take r (now (out .exit)) ≡ refusal n) ⌝ }
+    ensures { λ r. ⌜ (r ≤ textSize) × (take r (new out) ≡ refusal n) ⌝ }
 {
     let after_number = put_number(out, 0, 6, n);
     put_line_end(out, after_number)
@@ -140,7 +141,7 @@ pub fn put_refusal(out: &mut [u8], n: u32) -> usize
 // Writes the text for the number of mount's reply and the record that mount left.
 pub fn put_text(out: &mut [u8], n: u32, map: &[u16], letters: &[u8]) -> usize
     requires { ⌜ (textSize ≤ length (now out)) × (length (now map) ≡ mapSize) × (length (now letters) ≡ positions) ⌝ }
-    ensures { λ r. ⌜ (r ≤ textSize) × (take r (now (out .exit)) ≡ textOf n (now (map .entry)) (now (letters .entry))) ⌝ }
+    ensures { λ r. ⌜ (r ≤ textSize) × (take r (new out) ≡ textOf n (old map) (old letters)) ⌝ }
 {
     if n == 0 {
         let at = put_rows(out, map);

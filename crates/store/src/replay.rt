@@ -121,8 +121,12 @@ fn read_letters(image: &[u8], c: usize, letters: &mut [u8])
 // An event gives place x a page and a key, where the place holds no higher sequence.
 fn take_place(map: &mut [u16], scratch: &mut [u32], x: usize, sequence: u32, page: u16, key: u16)
     requires { ⌜ (length (now map) ≡ mapSize) × (length (now scratch) ≡ places) × (x < places) ⌝ }
-    ensures { λ _. ⌜ EachPlace (λ y held. cond (eqb x y) (outranks (record { sequence = sequence; page = page; key =
-        key }) held) held) (old map) (old scratch) (new map) (new scratch) ⌝ }
+    ensures { λ _. ⌜ EachPlace (λ y held. cond (eqb x y) (outranks (record {
+      sequence = sequence;
+      page = page;
+      key =
+          key;
+    }) held) held) (old map) (old scratch) (new map) (new scratch) ⌝ }
 {
     if scratch[x] <= sequence {
         put_place(map, scratch, x, sequence, page, key);
@@ -132,8 +136,12 @@ fn take_place(map: &mut [u16], scratch: &mut [u32], x: usize, sequence: u32, pag
 // A cut-off takes the places from first up to end.
 fn remove_places(map: &mut [u16], scratch: &mut [u32], first: usize, end: usize, sequence: u32)
     requires { ⌜ (length (now map) ≡ mapSize) × (length (now scratch) ≡ places) × (first ≤ end) × (end ≤ places) ⌝ }
-    ensures { λ _. ⌜ EachPlace (λ y held. cond (leb first y && ltb y end) (outranks (record { sequence = sequence; page
-        = none; key = none }) held) held) (old map) (old scratch) (new map) (new scratch) ⌝ }
+    ensures { λ _. ⌜ EachPlace (λ y held. cond (leb first y && ltb y end) (outranks (record {
+      sequence = sequence;
+      page
+          = none;
+      key = none;
+    }) held) held) (old map) (old scratch) (new map) (new scratch) ⌝ }
 {
     let mut x = first;
     while x < end {

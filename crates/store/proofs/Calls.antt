@@ -24,7 +24,7 @@ use Rattle.image.proofs.Looks.{sized, block-inside}
 use Rattle.image.proofs.Runs.{run-one, run-append}
 use Rattle.store.specs.Reply.{verdict, isDone}
 use Rattle.store.specs.Record.{Record, recordOf, withNumbers, pageOf, keyOf, live}
-use Rattle.store.specs.Outcome.{Outcome, left, leftWhole}
+use Rattle.store.specs.Outcome.{Outcome, left, leftWhole, mostSteps}
 use Rattle.store.specs.Find.{lowestFree, newPage, foundAt}
 use Rattle.store.specs.Format.{noNumbers, formatted, formatTests, formatSteps, formatOf}
 use Rattle.store.specs.Write.{placeAt, keyHeld, nextSequence, placed, writeTests, takingOf, writeSteps, writeOf}
@@ -109,9 +109,9 @@ module _ (img : List ℕ) (r : Record) (file offset : ℕ) (payload : List ℕ) 
       let s = run-one (program g (nodePage (r .numbers .sequence) file offset p key payload)) (device (powerFor n k) img) in
       rw (e, f) (run-left n k img img' q o (rw (← e, ← f, ← h) (d ∙ sym s)))
 
-  pub write-few : length (writeOf img r file offset payload .steps) ≤ 1
+  pub write-few : length (writeOf img r file offset payload .steps) ≤ mostSteps
   write-few =
-      taken-few 1 (writeOf img r file offset payload) (λ e. rw (write-outcome img r file offset payload e) (omega (arith, write-count img r file offset payload)))
+      taken-few mostSteps (writeOf img r file offset payload) (λ e. rw (write-outcome img r file offset payload e) (omega (arith, write-count img r file offset payload)))
       (λ d. rw (write-refused img r file offset payload d))
 
 -- ---- cut-off
@@ -142,9 +142,9 @@ module _ (img : List ℕ) (r : Record) (file offset : ℕ) where
       let s = run-one (program g (cutOffPage (r .numbers .sequence) file offset)) (device (powerFor n k) img) in
       rw e (run-left n k img img' q o (rw (← f) (d ∙ sym s)))
 
-  pub cut-off-few : length (cutOffOf img r file offset .steps) ≤ 1
+  pub cut-off-few : length (cutOffOf img r file offset .steps) ≤ mostSteps
   cut-off-few =
-      taken-few 1 (cutOffOf img r file offset) (λ e. rw (cut-off-outcome img r file offset e) (omega (arith, cut-off-count img r file offset)))
+      taken-few mostSteps (cutOffOf img r file offset) (λ e. rw (cut-off-outcome img r file offset e) (omega (arith, cut-off-count img r file offset)))
       (λ d. rw (cut-off-refused img r file offset d))
 
 -- ---- read
@@ -214,8 +214,8 @@ module _ (img map letters noise : List ℕ) where
       → leaves (cond (q .on) Done PowerCut) img' formatted [] ≡ left n k (formatOf img map letters noise) img
   format-left n k img' q t d = run-left n k img img' q (format-outcome img map letters noise (format-done img map letters noise t)) d
 
-  pub format-few : length (formatOf img map letters noise .steps) ≤ 1000
+  pub format-few : length (formatOf img map letters noise .steps) ≤ mostSteps
   format-few =
-      taken-few 1000 (formatOf img map letters noise)
+      taken-few mostSteps (formatOf img map letters noise)
       (λ e. rw (format-outcome img map letters noise e) (omega (arith, format-count img noise, sized img (format-taken img map letters noise e .size) .most)))
       (λ d. rw (format-refused img map letters noise d))

@@ -14,7 +14,7 @@ use Rattle.image.specs.declared.Power.{Power}
 use Rattle.image.proofs.Runs.{run-play, run-on}
 use Rattle.store.specs.Reply.{isDone}
 use Rattle.store.specs.Record.{Record}
-use Rattle.store.specs.Outcome.{Outcome, left, leftWhole}
+use Rattle.store.specs.Outcome.{Outcome, left, leftWhole, mostSteps}
 use Rattle.store.specs.declared.Reply.the-variants.{Done, PowerCut}
 use Rattle.store.proofs.Verdicts.{done-true}
 use Rattle.store.proofs.Outcomes.{taken, leaves, left-taken, left-whole}
@@ -35,10 +35,10 @@ run-left n k {steps = ss} {after = r} {lent = b} img img' q e d =
     let p : q .on ≡ leb (length ss) n = ap (λ (x : Device). x .power .on) d ∙ run-on ss n k img in
     rw (i, p, lasted (length ss) n) (sym (left-taken n k img e))
 
--- more steps than the call has
-pub whole-left : (n k : ℕ) (o : Outcome) (img : List ℕ) → length (o .steps) ≤ n → left n k o img ≡ leftWhole o img
+-- power for as many steps as any call has: the plain call
+pub whole-left : (n k : ℕ) (o : Outcome) (img : List ℕ) → length (o .steps) ≤ mostSteps → mostSteps ≤ n → left n k o img ≡ leftWhole o img
 unfolding leftWhole
-whole-left n k o img h = left-whole n k o img h
+whole-left n k o img h e = left-whole n k o img (omega arith)
 
 -- taken or refused, a call has no more steps than where it is taken
 pub taken-few : (n : ℕ) (o : Outcome) → (o .reply ≡ Done → length (o .steps) ≤ n) → (isDone (o .reply) ≡ false → length (o .steps) ≡ 0) → length (o .steps) ≤ n

@@ -21,7 +21,7 @@ use Rattle.image.proofs.Looks.{sized}
 use Rattle.store.specs.Reply.{verdict, numberOf, isDone}
 use Rattle.store.specs.Kind.{kindOf, coveredBy}
 use Rattle.store.specs.Record.{recordOf}
-use Rattle.store.specs.Outcome.{left}
+use Rattle.store.specs.Outcome.{left, mostSteps}
 use Rattle.store.specs.Find.{isFound, foundAt}
 use Rattle.store.specs.Format.{buffersRight, noNumbers}
 use Rattle.store.specs.Mount.{chosenCommit, chosenKeys, coveredIn, sequenceOf, epochOf, mountNumbers, mounted, isStray, mountSteps, mountTests, sizeTests, blockTests, mountOf}
@@ -177,8 +177,8 @@ module _ (img map letters scratch : List ℕ) where
           rw (t .mapMade, t .lettersMade, t .scratchMade, e, commit) (run-left n k img img' q o (rw (← e) d))
 
   -- no more steps than there are blocks
-  pub mount-call-few : length (mountOf img map letters scratch .steps) ≤ mostBlocks
+  pub mount-call-few : length (mountOf img map letters scratch .steps) ≤ mostSteps
   mount-call-few =
-      taken-few mostBlocks (mountOf img map letters scratch)
+      taken-few mostSteps (mountOf img map letters scratch)
       (λ e. rw (mount-outcome img map letters scratch e) (omega (arith, mount-few img, sized img (mount-taken img map letters scratch e .size) .most)))
       (λ d. rw (mount-refused img map letters scratch d))

@@ -21,7 +21,7 @@ use Rattle.image.proofs.Runs.{run-nil, run-length}
 use Rattle.store.specs.Reply.{verdict, isDone}
 use Rattle.store.specs.Kind.{pageIn, kindOf, isChosen}
 use Rattle.store.specs.Record.{Record, recordOf}
-use Rattle.store.specs.Outcome.{left}
+use Rattle.store.specs.Outcome.{left, mostSteps}
 use Rattle.store.specs.CutOff.{removed}
 use Rattle.store.specs.Commit.{Stage, begin, nextEpoch, cleanLetter, cleaned, commitReplaced, commitStages, commitTests, commitOf}
 use Rattle.store.specs.Wipe.{removedFirst, wipeTests, wipeOf}
@@ -157,9 +157,9 @@ module _ (img : List ℕ) (r : Record) (noise : List ℕ) where
       rw b (run-left n k img img' q o (ap (λ (x : Work). x .flash) e))
 
   -- no commit has more steps than the replaced blocks' and one for each block
-  pub commit-few : length (commitOf img r noise .steps) ≤ 1000
+  pub commit-few : length (commitOf img r noise .steps) ≤ mostSteps
   commit-few =
-      taken-few 1000 (commitOf img r noise)
+      taken-few mostSteps (commitOf img r noise)
       (λ e.
       let t = commit-taken img r noise e in
       let s = begin img (cleaned r) in
@@ -253,9 +253,9 @@ module _ (img : List ℕ) (r : Record) (noise : List ℕ) (file offset : ℕ) wh
       = record-is (commitStages noise s .after) (a ∙ sym (stages-map noise s)) (b ∙ sym (stages-letters noise s)) (ap (λ (x : Work). x .numbers) h) in
       rw i (run-left n k img img' q o (ap (λ (x : Work). x .flash) h))
 
-  pub wipe-few : length (wipeOf img r noise file offset .steps) ≤ 1000
+  pub wipe-few : length (wipeOf img r noise file offset .steps) ≤ mostSteps
   wipe-few =
-      taken-few 1000 (wipeOf img r noise file offset)
+      taken-few mostSteps (wipeOf img r noise file offset)
       (λ e.
       let t = wipe-taken img r noise file offset e in
       let s = removedFirst img r file offset in

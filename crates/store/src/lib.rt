@@ -18,7 +18,7 @@ mod tests;
 pub mod wipe;
 pub mod write;
 
-// More steps than any call has: a plain call is the form with n and k at this n.
+// At least as many steps as any call has: a plain call is the form with n and k at this n.
 const ENOUGH: u64 = 1000;
 
 // The numbers of the working record: the next sequence and epoch, and the blocks of key block 0, key block 1 and the commit.

@@ -1,4 +1,5 @@
 -- No commit has that many steps.
+use native.Mathlib.Omega.{arith}
 use mathlib.Core.Path.{_∙_}
 use Rattle.store.specs.Record.{recordOf}
 use Rattle.store.specs.Commit.{commitOf}
@@ -21,7 +22,7 @@ returns : tie.Need-returns
 returns c =
     let a = c .before .before .before .before .before .before .before .before .before .before .before .args in
     let r = recordOf (a .map .now) (a .letters .now) (a .numbers) in
-    c .before .before .before .before .commit-cut .ensures ∙ whole-left 1000 0 (commitOf (a .image .now) r (a .noise .now)) (a .image .now) (commit-few (a .image .now) r (a .noise .now))
+    c .before .before .before .before .commit-cut .ensures ∙ whole-left _ 0 (commitOf (a .image .now) r (a .noise .now)) (a .image .now) (commit-few (a .image .now) r (a .noise .now)) (omega arith)
 
 pub commit-spec : {M : Type 1} → statement M
 commit-spec = tie.close (tie.spec commit-cut-requires same-length same-length-2 returns)

@@ -25,7 +25,7 @@ returns : tie.Need-returns
 returns c =
     let a = c .before .before .before .before .before .before .before .before .before .before .before .before .before .args in
     let r = recordOf (a .map .now) (a .letters .now) (a .numbers) in
-    c .before .before .before .before .before .before .cut-off-cut .ensures ∙ whole-left 1000 0 (cutOffOf (a .image .now) r (a .file) (a .offset)) (a .image .now) (omega (arith, cut-off-few (a .image .now) r (a .file) (a .offset)))
+    c .before .before .before .before .before .before .cut-off-cut .ensures ∙ whole-left _ 0 (cutOffOf (a .image .now) r (a .file) (a .offset)) (a .image .now) (cut-off-few (a .image .now) r (a .file) (a .offset)) (omega arith)
 
 pub cut-off-spec : {M : Type 1} → statement M
 cut-off-spec =

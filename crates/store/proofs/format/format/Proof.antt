@@ -1,4 +1,5 @@
 -- No format has that many steps.
+use native.Mathlib.Omega.{arith}
 use mathlib.Core.Path.{_∙_}
 use borrow.Author.Needs.{needs}
 use Rattle.store.specs.Format.{formatOf}
@@ -22,7 +23,7 @@ same-length-3 c = search needs
 returns : tie.Need-returns
 returns c =
     let a = c .before .before .before .before .before .before .before .before .before .before .before .before .before .before .args in
-    c .before .before .before .before .before .before .format-cut .ensures ∙ whole-left 1000 0 (formatOf (a .image .now) (a .map .now) (a .letters .now) (a .noise .now)) (a .image .now) (format-few (a .image .now) (a .map .now) (a .letters .now) (a .noise .now))
+    c .before .before .before .before .before .before .format-cut .ensures ∙ whole-left _ 0 (formatOf (a .image .now) (a .map .now) (a .letters .now) (a .noise .now)) (a .image .now) (format-few (a .image .now) (a .map .now) (a .letters .now) (a .noise .now)) (omega arith)
 
 pub format-spec : {M : Type 1} → statement M
 format-spec =

@@ -26,7 +26,7 @@ same-length-4 c = search needs
 returns : tie.Need-returns
 returns c =
     let a = c .before .before .before .before .before .before .before .before .before .before .before .before .before .before .before .before .before .args in
-    c .before .before .before .before .before .before .before .before .mount-cut .ensures ∙ whole-left 1000 0 (mountOf (a .image .now) (a .map .now) (a .letters .now) (a .scratch .now)) (a .image .now) (omega (arith, mount-call-few (a .image .now) (a .map .now) (a .letters .now) (a .scratch .now)))
+    c .before .before .before .before .before .before .before .before .mount-cut .ensures ∙ whole-left _ 0 (mountOf (a .image .now) (a .map .now) (a .letters .now) (a .scratch .now)) (a .image .now) (mount-call-few (a .image .now) (a .map .now) (a .letters .now) (a .scratch .now)) (omega arith)
 
 pub mount-spec : {M : Type 1} → statement M
 mount-spec =

@@ -1,4 +1,5 @@
 -- No wipe has that many steps.
+use native.Mathlib.Omega.{arith}
 use mathlib.Core.Path.{_∙_}
 use Rattle.store.specs.Record.{recordOf}
 use Rattle.store.specs.Wipe.{wipeOf}
@@ -24,7 +25,7 @@ returns : tie.Need-returns
 returns c =
     let a = c .before .before .before .before .before .before .before .before .before .before .before .before .before .before .args in
     let r = recordOf (a .map .now) (a .letters .now) (a .numbers) in
-    c .before .before .before .before .before .before .wipe-cut .ensures ∙ whole-left 1000 0 (wipeOf (a .image .now) r (a .noise .now) (a .file) (a .offset)) (a .image .now) (wipe-few (a .image .now) r (a .noise .now) (a .file) (a .offset))
+    c .before .before .before .before .before .before .wipe-cut .ensures ∙ whole-left _ 0 (wipeOf (a .image .now) r (a .noise .now) (a .file) (a .offset)) (a .image .now) (wipe-few (a .image .now) r (a .noise .now) (a .file) (a .offset)) (omega arith)
 
 pub wipe-spec : {M : Type 1} → statement M
 wipe-spec = tie.close (tie.spec wipe-cut-requires same-length same-length-2 same-length-3 returns)

@@ -25,7 +25,7 @@ returns : tie.Need-returns
 returns c =
     let a = c .before .before .before .before .before .before .before .before .before .before .before .before .before .before .args in
     let r = recordOf (a .map .now) (a .letters .now) (a .numbers) in
-    c .before .before .before .before .before .before .write-cut .ensures ∙ whole-left 1000 0 (writeOf (a .image .now) r (a .file) (a .offset) (a .payload .now)) (a .image .now) (omega (arith, write-few (a .image .now) r (a .file) (a .offset) (a .payload .now)))
+    c .before .before .before .before .before .before .write-cut .ensures ∙ whole-left _ 0 (writeOf (a .image .now) r (a .file) (a .offset) (a .payload .now)) (a .image .now) (write-few (a .image .now) r (a .file) (a .offset) (a .payload .now)) (omega arith)
 
 pub write-spec : {M : Type 1} → statement M
 write-spec =

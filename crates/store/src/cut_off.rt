@@ -83,7 +83,7 @@ fn cut_off_taken(
     record::remove(map, letters, file, offset);
     Answer {
         reply: replies::taken(power),
-        numbers: record::next_sequence(numbers),
+        numbers: numbers.next_sequence(),
     }
 }
 

@@ -17,7 +17,7 @@ ghost use Rattle.page.specs.Entry.{none};
 ghost use Rattle.image.specs.Size.{sizeRight};
 ghost use Rattle.image.specs.Power.{device, run};
 ghost use Rattle.store.specs.Outcome.{left, leftWhole, standing};
-ghost use Rattle.store.specs.Format.{noiseSize, noNumbers, formatNumbers, formatted, formatSteps, formatLeaves};
+ghost use Rattle.store.specs.Format.{noiseSize, formatNumbers, formatted, formatSteps, formatLeaves};
 ghost use Rattle.store.specs.Taken.{FormatTaken};
 
 // The epoch of a new volume, and the blocks of its key blocks and its commit.
@@ -28,19 +28,6 @@ const KEYS0: usize = 0;
 const KEYS1: usize = 1;
 
 const COMMIT: usize = 2;
-
-// The numbers of a refused format or mount.
-pub fn no_numbers() -> Numbers
-    ensures { λ r. ⌜ r ≡ noNumbers ⌝ }
-{
-    Numbers {
-        sequence: 0,
-        epoch: 0,
-        keys0: 0,
-        keys1: 0,
-        commit: 0,
-    }
-}
 
 // The numbers of a new volume.
 fn first_numbers() -> Numbers
@@ -144,7 +131,7 @@ pub fn format_cut(
     if !replies::is_done(reply) {
         return Answer {
             reply: reply,
-            numbers: no_numbers(),
+            numbers: Numbers::none(),
         };
     }
     format_taken(image, map, letters, noise, n, k)

@@ -6,6 +6,7 @@ mod fit;
 pub mod format;
 mod kinds;
 pub mod mount;
+mod next;
 pub mod read;
 mod rebuild;
 mod record;

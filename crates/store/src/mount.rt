@@ -3,7 +3,6 @@ use crate::Answer;
 use crate::ENOUGH;
 use crate::Numbers;
 use crate::Reply;
-use crate::format;
 use crate::rebuild;
 use crate::rebuild::Rebuilt;
 use crate::replies;
@@ -103,7 +102,7 @@ fn mount_chosen(
     ) else {
         return Answer {
             reply: Reply::EntryUnfit,
-            numbers: format::no_numbers(),
+            numbers: Numbers::none(),
         };
     };
     let numbers = numbers_of(s, highest);
@@ -139,7 +138,7 @@ pub fn mount_cut(
     if !replies::is_done(sizes) {
         return Answer {
             reply: sizes,
-            numbers: format::no_numbers(),
+            numbers: Numbers::none(),
         };
     }
     let s = survey::survey_blocks(image);
@@ -148,7 +147,7 @@ pub fn mount_cut(
         rebuild::clear_record(map, letters, scratch);
         return Answer {
             reply: reply,
-            numbers: format::no_numbers(),
+            numbers: Numbers::none(),
         };
     }
     mount_chosen(image, map, letters, scratch, s, n, k)

@@ -13,14 +13,13 @@ ghost use lib.ListN.{length, set};
 ghost use Rattle.base.specs.Lent.{old, new};
 ghost use Rattle.page.specs.Plan.{filePlan, lastFile, places, countOf, startOf};
 ghost use Rattle.page.specs.Key.{positions};
-ghost use Rattle.page.specs.Header.{lastNumber};
 ghost use Rattle.page.specs.Entry.{none, usedLetter};
 ghost use Rattle.image.specs.Size.{blockSize};
 ghost use Rattle.store.specs.declared.Numbers.{Numbers as RecordNumbers};
 ghost use Rattle.store.specs.Record.{recordOf, mapSize, keyOf, live};
-ghost use Rattle.store.specs.Write.{placeAt, keysBlock, keyHeld, nextSequence, released};
+ghost use Rattle.store.specs.Write.{placeAt, keyHeld, released};
 ghost use Rattle.store.specs.CutOff.{removed, anyLive};
-ghost use Rattle.store.specs.Commit.{cleanLetter, withKeys, withCommit, nextEpoch};
+ghost use Rattle.store.specs.Commit.{cleanLetter};
 ghost use Rattle.store.specs.Taken.{Planned};
 
 // The place of a file and an offset below its count.
@@ -39,16 +38,6 @@ fn place_after(file: u32) -> usize
     (plan::start(file) + plan::count(file)) as usize
 }
 
-// The block of key block 0 or 1.
-pub fn keys_block(numbers: Numbers, q: usize) -> u32
-    ensures { λ r. ⌜ r ≡ keysBlock numbers q ⌝ }
-{
-    if q == 0 {
-        return numbers.keys0;
-    }
-    numbers.keys1
-}
-
 // The key of position p, from its slot of the chosen key block.
 pub fn key_held(image: &[u8], numbers: Numbers, p: usize) -> [u8; 16]
     requires { ⌜ (numbers .keys0 * blockSize + blockSize ≤ length (now image))
@@ -57,7 +46,7 @@ pub fn key_held(image: &[u8], numbers: Numbers, p: usize) -> [u8; 16]
 {
     keys::key_in_block(
         image,
-        keys_block(numbers, positions::block_of(p)) as usize,
+        numbers.keys_block(positions::block_of(p)) as usize,
         p,
     )
 }
@@ -150,68 +139,5 @@ pub fn clean(letters: &mut [u8])
     while p < letters.len() {
         letters[p] = clean_letter(letters[p]);
         p += 1;
-    }
-}
-
-// The numbers after a sequence was used.
-pub fn next_sequence(numbers: Numbers) -> Numbers
-    requires { ⌜ numbers .sequence ≤ lastNumber ⌝ }
-    ensures { λ r. ⌜ r ≡ nextSequence numbers ⌝ }
-{
-    Numbers {
-        sequence: numbers.sequence + 1,
-        epoch: numbers.epoch,
-        keys0: numbers.keys0,
-        keys1: numbers.keys1,
-        commit: numbers.commit,
-    }
-}
-
-// The numbers after an epoch was used.
-pub fn next_epoch(numbers: Numbers) -> Numbers
-    requires { ⌜ numbers .epoch ≤ lastNumber ⌝ }
-    ensures { λ r. ⌜ r ≡ nextEpoch numbers ⌝ }
-{
-    Numbers {
-        sequence: numbers.sequence,
-        epoch: numbers.epoch + 1,
-        keys0: numbers.keys0,
-        keys1: numbers.keys1,
-        commit: numbers.commit,
-    }
-}
-
-// The numbers after key block 0 or 1 went to block b.
-pub fn with_keys(numbers: Numbers, q: u32, b: u32) -> Numbers
-    ensures { λ r. ⌜ r ≡ withKeys numbers q b ⌝ }
-{
-    if q == 0 {
-        return Numbers {
-            sequence: numbers.sequence,
-            epoch: numbers.epoch,
-            keys0: b,
-            keys1: numbers.keys1,
-            commit: numbers.commit,
-        };
-    }
-    Numbers {
-        sequence: numbers.sequence,
-        epoch: numbers.epoch,
-        keys0: numbers.keys0,
-        keys1: b,
-        commit: numbers.commit,
-    }
-}
-
-// The numbers after the commit went to block b.
-pub fn with_commit(numbers: Numbers, b: u32) -> Numbers
-    ensures { λ r. ⌜ r ≡ withCommit numbers b ⌝ }
-{
-    Numbers {
-        sequence: numbers.sequence,
-        epoch: numbers.epoch,
-        keys0: numbers.keys0,
-        keys1: numbers.keys1,
-        commit: b,
     }
 }

@@ -2,7 +2,6 @@
 use crate::Answer;
 use crate::Numbers;
 use crate::kinds;
-use crate::record;
 use crate::replies;
 use image::Power;
 use image::blocks;
@@ -105,7 +104,7 @@ fn replace_keys(
 {
     let numbers = p.numbers;
     let b = lowest_spare(image, first, numbers);
-    let old = record::keys_block(numbers, q as usize) as usize;
+    let old = numbers.keys_block(q as usize) as usize;
     let copied = blocks::program_key_block(
         image,
         b,
@@ -119,7 +118,7 @@ fn replace_keys(
     let power = steps::erase_block(image, old, copied);
     Progress {
         power: power,
-        numbers: record::with_keys(numbers, q, b as u32),
+        numbers: numbers.with_keys(q, b as u32),
     }
 }
 
@@ -149,7 +148,7 @@ pub fn replace_commit(
     let power = steps::erase_block(image, numbers.commit as usize, copied);
     Progress {
         power: power,
-        numbers: record::with_commit(numbers, b as u32),
+        numbers: numbers.with_commit(b as u32),
     }
 }
 
@@ -241,6 +240,6 @@ pub fn renew(
     let power = erase_unused(image, map, numbers, last.power);
     Progress {
         power: power,
-        numbers: record::next_epoch(numbers),
+        numbers: numbers.next_epoch(),
     }
 }

@@ -68,7 +68,7 @@ fn shorten(
     let power = shorter.power;
     Progress {
         power: power,
-        numbers: record::next_epoch(shorter.numbers),
+        numbers: shorter.numbers.next_epoch(),
     }
 }
 

@@ -94,7 +94,7 @@ fn write_taken(
     record::set_place(map, letters, record::place_at(file, offset), g, p);
     Answer {
         reply: replies::taken(power),
-        numbers: record::next_sequence(numbers),
+        numbers: numbers.next_sequence(),
     }
 }
 

@@ -11,8 +11,8 @@ refuse-noise-requires c κs = search needs
 is-done-requires : tie.Need-is-done-requires
 is-done-requires c κs = search needs
 
-no-numbers-requires : tie.Need-no-numbers-requires
-no-numbers-requires c κs = search needs
+none-requires : tie.Need-none-requires
+none-requires c κs = search needs
 
 same-length : tie.Need-same-length
 same-length c = search needs
@@ -26,7 +26,7 @@ same-length-3 c = search needs
 returns : tie.Need-returns
 returns c =
     let a = c .before .before .before .before .before .before .before .before .before .before .before .args in
-    rw (c .no-numbers .ensures) (format-refuse (a .image .now) (a .map .now) (a .letters .now) (a .noise .now) (a .n) (a .k) _ (c .before .before .before .refuse-noise .ensures) (failed (c .before .before .is-done .ensures) (c .before .if1 .taken)))
+    rw (c .none .ensures) (format-refuse (a .image .now) (a .map .now) (a .letters .now) (a .noise .now) (a .n) (a .k) _ (c .before .before .before .refuse-noise .ensures) (failed (c .before .before .is-done .ensures) (c .before .if1 .taken)))
 
 format-taken-requires : tie.Need-format-taken-requires
 format-taken-requires c κs =
@@ -51,7 +51,7 @@ format-cut-spec =
     (tie.spec
     refuse-noise-requires
     is-done-requires
-    no-numbers-requires
+    none-requires
     same-length
     same-length-2
     same-length-3

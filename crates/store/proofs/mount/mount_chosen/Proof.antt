@@ -28,8 +28,8 @@ enum-known-highest c = search needs
 enum-told : tie.Need-enum-told
 enum-told c = search needs
 
-no-numbers-requires : tie.Need-no-numbers-requires
-no-numbers-requires c κs = search needs
+none-requires : tie.Need-none-requires
+none-requires c κs = search needs
 
 same-length : tie.Need-same-length
 same-length c = search needs
@@ -48,7 +48,7 @@ returns c =
     let s = c .before .before .before .before .before .before .before .before .before .before .before .before .before .before .before .before .before .before .before .before .before .before in
     let a = s .args in
     let r = c .before .before .before .before .before .before .before .before .before .before .rebuild-record .ensures in
-    rw (c .no-numbers .ensures)
+    rw (c .none .ensures)
     (pages-refuse (a .image .now) (a .map .now) (a .letters .now) (a .scratch .now) (s .pre .0) (a .n) (a .k) _ _ _ _ _ (survey-commit (a .image .now) (a .s) (s .pre .1) _ (c .before .before .before .before .before .before .before .before .before .before .before .before .before .before .before .found-at .ensures)) (r .0) (c .before .enum-told .given .1) (r .2))
 
 numbers-of-requires : tie.Need-numbers-of-requires
@@ -103,7 +103,7 @@ mount-chosen-spec =
     rebuild-record-requires
     enum-known-highest
     enum-told
-    no-numbers-requires
+    none-requires
     same-length
     same-length-2
     same-length-3

@@ -15,8 +15,8 @@ refuse-sizes-requires c κs = search needs
 is-done-requires : tie.Need-is-done-requires
 is-done-requires c κs = search needs
 
-no-numbers-requires : tie.Need-no-numbers-requires
-no-numbers-requires c κs = search needs
+none-requires : tie.Need-none-requires
+none-requires c κs = search needs
 
 same-length : tie.Need-same-length
 same-length c = search needs
@@ -33,7 +33,7 @@ same-length-4 c = search needs
 returns : tie.Need-returns
 returns c =
     let a = c .before .before .before .before .before .before .before .before .before .before .before .before .args in
-    rw (c .no-numbers .ensures)
+    rw (c .none .ensures)
     (sizes-refuse (a .image .now) (a .map .now) (a .letters .now) (a .scratch .now) (a .n) (a .k) _ (c .before .before .before .refuse-sizes .ensures) (failed (c .before .before .is-done .ensures) (c .before .if1 .taken)))
 
 survey-blocks-requires : tie.Need-survey-blocks-requires
@@ -54,8 +54,8 @@ clear-record-requires c κs =
     let t = sizes-passed (a .image .now) (a .map .now) (a .letters .now) (a .scratch .now) _ (c .before .before .before .before .before .before .before .before .before .before .refuse-sizes .ensures) (passed (c .before .before .before .before .before .before .before .before .before .is-done .ensures) (c .before .before .before .before .before .before .before .before .if1 .left)) in
     (t .1 .mapFull, t .1 .lettersFull, t .2)
 
-no-numbers-requires-2 : tie.Need-no-numbers-requires-2
-no-numbers-requires-2 c κs = search needs
+none-requires-2 : tie.Need-none-requires-2
+none-requires-2 c κs = search needs
 
 same-length-5 : tie.Need-same-length-5
 same-length-5 c = search needs
@@ -73,7 +73,7 @@ returns-2 : tie.Need-returns-2
 returns-2 c =
     let a = c .before .before .before .before .before .before .before .before .before .before .before .before .before .before .before .before .before .before .before .before .before .before .before .before .before .before .before .args in
     let tests = survey-tests (a .image .now) _ (c .before .before .before .before .before .before .before .before .before .before .before .before .before .before .survey-blocks .ensures) in
-    rw (c .no-numbers2 .ensures)
+    rw (c .none2 .ensures)
     (blocks-refuse (a .image .now) (a .map .now) (a .letters .now) (a .scratch .now) (a .n) (a .k) _ _ _ _ _ (c .before .before .before .before .before .before .before .before .before .before .before .before .before .before .before .before .before .before .refuse-sizes .ensures) (passed (c .before .before .before .before .before .before .before .before .before .before .before .before .before .before .before .before .before .is-done .ensures) (c .before .before .before .before .before .before .before .before .before .before .before .before .before .before .before .before .if1 .left))
     (c .before .before .before .before .before .before .before .before .before .before .before .before .before .refuse-blocks .ensures ∙ ap verdict tests) (failed (c .before .before .before .before .before .before .before .before .before .before .before .before .is-done2 .ensures) (c .before .before .before .before .before .before .before .before .before .before .before .if2 .taken)) (c .before .before .before .before .before .before .before .clear-record .ensures))
 
@@ -108,7 +108,7 @@ mount-cut-spec =
     (tie.spec
     refuse-sizes-requires
     is-done-requires
-    no-numbers-requires
+    none-requires
     same-length
     same-length-2
     same-length-3
@@ -118,7 +118,7 @@ mount-cut-spec =
     refuse-blocks-requires
     is-done-requires-2
     clear-record-requires
-    no-numbers-requires-2
+    none-requires-2
     same-length-5
     same-length-6
     same-length-7

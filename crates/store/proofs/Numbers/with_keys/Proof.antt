@@ -1,7 +1,7 @@
--- The block of the one key block, by its number.
+-- `Numbers::with_keys` meets its contract.
 use borrow.Author.Tests.{eq-eqb, ne-eqb}
-use Rattle.store.proofs.record.with_keys.Statement.{statement}
-use Rattle.store.proofs.record.with_keys.Tie as tie
+use Rattle.store.proofs.Numbers.with_keys.Statement.{statement}
+use Rattle.store.proofs.Numbers.with_keys.Tie as tie
 
 returns : tie.Need-returns
 returns c = rw (eq-eqb _ _ (c .if1 .taken))

@@ -1,7 +1,7 @@
--- The block of key block 0 or 1, by its number.
+-- `Numbers::keys_block` meets its contract.
 use borrow.Author.Tests.{eq-eqb, ne-eqb}
-use Rattle.store.proofs.record.keys_block.Statement.{statement}
-use Rattle.store.proofs.record.keys_block.Tie as tie
+use Rattle.store.proofs.Numbers.keys_block.Statement.{statement}
+use Rattle.store.proofs.Numbers.keys_block.Tie as tie
 
 returns : tie.Need-returns
 returns c = rw (eq-eqb _ _ (c .if1 .taken))

@@ -1,9 +1,8 @@
 -- The strays that a mount erases, block by block, as code does it: each choice on the image as it then is.
 use Prim.Native.Nat.{ℕ, _+_, _-_, _<_, _≤_, _*_}
-use native.Mathlib.Omega.{arith}
-use mathlib.Core.Path.{_≡_, refl, sym, ap, _∙_}
+use mathlib.Core.Path.{_≡_, refl, ap, _∙_}
 use mathlib.Core.Bool.{Bool, true, false, cond, not, _&&_, _||_}
-use mathlib.Core.List.{List, [], _∷_, map}
+use mathlib.Core.List.{List, map}
 use lib.Dec.{eqb}
 use lib.ListN.{length}
 use Rattle.base.specs.Search.{whichFrom}

@@ -1,15 +1,15 @@
 -- Letters that become u place by place, where the map names their positions: what they say so far, and of the whole map.
 use Prim.Native.Nat.{ℕ, zero, suc, _+_, _<_, _≤_}
 use native.Mathlib.Omega.{arith}
-use native.Mathlib.Decide.{ℕ-discrete, decLt}
+use native.Mathlib.Decide.{ℕ-discrete}
 use native.Mathlib.Nat.{zero-add}
 use mathlib.Core.Path.{_≡_, refl, sym, ap, _∙_}
 use mathlib.Core.Bool.{Bool, true, false, cond}
 use mathlib.Core.List.{List, [], _∷_, map as each}
 use lib.Dec.{eqb, leb}
-use lib.ListN.{length, getD, set, replicate, length-map, length-set, length-replicate, getD-replicate, List·getD-map}
+use lib.ListN.{length, getD, set, replicate, length-map, length-replicate, getD-replicate, List·getD-map}
 use lib.Seq.{getD-set-same, getD-set-other, ext-getD}
-use borrow.Author.Tests.{eq-eqb, ne-eqb, eqb-true}
+use borrow.Author.Tests.{ne-eqb}
 use Rattle.base.specs.Fold.{listFrom}
 use Rattle.base.proofs.Folds.{length-listFrom, listFrom-at}
 use Rattle.page.specs.Plan.{places}

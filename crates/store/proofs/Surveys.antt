@@ -3,21 +3,20 @@ use Prim.Native.Nat.{ℕ, _+_, suc, zero, max}
 use native.Mathlib.Omega.{arith}
 use native.Mathlib.Nat.{zero-add}
 use native.Mathlib.Numerals.{add-one}
-use mathlib.Core.Path.{_≡_, refl, sym, ap, _∙_}
-use mathlib.Core.Bool.{Bool, true, false, cond}
+use mathlib.Core.Path.{_≡_, sym, ap, _∙_}
+use mathlib.Core.Bool.{cond}
 use mathlib.Core.List.{List}
 use lib.Dec.{ltb}
 use Rattle.base.specs.Search.{highestFrom}
 use Rattle.base.proofs.Choice.{cond-ap}
 use Rattle.store.specs.Kind.{kindOf, keysEpoch, commitEpoch, coveredBy}
 use Rattle.store.specs.Mount.{rankOf, foremost, coveredIn, epochOf}
-use Rattle.store.specs.Survey.{bestOf, coveredAt, surveyOf, noBest, betterBy, coveredNext, noSurvey, surveyNext}
-use Rattle.store.specs.declared.Kind.{Kind}
+use Rattle.store.specs.Survey.{bestOf, coveredAt, surveyOf, noBest, betterBy, noSurvey, surveyNext}
 use Rattle.store.specs.declared.Found.{Found}
-use Rattle.store.specs.declared.Found.the-variants.{At, Nothing}
+use Rattle.store.specs.declared.Found.the-variants.{At}
 use Rattle.store.specs.declared.survey.Best.{Best}
 use Rattle.store.specs.declared.survey.Survey.{Survey}
-use Rattle.store.proofs.Choices.{foremost-none, foremost-next, better}
+use Rattle.store.proofs.Choices.{foremost-none, foremost-next}
 
 -- ---- the highest value, with one number more after the others
 pub highest-last : (f : ℕ → ℕ) (n i : ℕ) → highestFrom f (suc n) i ≡ max (highestFrom f n i) (f (i + n))

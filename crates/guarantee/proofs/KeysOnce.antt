@@ -30,7 +30,7 @@ use Rattle.guarantee.proofs.Slips.{taken-free}
 abbrev pub Renewed : ℕ → ℕ → Book → Type 0
 Renewed p now b = (b .mark p ≡ usedLetter → ⊥) → b .bringer p ≡ now
 
-pub renewed-both : (p now : ℕ) → p < positions → (b : Book) → Renewed p now (bookRenewed now 1 (bookRenewed now 0 b))
+renewed-both : (p now : ℕ) → p < positions → (b : Book) → Renewed p now (bookRenewed now 1 (bookRenewed now 0 b))
 unfolding bookRenewed
 renewed-both p now below b free =
     let u = ne-eqb (b .mark p) usedLetter free in

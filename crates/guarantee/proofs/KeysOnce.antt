@@ -21,7 +21,7 @@ use Rattle.store.proofs.Counts.{write-steps}
 use Rattle.guarantee.specs.Call.{Call, mount, write, read, cutOff, commit, wipe, Event, Fate, replied, cut, madeWhole, torn}
 use Rattle.guarantee.specs.Book.{Book, heldAmong, lowestMarked, bookWritten, bookSpent, bookRemoved, bookRenewed, bookFreed, onlyIf, keysDone, commitDone, removalDone, wipeCommitAt, bookCommitted, entered}
 use Rattle.guarantee.specs.Machine.{Machine, step, Allowed, fateOf, outcomeAt, leftAt}
-use Rattle.guarantee.proofs.Main.{calls-next}
+use Rattle.guarantee.proofs.Events.{calls-next}
 use Rattle.guarantee.proofs.Histories.{endOf, History, while-on, next, along, standing}
 use Rattle.guarantee.proofs.Slips.{taken-free}
 

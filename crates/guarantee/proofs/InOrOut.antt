@@ -32,7 +32,7 @@ pub record FilesAre (m : Machine) (files : Files) : Type 0 where
       → ReadGives (readOf (m .image) (m .store) file offset output) output (files (placeAt file offset))
 
 -- at rest they are the book's
-pub files-are : (m : Machine) → AtRest m → FilesAre m (m .book .content)
+files-are : (m : Machine) → AtRest m → FilesAre m (m .book .content)
 files-are m r = record { mapped = r .mapped; reads = r .reads }
 
 -- ---- what a call, whatever its fate, makes of the book's files
@@ -52,7 +52,7 @@ freed-files : (b : Book) → bookFreed b .content ≡ b .content
 unfolding bookFreed
 freed-files b = refl
 
-pub committed-files : (c i : ℕ) (fate : Fate) (b : Book) → bookCommitted c i fate b .content ≡ b .content
+committed-files : (c i : ℕ) (fate : Fate) (b : Book) → bookCommitted c i fate b .content ≡ b .content
 unfolding bookCommitted
 committed-files c i fate b =
     only-files (madeWhole fate (commitDone i)) bookFreed freed-files _

@@ -21,7 +21,7 @@ use Rattle.store.proofs.Counts.{write-steps}
 use Rattle.guarantee.specs.Call.{Call, mount, write, read, cutOff, commit, wipe, Event, Fate, replied, cut, madeWhole, torn}
 use Rattle.guarantee.specs.Book.{Book, heldAmong, lowestMarked, bookWritten, bookSpent, bookRemoved, bookRenewed, bookFreed, onlyIf, keysDone, commitDone, removalDone, wipeCommitAt, bookCommitted, entered}
 use Rattle.guarantee.specs.Machine.{Machine, step, Allowed, fateOf, outcomeAt, leftAt}
-use Rattle.guarantee.proofs.Main.{calls-next}
+use Rattle.guarantee.proofs.Events.{calls-next}
 use Rattle.guarantee.proofs.Histories.{endOf, History, while-on, next, along, standing}
 use Rattle.guarantee.proofs.Slips.{taken-free}
 
@@ -30,7 +30,7 @@ use Rattle.guarantee.proofs.Slips.{taken-free}
 abbrev pub Renewed : ℕ → ℕ → Book → Type 0
 Renewed p now b = (b .mark p ≡ usedLetter → ⊥) → b .bringer p ≡ now
 
-pub renewed-both : (p now : ℕ) → p < positions → (b : Book) → Renewed p now (bookRenewed now 1 (bookRenewed now 0 b))
+renewed-both : (p now : ℕ) → p < positions → (b : Book) → Renewed p now (bookRenewed now 1 (bookRenewed now 0 b))
 unfolding bookRenewed
 renewed-both p now below b free =
     let u = ne-eqb (b .mark p) usedLetter free in

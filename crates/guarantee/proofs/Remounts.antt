@@ -2,11 +2,10 @@
 use Prim.Native.Nat.{ℕ, _≤_}
 use native.Mathlib.Omega.{arith}
 use mathlib.Core.Path.{_≡_, refl, sym, ap, subst, _∙_}
-use mathlib.Core.Bool.{Bool, true, false, not, _||_}
+use mathlib.Core.Bool.{Bool, true, false, _||_}
 use mathlib.Core.List.{List, [], _∷_}
-use lib.Dec.{T, ltb}
+use lib.Dec.{T}
 use lib.ListN.{length}
-use borrow.Author.Tests.{ltb-false}
 use Rattle.base.proofs.Choice.{true-false}
 use Rattle.base.proofs.Searches.{count-zero}
 use Rattle.page.specs.Page.{nodePage, cutOffPage}
@@ -36,13 +35,14 @@ use Rattle.guarantee.specs.Machine.{Machine, start, step, outcomeAt, All
 use Rattle.guarantee.proofs.Sounds.{Sound, Tight, is-true}
 use Rattle.guarantee.proofs.Writes.{ranges as node-ranges, sealed-length}
 use Rattle.guarantee.proofs.CutOffCall.{ranges as cut-off-ranges, spaces-length}
-use Rattle.guarantee.proofs.RemovedBooks.{removed-numbers}
 use Rattle.guarantee.proofs.AnchoredCalls.{or-on}
 use Rattle.guarantee.proofs.FormatCall.{format-taken}
 use Rattle.guarantee.proofs.Room.{format-empty, format-length}
 use Rattle.guarantee.proofs.Strays.{Neat, neat-stray, chosen-not, program-neat, mount-neat, Neatly, begin-neatly, commit-neatly, stages-neatly}
 use Rattle.guarantee.proofs.Histories.{endOf, Permitted, History, history, next, standing}
 use Rattle.guarantee.proofs.Slips.{copy-before-erase}
+use Rattle.store.proofs.Removals.{removed-numbers}
+use Rattle.guarantee.proofs.Events.{on-uncut}
 
 -- ---- call by call
 abbrev NeatAfter : List ℕ → Outcome → Type 0
@@ -154,11 +154,7 @@ module _ (m : Machine) (h : History m) (neat : NeatOn m) where
   step-neat : (e : Event) → Permitted m e → NeatOn (step m e)
   unfolding step left
   step-neat e may on =
-      rw (play-all (e .n) (e .k) (outcomeAt m e .steps) (m .image) (whole-call (ltb (e .n) (length (outcomeAt m e .steps))) refl on)) (call-neat (e .call) (may .0) (may .1))
-    where
-      whole-call : (t : Bool) → ltb (e .n) (length (outcomeAt m e .steps)) ≡ t → T (not t) → length (outcomeAt m e .steps) ≤ e .n
-      whole-call true q t = absurd t
-      whole-call false q t = ltb-false (e .n) (length (outcomeAt m e .steps)) q
+      rw (play-all (e .n) (e .k) (outcomeAt m e .steps) (m .image) (on-uncut m e on)) (call-neat (e .call) (may .0) (may .1))
 
 start-neat : (img map letters noise : List ℕ) → T (sizeRight img) → T (buffersRight map letters) → length noise ≡ noiseSize → NeatOn (start img map letters noise)
 unfolding start leftWhole

@@ -18,7 +18,7 @@ use Rattle.page.specs.Entry.{parts}
 use Rattle.image.specs.Size.{pagesInBlock, blocks}
 use Rattle.image.specs.Look.{blockAt, blockEmpty, formAt, lowestEmpty}
 use Rattle.image.specs.Block.{renewedKey, keyBlockSteps, commitBlockSteps, keyBlockPage, commitBlockPage}
-use Rattle.image.specs.Step.{Step, program, erase, Inside, Legal, AllLegal, whole, playAll}
+use Rattle.image.specs.Step.{Step, program, erase, AllLegal, whole, playAll}
 use Rattle.image.proofs.CommitBlock.{commit-block-steps}
 use Rattle.image.proofs.KeyBlock.{key-block-steps}
 use Rattle.image.proofs.Rows.{row-in-no-other}
@@ -32,7 +32,7 @@ use Rattle.store.specs.Mount.{isStray, mountNumbers, mountSteps}
 use Rattle.store.specs.Write.{keysBlock}
 use Rattle.store.specs.Commit.{replaceKeys, replaceCommit, withKeys, withCommit, Stage, begin, onward, keysReplaced, commitReplaced, isDead, deadErased, commitStages}
 use Rattle.store.specs.declared.Numbers.{Numbers}
-use Rattle.store.proofs.LegalSteps.{legal-length}
+use Rattle.store.proofs.LegalSteps.{legal-length, legal-inside}
 use Rattle.guarantee.proofs.NumberedCalls.{legal-rest}
 use Rattle.guarantee.proofs.Loosenings.{which-in, which-each}
 use Rattle.guarantee.proofs.Room.{sweep-empties}
@@ -79,10 +79,6 @@ neat-change img img' r r' same neat f b h c e = go (f b (rw same at h) c e)
     go (inr z) = block-empty-same img img' b (z .0) ∙ neat b (rw same at h) (z .1) (sym (events-same img img' b (z .0)) ∙ e)
 
 -- ---- steps that the flash can do
-legal-inside : (img : List ℕ) (s : Step) → Legal img s → Inside (length img) s
-legal-inside img (program g page) l = l .0
-legal-inside img (erase b) l = l
-
 legal-first : (ss ts : List Step) (img : List ℕ) → AllLegal img (ss ++ ts) → AllLegal img ss
 legal-first [] ts img l = tt
 legal-first (s ∷ ss) ts img l = (l .0, legal-first ss ts (whole s img) (l .1))
@@ -109,7 +105,7 @@ program-neat img r r' g page legal event same neat =
         any-intro (λ i. headed (formAt (whole (program g page) img) (pageIn b i))) pagesInBlock 0 (g % pagesInBlock) (omega arith) (omega arith) (rw at event)
 
 -- ---- blocks erased in a row: those that p picks
-pub sweep-neat : (p : ℕ → Bool) (img : List ℕ) (r : Numbers) → AllLegal img (map erase (whichFrom p (blocks img) 0))
+sweep-neat : (p : ℕ → Bool) (img : List ℕ) (r : Numbers) → AllLegal img (map erase (whichFrom p (blocks img) 0))
     → ((b : ℕ) → b < blocks img → p b ≡ false → isChosen r b ≡ false → hasEvents img b ≡ false → blockEmpty img b ≡ true)
     → Neat (playAll (map erase (whichFrom p (blocks img) 0)) img) r
 sweep-neat p img r legal rest b h c e = go (p b) refl

@@ -12,7 +12,7 @@ use lib.Seq.{take-nil}
 use borrow.Author.Tests.{eqb-true, leb-true, eq-eqb, ne-eqb}
 use Rattle.base.specs.Part.{part}
 use Rattle.base.specs.Each.{allAre}
-use Rattle.base.specs.Search.{allFrom, anyFrom}
+use Rattle.base.specs.Search.{allFrom}
 use Rattle.base.proofs.Choice.{cond-ap, cond-same, and-true, and-intro, true-false}
 use Rattle.base.proofs.Parts.{part-at}
 use Rattle.base.proofs.Searches.{all-holds, all-intro, all-agree, any-agree, any-all-fail}

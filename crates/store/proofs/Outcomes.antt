@@ -216,7 +216,7 @@ placed-as-long r x g p =
       lettersKept = length-set (released (r .map) (r .letters) x) p usedLetter ∙ released-length (r .map) (r .letters) x;
     }
 
-emptied-as-long : (x : ℕ) (r : Record) → AsLong r (emptied x r)
+pub emptied-as-long : (x : ℕ) (r : Record) → AsLong r (emptied x r)
 emptied-as-long x r =
     record {
       mapKept = length-set (set (r .map) x none) (places + x) none ∙ length-set (r .map) x none;

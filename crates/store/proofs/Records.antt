@@ -45,26 +45,38 @@ file-end file h =
     let f : file < length filePlan = omega (arith, plan-length) in
     omega (arith, start-after filePlan file (length filePlan) f, plan-sum)
 
+-- ---- a map with page g and key p at place x
+abbrev pub put : List ℕ → ℕ → ℕ → ℕ → List ℕ
+put map x g p = set (set map x g) (places + x) p
+
+module _ (map : List ℕ) (x g p : ℕ) (full : length map ≡ mapSize) (below : x < places) where
+  pub put-page : pageOf (put map x g p) x ≡ g
+  put-page = getD-set-other (set map x g) (places + x) x p none (λ z. omega arith) ∙ getD-set-same map x g none (omega arith)
+
+  pub put-key : keyOf (put map x g p) x ≡ p
+  put-key = getD-set-same (set map x g) (places + x) p none (rw length-set (omega arith))
+
+  -- the other places keep page and key
+  pub page-stays : (y : ℕ) → y < places → (y ≡ x → ⊥) → pageOf (put map x g p) y ≡ pageOf map y
+  page-stays y h o = getD-set-other (set map x g) (places + x) y p none (λ z. omega arith) ∙ getD-set-other map x y g none o
+
+  pub key-stays : (y : ℕ) → (y ≡ x → ⊥) → keyOf (put map x g p) y ≡ keyOf map y
+  key-stays y o = getD-set-other (set map x g) (places + x) (places + y) p none (λ z. o (omega arith)) ∙ getD-set-other map x (places + y) g none (λ z. omega arith)
+
 -- ---- places made vacant one after the other
 -- the keys of live places are positions
 abbrev pub KeysBelow : List ℕ → Type 0
 KeysBelow map = (x : ℕ) → x < places → live map x ≡ true → keyOf map x < positions
 
 -- so it stays where place x becomes vacant: it is live no more, and the others keep page and key
-pub vacated-keys : (map : List ℕ) (x : ℕ) → length map ≡ mapSize → x < places → KeysBelow map → KeysBelow (set (set map x none) (places + x) none)
-vacated-keys map x size h keys y k l =
+vacated-keys : (map : List ℕ) (x : ℕ) → length map ≡ mapSize → x < places → KeysBelow map → KeysBelow (put map x none none)
+vacated-keys map x full h keys y k l =
     elim (ℕ-discrete y x) [
-      | yes e ↦
-          let p : pageOf (set (set map x none) (places + x) none) y ≡ none
-          = rw e (getD-set-other (set map x none) (places + x) x none none (λ z. omega arith) ∙ getD-set-same map x none none (omega arith)) in
-          absurd (omega (arith, ltb-true (pageOf (set (set map x none) (places + x) none) y) none l))
+      | yes e ↦ let p : pageOf (put map x none none) y ≡ none = rw e (put-page map x none none full h) in absurd (omega (arith, ltb-true (pageOf (put map x none none) y) none l))
       | no e ↦
-          let p : pageOf (set (set map x none) (places + x) none) y ≡ pageOf map y
-          = getD-set-other (set map x none) (places + x) y none none (λ z. omega arith) ∙ getD-set-other map x y none none e in
-          let q : keyOf (set (set map x none) (places + x) none) y ≡ keyOf map y
-          = getD-set-other (set map x none) (places + x) (places + y) none none (λ z. omega arith) ∙ getD-set-other map x (places + y) none none (λ z. omega arith) in
-          let m : live map y ≡ true = lt-ltb (pageOf map y) none (omega (arith, ltb-true (pageOf (set (set map x none) (places + x) none) y) none l)) in
-          omega (arith, keys y k m)
+          let p = page-stays map x none none full h y k e in
+          let m : live map y ≡ true = lt-ltb (pageOf map y) none (omega (arith, ltb-true (pageOf (put map x none none) y) none l)) in
+          omega (arith, key-stays map x none none full h y e, keys y k m)
     ]
 
 -- ---- the places of a file from an offset on, as the code goes through them: x goes up to the file's end

@@ -38,7 +38,7 @@ use Rattle.store.proofs.Outcomes.{leaves, commit-outcome, commit-refuse
 use Rattle.store.proofs.Counts.{replaced, dead-few, commit-steps, wipe-steps, removed-first-count}
 use Rattle.store.proofs.Cuts.{run-left, taken-few}
 use Rattle.store.proofs.Calls.{refused-left}
-use Rattle.store.proofs.Legals.{removed-numbers}
+use Rattle.store.proofs.Removals.{removed-numbers}
 use Rattle.store.proofs.Spares.{working, none-chosen, keys0-chosen, keys1-chosen, commit-chosen}
 use Rattle.store.proofs.Follows.{Reached, lowest-at-work, new-below, reached-commit, follows-commit, follows-stages, replaced-blocks}
 

@@ -38,7 +38,7 @@ use Rattle.store.proofs.Finds.{found-is, lowest-free, write-page-is-emp
 use Rattle.store.proofs.Fits.{Fit, Named, fits-is, fit-fits}
 use Rattle.store.proofs.Outcomes.{still-full, emptied-as-long, write-outcome, cut-off-outcome}
 use Rattle.store.proofs.Calls.{place-below}
-use Rattle.store.proofs.Legals.{removed-numbers}
+use Rattle.store.proofs.Removals.{removed-numbers}
 use Rattle.store.proofs.Records.{put, put-page, put-key, page-stays, key-stays}
 use Rattle.store.proofs.Fitting.{Chosen, Counted, fit-over, fit-counted, fit-chosen, released-at, emptied-fit, removed-fit, node-fit}
 

@@ -10,18 +10,55 @@
  * text says the same in words. A caller in C is checked by nothing: it must keep to the section
  * "What the caller owes".
  *
- * Link with librecorder.a. The library needs memcpy and memset, and nothing else. It allocates nothing,
- * keeps nothing between calls and has no global state: all that it works on is lent to it for the
- * call, and JOHVIMARU_STACK_SIZE bytes of stack. Calls on different buffers may run at the same time.
+ *
+ * LINKING
+ *
+ * librecorder.a is an archive for x86-64, of ELF objects with the System V calling convention; its code
+ * can stand at any address. It needs memcpy and memset, and nothing else. It allocates nothing, keeps
+ * nothing between calls and has no data that changes: all that it works on is lent to it for the call,
+ * and JOHVIMARU_STACK_SIZE bytes of stack. Calls on different buffers may run at the same time, and so
+ * may two reads of one image and record into different outputs.
+ *
+ * What stays secret: the library clears nothing behind it. Keys and payloads that a call used lie on
+ * the stack, below the caller's frame, until something overwrites them; a device that must not keep
+ * them there overwrites JOHVIMARU_STACK_SIZE bytes of that stack. The cipher is not constant-time: it
+ * looks up tables by bytes of the key, so its time tells of the key whoever shares the processor's
+ * cache with it. Nobody else's code may run there while keys are in use.
+ *
+ * What a call costs: the time of a format grows with the bytes of the image, that of a write with its
+ * pages, and that of a read does not grow with it. Most of a write or a read is the test of the record:
+ * it looks at the 42 pages of the three blocks that the record names, at each page that the map
+ * names, and at all letters.
  *
  *
  * THE IMAGE
  *
- * The image is the content of the flash, lent as bytes: 8 to 256 blocks of 4,096 bytes. A block has 16
- * pages of 256 bytes. An erased byte is FFh. The library changes the image in two kinds of steps
- * only, which are those of the chip: it programs a page that is empty (all its bytes FFh), or it
- * erases a block. So the image can be a mirror in memory of which the caller repeats the steps on the
- * chip, or memory that the chip itself answers for.
+ * The image is the content of the flash, as bytes in memory. It has 8 to 256 blocks, each of 16 pages,
+ * each of 256 bytes. An erased byte is FFh; a page or a block is empty where nothing else stands in
+ * it. The library changes the image in two kinds of steps only, which are those of the chip: it
+ * programs a page that is empty, or it erases a block.
+ *
+ * For a call that changes it the image is a mirror: memory of the caller's, apart from the chip. It
+ * must not be memory that the chip answers for, because a step is made in several stores. A write puts
+ * the plain payload into its page and enciphers it there, so such a chip would be given the plaintext;
+ * and no chip takes a byte twice. A read changes nothing, and may be given the mapped flash itself.
+ *
+ *
+ * THE CHIP
+ *
+ * After a call on the mirror its steps are repeated on the chip, one after the other in the same order:
+ * what a power failure leaves is right only in that order. A write has one step, the page that the map
+ * now has at the place. For any call, its steps are learnt from its form with n and k, with k = 0, on
+ * copies of image and record as they were before the call:
+ *
+ *   - The copy after n is what the image is after n steps. Where the reply is JOHVIMARU_POWER_CUT
+ *     there are more; else there are no more than n.
+ *   - The copies after n and after n + 1 differ by one step. A page that was empty and is no more is
+ *     programmed with the 256 bytes that it now has. A block that is now empty and was not is erased.
+ *     Where they do not differ, an empty block is erased, which the chip may be spared.
+ *
+ * Two images far apart do not show the steps between them: format erases a block and then programs it,
+ * and a call may program a page and erase it again before it is done. tests/c/chip.c is an example.
  *
  *
  * FILES, OFFSETS AND PLACES
@@ -29,10 +66,10 @@
  * There are 14 files, 0 to 13. Each holds a fixed count of nodes, of one payload each:
  *
  *     file    0   1   2   3   4   5   6   7   8   9  10  11  12  13
- *     nodes  32  32  24  24  16  16  16  16   8   8   8   8   8   8      in all 224
+ *     nodes  32  32  24  24  16  16  16  16   8   8   8   8   8   8
  *
- * A node is named by its file and its offset, which is below the file's count. Its place, 0 to 223, is
- * the sum of the counts of the earlier files, plus the offset.
+ * JOHVIMARU_FILE_COUNTS has these counts. A node is named by its file and its offset, which is below
+ * the file's count. The nodes of all files, one file after the other, are at the places 0 to 223.
  *
  *
  * THE WORKING RECORD
@@ -50,10 +87,14 @@
  * together, and nothing but the library should change either.
  *
  * Write and read first test whether the record fits the image, and refuse it where it does not. It fits
- * if both next numbers are 1 to 100,000,000; the three blocks are whole and of their kind; each place
- * is JOHVIMARU_NONE in both halves of the map, or names a whole page on the image with the header of
- * that file, offset and key position; no key position is named twice; every letter is 'f', 'u' or
- * 'd'; and 'u' stands at exactly the key positions that are named.
+ * where
+ *
+ *   - both next numbers are 1 to 100,000,000;
+ *   - each of the three blocks is whole, and of the kind that the record says;
+ *   - each place holds nothing, in both halves of the map, or has a whole page on the image whose
+ *     header has its file, its offset and its key position;
+ *   - each letter is 'f', 'u' or 'd', two places never have one key position, and the positions that
+ *     places have are those with the letter 'u'.
  *
  *
  * REPLIES
@@ -65,11 +106,12 @@
  *
  * POWER CUTS
  *
- * The forms that end in _cut are for tests of a device: they run the same code, but as if the power
- * failed after n whole steps and the first k bytes of the next. A program that is cut leaves its first
- * k bytes written and the rest of the page FFh; an erase that is cut leaves the block's first k bytes
- * FFh and the rest as before. A k that is larger than the step does the whole step. Where the call has
- * no more than n steps it is not cut, and the form does and replies what the plain call does.
+ * The forms that end in _cut run the same code as if the power failed after n whole steps and k bytes
+ * of one more. They are for tests of a device, and to learn the steps of a call. A program that is cut
+ * leaves its first k bytes written and the rest of the page FFh; an erase that is cut leaves FFh in
+ * the block's first k bytes and the rest as it was. A k that is larger than the step does the whole
+ * step. Where the call has no more than n steps it is not cut, and the form does and replies what the
+ * plain call does.
  *
  * A call that is cut replies JOHVIMARU_POWER_CUT. Its image is the one that a real cut leaves. Map,
  * letters and numbers are then as if the call had been finished, and of no use: after a real cut they
@@ -83,7 +125,12 @@
  *   the pointer is not to const. A length is at most PTRDIFF_MAX bytes.
  * - numbers points to five elements. It has no length.
  * - Buffers of one call that the call may write do not overlap any other buffer of that call.
- * - Nothing else reads or writes the buffers while the call runs.
+ * - Nothing else writes the buffers while the call runs, nor reads those that it may write.
+ * - The chip does the steps in the order in which they come, and a step is begun only when the one
+ *   before it has ended. A page is programmed from its first byte on: where the power fails, some
+ *   bytes at its start are written and the rest is still FFh. A block is erased from its first byte
+ *   on: where the power fails, some bytes at its start are FFh and the rest is as it was. An erase
+ *   that ends has left nothing but FFh, and a program that ends the whole page.
  * - Lengths that are wrong for the call, and any content of image, map, letters and numbers, are no
  *   fault of the caller: the call refuses what it cannot take.
  */
@@ -97,36 +144,42 @@
 extern "C" {
 #endif
 
-/* ---- Sizes */
+/* The version of this header: another one has other calls or constants. */
+#define JOHVIMARU_VERSION 1
+
+/* ---- Sizes, of a type in which an image's bytes can be counted whatever an int holds */
 
 /* Bytes in a page and in a block. */
-#define JOHVIMARU_PAGE_SIZE 256
-#define JOHVIMARU_BLOCK_SIZE 4096
+#define JOHVIMARU_PAGE_SIZE 256UL
+#define JOHVIMARU_BLOCK_SIZE 4096UL
 
 /* The least and the largest number of blocks in an image. */
-#define JOHVIMARU_MIN_BLOCKS 8
-#define JOHVIMARU_MAX_BLOCKS 256
+#define JOHVIMARU_MIN_BLOCKS 8UL
+#define JOHVIMARU_MAX_BLOCKS 256UL
 
 /* Files, and nodes in all of them. */
-#define JOHVIMARU_FILES 14
-#define JOHVIMARU_PLACES 224
+#define JOHVIMARU_FILES 14UL
+#define JOHVIMARU_PLACES 224UL
+
+/* The count of nodes of each file, as the initial value of an array of JOHVIMARU_FILES numbers. */
+#define JOHVIMARU_FILE_COUNTS {32, 32, 24, 24, 16, 16, 16, 16, 8, 8, 8, 8, 8, 8}
 
 /* Bytes in a payload. */
-#define JOHVIMARU_PAYLOAD_SIZE 224
+#define JOHVIMARU_PAYLOAD_SIZE 224UL
 
 /* Elements of the record's three buffers. */
-#define JOHVIMARU_MAP_LENGTH 448
-#define JOHVIMARU_LETTERS_LENGTH 448
-#define JOHVIMARU_NUMBERS_LENGTH 5
+#define JOHVIMARU_MAP_LENGTH 448UL
+#define JOHVIMARU_LETTERS_LENGTH 448UL
+#define JOHVIMARU_NUMBERS_LENGTH 5UL
 
 /* Bytes of noise that format takes: a key of 16 bytes for each of 448 key positions. */
-#define JOHVIMARU_NOISE_SIZE 7168
+#define JOHVIMARU_NOISE_SIZE 7168UL
 
 /* Stands in a map for none. */
-#define JOHVIMARU_NONE 65535
+#define JOHVIMARU_NONE 65535U
 
 /* Bytes of stack that are enough for any call, as measured on x86-64. */
-#define JOHVIMARU_STACK_SIZE 6144
+#define JOHVIMARU_STACK_SIZE 6144UL
 
 /* ---- The record's numbers, by their index */
 
@@ -192,7 +245,7 @@ uint32_t johvimaru_format(uint8_t *image, size_t image_length,
                           const uint8_t *noise, size_t noise_length);
 
 /*
- * A format of which the power lasts for n steps and the first k bytes of the next.
+ * A format of which the power lasts for n steps and k bytes of one more.
  */
 uint32_t johvimaru_format_cut(uint8_t *image, size_t image_length,
                               uint16_t *map, size_t map_length,
@@ -215,11 +268,12 @@ uint32_t johvimaru_format_cut(uint8_t *image, size_t image_length,
  * JOHVIMARU_REFUSED_FILE, JOHVIMARU_REFUSED_OFFSET, JOHVIMARU_REFUSED_PAYLOAD,
  * JOHVIMARU_REFUSED_RECORD, JOHVIMARU_NUMBERS_SPENT, JOHVIMARU_NO_FREE_KEY, JOHVIMARU_NO_ROOM.
  *
- * Done, it has programmed one page, in one step: the lowest empty page that has only empty pages after
- * it in its block and stands in a block with nodes, else the first page of the lowest empty block if
- * at least two blocks are empty. The payload is enciphered under the lowest free key, whose letter is
- * now 'u'. The letter of the key that was there before, if any, is now 'd'. The map has the page and
- * the key position at the place, and the next sequence is one higher. Refused, nothing is changed.
+ * Done, it has programmed one page, in one step. It is the lowest one from which on its block is empty,
+ * among the data blocks: those with a page, whole or torn, that has the header of a node or a
+ * cut-off. Where there is none, and at least two blocks are empty, it is page 0 of the lowest of
+ * these. The payload is enciphered under the lowest free key, whose letter is now 'u'. The letter of
+ * the key that was there before, if any, is now 'd'. The map has the page and the key position at the
+ * place, and the next sequence is one higher. Refused, nothing is changed.
  */
 uint32_t johvimaru_write(uint8_t *image, size_t image_length,
                          uint16_t *map, size_t map_length,
@@ -229,8 +283,8 @@ uint32_t johvimaru_write(uint8_t *image, size_t image_length,
                          const uint8_t *payload, size_t payload_length);
 
 /*
- * A write of which the power lasts for n steps and the first k bytes of the next. A write has one step,
- * so it is cut where n is 0. Cut at a k below 30 it has left no header, and its key is still free; at
+ * A write of which the power lasts for n steps and k bytes of one more. A write has one step, so it is
+ * cut where n is 0. Cut at a k below 30 it has left no header, and its key is still free; at
  * 30 to 255 it has left a header and no end, its key must not be used again, and what was at the place
  * before still is; at 256 or more it is as good as done.
  */

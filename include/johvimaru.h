@@ -25,10 +25,10 @@
  * looks up tables by bytes of the key, so its time tells of the key whoever shares the processor's
  * cache with it. Nobody else's code may run there while keys are in use.
  *
- * What a call costs: the time of a format grows with the bytes of the image, that of a write with its
- * pages, and that of a read does not grow with it. Most of a write or a read is the test of the record:
- * it looks at the 42 pages of the three blocks that the record names, at each page that the map
- * names, and at all letters.
+ * What a call costs: the time of a format grows with the bytes of the image, that of a mount, a write,
+ * a cut-off, a commit or a wipe with its pages, and that of a read does not grow with it. Most of a
+ * write or a read is the test of the record: it looks at the 42 pages of the three blocks that the
+ * record names, at each page that the map names, and at all letters.
  *
  *
  * THE IMAGE
@@ -83,11 +83,12 @@
  *   numbers   5 numbers: the next sequence, the next epoch, and the blocks that hold key block 0, key
  *             block 1 and the commit. JOHVIMARU_NEXT_SEQUENCE and so on are their indices.
  *
- * Format makes the record. Write keeps it up to date. It belongs to the image: the two must be kept
- * together, and nothing but the library should change either.
+ * Format makes the record, and mount finds it again from the image alone. The other calls keep it up to
+ * date. It belongs to the image: the two must be kept together, and nothing but the library should
+ * change either.
  *
- * Write and read first test whether the record fits the image, and refuse it where it does not. It fits
- * where
+ * All calls but format and mount test whether the record fits the image, and refuse it where it does
+ * not. It fits where
  *
  *   - both next numbers are 1 to 100,000,000;
  *   - each of the three blocks is whole, and of the kind that the record says;
@@ -101,7 +102,9 @@
  *
  * Each call replies a number: 0 where it was done, 1 to 14 where it was refused, 255 where the power cut
  * it. It makes its tests in the order that is given with it, and the first that fails gives the reply.
- * A refused call changes nothing at all, except that a refused format sets the five numbers to 0.
+ * A refused call changes nothing at all, with these exceptions: a refused format or mount sets the five
+ * numbers to 0, and a mount that is refused for what is on the image also fills map, letters and
+ * scratch.
  *
  *
  * POWER CUTS
@@ -115,7 +118,9 @@
  *
  * A call that is cut replies JOHVIMARU_POWER_CUT. Its image is the one that a real cut leaves. Map,
  * letters and numbers are then as if the call had been finished, and of no use: after a real cut they
- * are gone, and the record has to be found again from the image.
+ * are gone. Until a mount has finished, nothing but a mount may then be called on the image: it finds
+ * the record again, and erases what the cut call has left. A mount that is cut itself is followed by
+ * another.
  *
  *
  * WHAT THE CALLER OWES
@@ -172,7 +177,10 @@ extern "C" {
 #define JOHVIMARU_LETTERS_LENGTH 448UL
 #define JOHVIMARU_NUMBERS_LENGTH 5UL
 
-/* Bytes of noise that format takes: a key of 16 bytes for each of 448 key positions. */
+/* Numbers of the scratch that mount takes. */
+#define JOHVIMARU_SCRATCH_LENGTH 224UL
+
+/* Bytes of noise that format, commit and wipe take: a key of 16 bytes for each of 448 key positions. */
 #define JOHVIMARU_NOISE_SIZE 7168UL
 
 /* Stands in a map for none. */
@@ -189,13 +197,13 @@ extern "C" {
 #define JOHVIMARU_KEYS_1 3
 #define JOHVIMARU_COMMIT 4
 
-/* ---- Replies. Numbers 12 to 14 are kept for the call that finds a record again. */
+/* ---- Replies */
 
 /* The call was done. */
 #define JOHVIMARU_DONE 0
 /* The image is not 8 to 256 full blocks. */
 #define JOHVIMARU_REFUSED_IMAGE 1
-/* Map or letters are of a wrong length. */
+/* Map, letters or scratch are of a wrong length. */
 #define JOHVIMARU_REFUSED_LENGTHS 2
 /* The noise is not 7,168 bytes. */
 #define JOHVIMARU_REFUSED_NOISE 3
@@ -211,10 +219,16 @@ extern "C" {
 #define JOHVIMARU_NOTHING_THERE 8
 /* No key is free. */
 #define JOHVIMARU_NO_FREE_KEY 9
-/* There is no page to take. */
+/* There is no page to take, or no empty block. */
 #define JOHVIMARU_NO_ROOM 10
-/* The next sequence is above 99,999,999: no write can be numbered. */
+/* The sequences or epochs, which end at 99,999,999, do not last for the call. */
 #define JOHVIMARU_NUMBERS_SPENT 11
+/* One of the key blocks is nowhere whole on the image. */
+#define JOHVIMARU_NO_KEY_BLOCK 12
+/* No commit block on the image is whole. */
+#define JOHVIMARU_NO_COMMIT 13
+/* The image names a page for a place that is not a whole node of it, or one key for two places. */
+#define JOHVIMARU_ENTRY_UNFIT 14
 /* The power failed before the call's last step was whole. Only the _cut forms reply it. */
 #define JOHVIMARU_POWER_CUT 255
 
@@ -253,6 +267,50 @@ uint32_t johvimaru_format_cut(uint8_t *image, size_t image_length,
                               uint32_t numbers[JOHVIMARU_NUMBERS_LENGTH],
                               const uint8_t *noise, size_t noise_length,
                               uint64_t n, size_t k);
+
+/*
+ * Mounts the image: finds its record from what is on it alone, and erases what cut calls have left.
+ *
+ *   image     the image.
+ *   map, letters, numbers
+ *             the record. What it held before does not matter.
+ *   scratch   224 numbers. What they held before does not matter.
+ *
+ * Tests, in order: JOHVIMARU_REFUSED_IMAGE, JOHVIMARU_REFUSED_LENGTHS (map, letters or scratch),
+ * JOHVIMARU_NO_COMMIT, JOHVIMARU_NO_KEY_BLOCK, JOHVIMARU_ENTRY_UNFIT.
+ *
+ * Of several whole copies of a key block or of the commit it takes the one of the highest epoch, and of
+ * equal ones that in the lowest block. A place holds what the commit says, unless a whole page of a
+ * later sequence than the commit covers says otherwise: a node that is written there, or a cut-off
+ * that removes it. The page of the highest sequence decides, and of equal ones the highest page. Keys
+ * that places have are used. Others are deleted where the commit does not say that they are free, or
+ * where a later page, whole or torn, is one of a node under that key; all others are free.
+ *
+ * Done, it has erased, in order, every block that is not empty, is not one of the three that it took,
+ * and is no data block (see write): a step for each. Map, letters and numbers are the record, both next
+ * numbers one above the highest that was found. scratch has for each place the sequence of the page
+ * that decided, 0 where the commit did.
+ *
+ * Refused for image or lengths, it has set the numbers to 0 and left all else as it was. Refused for
+ * what is on the image, it has left the image as it was, filled the map with JOHVIMARU_NONE and the
+ * letters with 'd', and set numbers and scratch to 0.
+ */
+uint32_t johvimaru_mount(uint8_t *image, size_t image_length,
+                         uint16_t *map, size_t map_length,
+                         uint8_t *letters, size_t letters_length,
+                         uint32_t numbers[JOHVIMARU_NUMBERS_LENGTH],
+                         uint32_t *scratch, size_t scratch_length);
+
+/*
+ * A mount of which the power lasts for n steps and k bytes of one more. Cut, it has left scratch too as
+ * if it had been finished.
+ */
+uint32_t johvimaru_mount_cut(uint8_t *image, size_t image_length,
+                             uint16_t *map, size_t map_length,
+                             uint8_t *letters, size_t letters_length,
+                             uint32_t numbers[JOHVIMARU_NUMBERS_LENGTH],
+                             uint32_t *scratch, size_t scratch_length,
+                             uint64_t n, size_t k);
 
 /*
  * Writes a payload at a file's offset. What was there before is replaced, and its key deleted.
@@ -319,6 +377,120 @@ uint32_t johvimaru_read(const uint8_t *image, size_t image_length,
                         const uint32_t numbers[JOHVIMARU_NUMBERS_LENGTH],
                         uint32_t file, uint32_t offset,
                         uint8_t *output, size_t output_length);
+
+/*
+ * Cuts a file off: removes its nodes from an offset on. Their keys are deleted, but still on the image
+ * until the next commit.
+ *
+ *   image     the image.
+ *   map, letters, numbers
+ *             its record.
+ *   file      0 to 13.
+ *   offset    below the file's count: the first node that is removed.
+ *
+ * Tests, in order: JOHVIMARU_REFUSED_IMAGE, JOHVIMARU_REFUSED_LENGTHS (map or letters),
+ * JOHVIMARU_REFUSED_FILE, JOHVIMARU_REFUSED_OFFSET, JOHVIMARU_REFUSED_RECORD, JOHVIMARU_NOTHING_THERE
+ * (no node from the offset on), JOHVIMARU_NUMBERS_SPENT (the next sequence), JOHVIMARU_NO_ROOM.
+ *
+ * Done, it has programmed one page, in one step, chosen as a write chooses it. The map has
+ * JOHVIMARU_NONE in both halves at the places removed, the letters of their keys are now 'd', and the
+ * next sequence is one higher. Refused, nothing is changed.
+ */
+uint32_t johvimaru_cut_off(uint8_t *image, size_t image_length,
+                           uint16_t *map, size_t map_length,
+                           uint8_t *letters, size_t letters_length,
+                           uint32_t numbers[JOHVIMARU_NUMBERS_LENGTH],
+                           uint32_t file, uint32_t offset);
+
+/*
+ * A cut-off of which the power lasts for n steps and k bytes of one more. It has one step, so it is cut
+ * where n is 0. Cut at a k below 256 it has removed nothing; at 256 or more it is as good as done.
+ */
+uint32_t johvimaru_cut_off_cut(uint8_t *image, size_t image_length,
+                               uint16_t *map, size_t map_length,
+                               uint8_t *letters, size_t letters_length,
+                               uint32_t numbers[JOHVIMARU_NUMBERS_LENGTH],
+                               uint32_t file, uint32_t offset,
+                               uint64_t n, size_t k);
+
+/*
+ * Commits: replaces every key that no node has, so that what it enciphered cannot be read again, and
+ * writes the record onto the image, so that dead pages can go.
+ *
+ *   image     the image.
+ *   map, letters, numbers
+ *             its record.
+ *   noise     7,168 bytes from a good source of randomness, other ones at each call, which nobody else
+ *             knows: bytes 16p to 16p + 15 become the key of position p where its letter is not 'u'.
+ *
+ * Tests, in order: JOHVIMARU_REFUSED_IMAGE, JOHVIMARU_REFUSED_LENGTHS (map or letters),
+ * JOHVIMARU_REFUSED_NOISE, JOHVIMARU_REFUSED_RECORD, JOHVIMARU_NUMBERS_SPENT (the next epoch),
+ * JOHVIMARU_NO_ROOM (no block is empty).
+ *
+ * Done, it has programmed a new copy of key block 0 (16 pages), erased the old one, done the same with
+ * key block 1 (16 pages) and with the commit (10 pages), and has then erased, in order, each data block
+ * in which no page is a node's of the map: 45 steps, and one for each such block. Each copy went into
+ * the block that was the lowest empty one at that time, and all carry the old next epoch. The map is
+ * as it was. Each 'd' of the letters is now 'f'. The next epoch is one higher, and the numbers have the
+ * new blocks. Refused, nothing is changed.
+ */
+uint32_t johvimaru_commit(uint8_t *image, size_t image_length,
+                          uint16_t *map, size_t map_length,
+                          uint8_t *letters, size_t letters_length,
+                          uint32_t numbers[JOHVIMARU_NUMBERS_LENGTH],
+                          const uint8_t *noise, size_t noise_length);
+
+/*
+ * A commit of which the power lasts for n steps and k bytes of one more. Wherever it is cut, every node
+ * that the map has is found by the next mount.
+ */
+uint32_t johvimaru_commit_cut(uint8_t *image, size_t image_length,
+                              uint16_t *map, size_t map_length,
+                              uint8_t *letters, size_t letters_length,
+                              uint32_t numbers[JOHVIMARU_NUMBERS_LENGTH],
+                              const uint8_t *noise, size_t noise_length,
+                              uint64_t n, size_t k);
+
+/*
+ * Wipes a file from an offset on: removes its nodes from there, and commits. What they held can then not
+ * be read again from the image. It is done too where there is no node to remove.
+ *
+ *   image     the image.
+ *   map, letters, numbers
+ *             its record.
+ *   noise     as for a commit.
+ *   file      0 to 13.
+ *   offset    below the file's count: the first node that is removed.
+ *
+ * Tests, in order: JOHVIMARU_REFUSED_IMAGE, JOHVIMARU_REFUSED_LENGTHS (map or letters),
+ * JOHVIMARU_REFUSED_NOISE, JOHVIMARU_REFUSED_FILE, JOHVIMARU_REFUSED_OFFSET,
+ * JOHVIMARU_REFUSED_RECORD, JOHVIMARU_NUMBERS_SPENT (it takes two epochs), JOHVIMARU_NO_ROOM (no block
+ * is empty).
+ *
+ * Done, it has programmed a commit without the nodes removed into the lowest empty block (10 pages),
+ * erased the old one, and has then done all steps of a commit: 11 more than that. The map has
+ * JOHVIMARU_NONE in both halves at the places removed; letters and numbers are as after a commit, but
+ * the next epoch is two higher. Refused, nothing is changed.
+ */
+uint32_t johvimaru_wipe(uint8_t *image, size_t image_length,
+                        uint16_t *map, size_t map_length,
+                        uint8_t *letters, size_t letters_length,
+                        uint32_t numbers[JOHVIMARU_NUMBERS_LENGTH],
+                        const uint8_t *noise, size_t noise_length,
+                        uint32_t file, uint32_t offset);
+
+/*
+ * A wipe of which the power lasts for n steps and k bytes of one more. Cut before its tenth page was
+ * whole it has removed nothing. Cut later it has removed the nodes, and the keys that it has not yet
+ * replaced are deleted: the next commit or wipe replaces them.
+ */
+uint32_t johvimaru_wipe_cut(uint8_t *image, size_t image_length,
+                            uint16_t *map, size_t map_length,
+                            uint8_t *letters, size_t letters_length,
+                            uint32_t numbers[JOHVIMARU_NUMBERS_LENGTH],
+                            const uint8_t *noise, size_t noise_length,
+                            uint32_t file, uint32_t offset,
+                            uint64_t n, size_t k);
 
 #ifdef __cplusplus
 }

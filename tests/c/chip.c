@@ -70,6 +70,25 @@ static uint32_t write_node(struct store *s, uint64_t n, size_t k)
                                n, k);
 }
 
+static uint32_t cut_off(struct store *s, uint64_t n, size_t k)
+{
+    return johvimaru_cut_off_cut(s->image, sizeof s->image, s->map, JOHVIMARU_MAP_LENGTH, s->letters,
+                                 JOHVIMARU_LETTERS_LENGTH, s->numbers, 13, 0, n, k);
+}
+
+static uint32_t commit(struct store *s, uint64_t n, size_t k)
+{
+    return johvimaru_commit_cut(s->image, sizeof s->image, s->map, JOHVIMARU_MAP_LENGTH, s->letters,
+                                JOHVIMARU_LETTERS_LENGTH, s->numbers, noise, sizeof noise, n, k);
+}
+
+static uint32_t wipe(struct store *s, uint64_t n, size_t k)
+{
+    return johvimaru_wipe_cut(s->image, sizeof s->image, s->map, JOHVIMARU_MAP_LENGTH, s->letters,
+                              JOHVIMARU_LETTERS_LENGTH, s->numbers, noise, sizeof noise, 13, 0, n,
+                              k);
+}
+
 /* ---- Steps */
 
 /* Repeats on the chip the step by which two images differ. */
@@ -128,5 +147,10 @@ int main(void)
                            counts[JOHVIMARU_FILES - 1] - 1u, output, sizeof output);
     printf("read: reply %" PRIu32 ", %s\n", reply,
            memcmp(output, payload, sizeof output) == 0 ? "the payload" : "something else");
+
+    on_chip("commit", commit);
+    on_chip("cut-off", cut_off);
+    on_chip("write", write_node);
+    on_chip("wipe", wipe);
     return 0;
 }

@@ -4,7 +4,7 @@ use johvimaru_tests::model::files::{COUNTS, FILES, PLACES};
 use johvimaru_tests::model::image::{BLOCK, SIZES};
 use johvimaru_tests::model::keys::NOISE;
 use johvimaru_tests::model::pages::{PAGE, PAYLOAD};
-use johvimaru_tests::model::record::{LETTERS, MAP, NONE};
+use johvimaru_tests::model::record::{LETTERS, MAP, NONE, SCRATCH};
 use johvimaru_tests::recorder::Reply;
 use std::path::{Path, PathBuf};
 use std::process::Command;
@@ -54,7 +54,8 @@ fn the_example_in_cpp() {
 #[test]
 fn the_steps_on_a_chip() {
     let text = "format: reply 0, steps 50\nwrite: reply 0, steps 1\nwrite: reply 0, steps 1\n\
-                read: reply 0, the payload\n";
+                read: reply 0, the payload\ncommit: reply 0, steps 45\ncut-off: reply 0, steps 1\n\
+                write: reply 0, steps 1\nwipe: reply 0, steps 57\n";
     for (compiler, words) in [("cc", ["-std=c11", "-x", "c"]), ("c++", ["-std=c++17", "-x", "c++"])]
     {
         assert_eq!(run("chip", compiler, &words), text, "{compiler}");
@@ -100,6 +101,7 @@ fn the_constants() {
         ("MAP_LENGTH", MAP),
         ("LETTERS_LENGTH", LETTERS),
         ("NUMBERS_LENGTH", 5),
+        ("SCRATCH_LENGTH", SCRATCH),
         ("NOISE_SIZE", NOISE),
     ];
     for (name, size) in sizes {
@@ -123,6 +125,9 @@ fn the_constants() {
         ("NO_FREE_KEY", Reply::NoFreeKey),
         ("NO_ROOM", Reply::NoRoom),
         ("NUMBERS_SPENT", Reply::NumbersSpent),
+        ("NO_KEY_BLOCK", Reply::NoKeyBlock),
+        ("NO_COMMIT", Reply::NoCommit),
+        ("ENTRY_UNFIT", Reply::EntryUnfit),
         ("POWER_CUT", Reply::PowerCut),
     ];
     for (name, reply) in replies {

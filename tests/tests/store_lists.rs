@@ -16,11 +16,11 @@ struct Lists {
 }
 
 const LISTS: [Lists; 5] = [
-    Lists { blocks: 8, seeds: 0..16_000, longest: 400 },
-    Lists { blocks: 9, seeds: 100_000..106_000, longest: 400 },
-    Lists { blocks: 16, seeds: 200_000..202_000, longest: 600 },
-    Lists { blocks: 32, seeds: 300_000..300_400, longest: 1_200 },
-    Lists { blocks: 256, seeds: 400_000..400_100, longest: 100 },
+    Lists { blocks: 8, seeds: 0..18_000, longest: 400 },
+    Lists { blocks: 9, seeds: 100_000..108_000, longest: 400 },
+    Lists { blocks: 16, seeds: 200_000..202_500, longest: 600 },
+    Lists { blocks: 32, seeds: 300_000..300_500, longest: 1_200 },
+    Lists { blocks: 256, seeds: 400_000..400_150, longest: 100 },
 ];
 
 /// Each refusal of a mount for what is on the image is met on so many images at least.

@@ -281,10 +281,15 @@ pub fn compare(store: &Store, call: Call, power: Power) -> Result<After, String>
 /// Does a call by both with buffers of wrong lengths. Gives the reply, or where they differ.
 pub fn compare_lent(store: &Store, call: Call, power: Power, lent: Lent) -> Result<u32, String> {
     let mut store = store.clone();
+    stretch_all(&mut store, lent);
+    compare(&store, call, power).map(|after| after.reply)
+}
+
+/// Gives image, map and letters other lengths.
+pub fn stretch_all(store: &mut Store, lent: Lent) {
     stretch(&mut store.image, lent.image);
     stretch(&mut store.record.map, lent.map);
     stretch(&mut store.record.letters, lent.letters);
-    compare(&store, call, power).map(|after| after.reply)
 }
 
 /// Shortens or lengthens a buffer.

@@ -13,7 +13,7 @@ use crate::model::record::{Record, LETTERS, MAP, NONE};
 use crate::model::store::Store;
 use crate::random_lists::RandomList;
 use crate::rng::Rng;
-use crate::side_by_side::{self, compare, compare_lent, garbage, Call, Tally};
+use crate::side_by_side::{self, compare, garbage, stretch_all, Call, Tally};
 use std::fmt;
 
 /// A page to damage.
@@ -75,6 +75,8 @@ pub enum Change {
     },
     /// The entry of a place in the commit block.
     Entry(usize, Option<Entry>),
+    /// The entry of a place in the commit block, with this page and key position.
+    EntryAt(usize, Target, u16),
     /// The header of a page replaced by that of another.
     Header(Target, Target),
     /// The block of the second page copied onto that of the first.
@@ -133,6 +135,10 @@ impl Change {
                 let page = Target::Commit(LETTER_PARTS + place / ENTRIES).page(store);
                 let start = PAGE * page + HEADER + ENTRY * (place % ENTRIES);
                 store.image[start..][..ENTRY].copy_from_slice(&spell_entry(entry));
+            }
+            Change::EntryAt(place, target, key) => {
+                let page = target.page(store) as u16;
+                Change::Entry(place, Some(Entry { page, key })).apply_to_image(store);
             }
             Change::Header(to, from) => {
                 let [to, from] = [to, from].map(|target| PAGE * target.page(store));
@@ -205,7 +211,8 @@ impl Target {
 /// One event of a list.
 #[derive(Clone, Debug, PartialEq, Eq)]
 pub enum Event {
-    /// A call. With changes or wrong lengths it is made on a copy of image and record.
+    /// A call. With changes or wrong lengths it is made on a copy of image and record, and where it is
+    /// cut there a mount follows.
     Call {
         /// The call.
         call: Call,
@@ -275,14 +282,26 @@ impl Run {
                 } else {
                     let mut copy = self.store.clone();
                     changes.iter().for_each(|change| change.apply(&mut copy));
-                    let reply = compare_lent(&copy, *call, *power, *lent)?;
-                    self.tally.count_on(&copy.image, *call, reply);
+                    stretch_all(&mut copy, *lent);
+                    self.call_on_copy(copy, *call, *power)?;
                 }
             }
             Event::Damage(changes) => {
                 changes.iter().for_each(|change| change.apply(&mut self.store));
                 self.power_off();
             }
+        }
+        Ok(())
+    }
+
+    /// Does a call by both on a copy that is then dropped, and a mount where it is cut.
+    fn call_on_copy(&mut self, copy: Store, call: Call, power: Power) -> Result<(), String> {
+        let mut after = compare(&copy, call, power)?;
+        self.tally.count_on(&copy.image, call, after.reply);
+        if after.reply == CUT {
+            after.store.record = garbage(self.tally.calls() as u64);
+            let mounted = compare(&after.store, Call::MOUNT, Power::STAYS)?;
+            self.tally.count_on(&after.store.image, Call::MOUNT, mounted.reply);
         }
         Ok(())
     }
@@ -386,9 +405,9 @@ impl Events {
         Event::Call { call: Call::Format { noise }, power, lent, changes: Vec::new() }
     }
 
-    /// One or two changes.
+    /// One to three changes.
     fn changes(&mut self, one: fn(&mut Self) -> Change) -> Vec<Change> {
-        (0..1 + self.rng.below(2)).map(|_| one(self)).collect()
+        (0..1 + self.rng.below(3)).map(|_| one(self)).collect()
     }
 
     fn change(&mut self) -> Change {
@@ -441,7 +460,8 @@ impl Events {
             3 => Change::Epoch(a, self.rng.below(4) as u32 + 1),
             4 => Change::Covered(self.rng.below(12) as u32),
             5 => Change::Header(a, b),
-            6 | 7 => Change::Entry(self.rng.below(PLACES), self.entry()),
+            6 => Change::Entry(self.rng.below(PLACES), self.entry()),
+            7 => Change::EntryAt(self.place(), a, self.position() as u16),
             8 | 9 => Change::Put { target: a, header: self.header(), whole: self.rng.below(3) > 0 },
             _ => self.byte(),
         }
@@ -454,10 +474,15 @@ impl Events {
         (self.rng.below(4) > 0).then_some(entry)
     }
 
+    /// A place, most often one of the first.
+    fn place(&mut self) -> usize {
+        let limit = [4, PLACES][self.rng.below(2)];
+        self.rng.below(limit)
+    }
+
     /// A header of low numbers, so that sequences, epochs and keys are met twice.
     fn header(&mut self) -> Header {
-        let (file, offset) =
-            files::node([self.rng.below(4), self.rng.below(PLACES)][self.rng.below(2)]);
+        let (file, offset) = files::node(self.place());
         let number = [self.rng.below(12) as u32 + 1, LAST][usize::from(self.rng.below(30) == 0)];
         match self.rng.below(8) {
             0..5 => Header::Node { sequence: number, file, offset, key: self.position() },

@@ -10,18 +10,55 @@
  * text says the same in words. A caller in C is checked by nothing: it must keep to the section
  * "What the caller owes".
  *
- * Link with librecorder.a. The library needs memcpy and memset, and nothing else. It allocates nothing,
- * keeps nothing between calls and has no global state: all that it works on is lent to it for the
- * call, and JOHVIMARU_STACK_SIZE bytes of stack. Calls on different buffers may run at the same time.
+ *
+ * LINKING
+ *
+ * librecorder.a is an archive for x86-64, of ELF objects with the System V calling convention; its code
+ * can stand at any address. It needs memcpy and memset, and nothing else. It allocates nothing, keeps
+ * nothing between calls and has no data that changes: all that it works on is lent to it for the call,
+ * and JOHVIMARU_STACK_SIZE bytes of stack. Calls on different buffers may run at the same time, and so
+ * may two reads of one image and record into different outputs.
+ *
+ * What stays secret: the library clears nothing behind it. Keys and payloads that a call used lie on
+ * the stack, below the caller's frame, until something overwrites them; a device that must not keep
+ * them there overwrites JOHVIMARU_STACK_SIZE bytes of that stack. The cipher is not constant-time: it
+ * looks up tables by bytes of the key, so its time tells of the key whoever shares the processor's
+ * cache with it. Nobody else's code may run there while keys are in use.
+ *
+ * What a call costs: the time of a format grows with the bytes of the image, that of a mount, a write,
+ * a cut-off, a commit or a wipe with its pages, and that of a read does not grow with it. Most of a
+ * write or a read is the test of the record: it looks at the 42 pages of the three blocks that the
+ * record names, at each page that the map names, and at all letters.
  *
  *
  * THE IMAGE
  *
- * The image is the content of the flash, lent as bytes: 8 to 256 blocks of 4,096 bytes. A block has 16
- * pages of 256 bytes. An erased byte is FFh. The library changes the image in two kinds of steps
- * only, which are those of the chip: it programs a page that is empty (all its bytes FFh), or it
- * erases a block. So the image can be a mirror in memory of which the caller repeats the steps on the
- * chip, or memory that the chip itself answers for.
+ * The image is the content of the flash, as bytes in memory. It has 8 to 256 blocks, each of 16 pages,
+ * each of 256 bytes. An erased byte is FFh; a page or a block is empty where nothing else stands in
+ * it. The library changes the image in two kinds of steps only, which are those of the chip: it
+ * programs a page that is empty, or it erases a block.
+ *
+ * For a call that changes it the image is a mirror: memory of the caller's, apart from the chip. It
+ * must not be memory that the chip answers for, because a step is made in several stores. A write puts
+ * the plain payload into its page and enciphers it there, so such a chip would be given the plaintext;
+ * and no chip takes a byte twice. A read changes nothing, and may be given the mapped flash itself.
+ *
+ *
+ * THE CHIP
+ *
+ * After a call on the mirror its steps are repeated on the chip, one after the other in the same order:
+ * what a power failure leaves is right only in that order. A write has one step, the page that the map
+ * now has at the place. For any call, its steps are learnt from its form with n and k, with k = 0, on
+ * copies of image and record as they were before the call:
+ *
+ *   - The copy after n is what the image is after n steps. Where the reply is JOHVIMARU_POWER_CUT
+ *     there are more; else there are no more than n.
+ *   - The copies after n and after n + 1 differ by one step. A page that was empty and is no more is
+ *     programmed with the 256 bytes that it now has. A block that is now empty and was not is erased.
+ *     Where they do not differ, an empty block is erased, which the chip may be spared.
+ *
+ * Two images far apart do not show the steps between them: format erases a block and then programs it,
+ * and a call may program a page and erase it again before it is done. tests/c/chip.c is an example.
  *
  *
  * FILES, OFFSETS AND PLACES
@@ -29,10 +66,10 @@
  * There are 14 files, 0 to 13. Each holds a fixed count of nodes, of one payload each:
  *
  *     file    0   1   2   3   4   5   6   7   8   9  10  11  12  13
- *     nodes  32  32  24  24  16  16  16  16   8   8   8   8   8   8      in all 224
+ *     nodes  32  32  24  24  16  16  16  16   8   8   8   8   8   8
  *
- * A node is named by its file and its offset, which is below the file's count. Its place, 0 to 223, is
- * the sum of the counts of the earlier files, plus the offset.
+ * JOHVIMARU_FILE_COUNTS has these counts. A node is named by its file and its offset, which is below
+ * the file's count. The nodes of all files, one file after the other, are at the places 0 to 223.
  *
  *
  * THE WORKING RECORD
@@ -46,34 +83,44 @@
  *   numbers   5 numbers: the next sequence, the next epoch, and the blocks that hold key block 0, key
  *             block 1 and the commit. JOHVIMARU_NEXT_SEQUENCE and so on are their indices.
  *
- * Format makes the record. Write keeps it up to date. It belongs to the image: the two must be kept
- * together, and nothing but the library should change either.
+ * Format makes the record, and mount finds it again from the image alone. The other calls keep it up to
+ * date. It belongs to the image: the two must be kept together, and nothing but the library should
+ * change either.
  *
- * Write and read first test whether the record fits the image, and refuse it where it does not. It fits
- * if both next numbers are 1 to 100,000,000; the three blocks are whole and of their kind; each place
- * is JOHVIMARU_NONE in both halves of the map, or names a whole page on the image with the header of
- * that file, offset and key position; no key position is named twice; every letter is 'f', 'u' or
- * 'd'; and 'u' stands at exactly the key positions that are named.
+ * All calls but format and mount test whether the record fits the image, and refuse it where it does
+ * not. It fits where
+ *
+ *   - both next numbers are 1 to 100,000,000;
+ *   - each of the three blocks is whole, and of the kind that the record says;
+ *   - each place holds nothing, in both halves of the map, or has a whole page on the image whose
+ *     header has its file, its offset and its key position;
+ *   - each letter is 'f', 'u' or 'd', two places never have one key position, and the positions that
+ *     places have are those with the letter 'u'.
  *
  *
  * REPLIES
  *
  * Each call replies a number: 0 where it was done, 1 to 14 where it was refused, 255 where the power cut
  * it. It makes its tests in the order that is given with it, and the first that fails gives the reply.
- * A refused call changes nothing at all, except that a refused format sets the five numbers to 0.
+ * A refused call changes nothing at all, with these exceptions: a refused format or mount sets the five
+ * numbers to 0, and a mount that is refused for what is on the image also fills map, letters and
+ * scratch.
  *
  *
  * POWER CUTS
  *
- * The forms that end in _cut are for tests of a device: they run the same code, but as if the power
- * failed after n whole steps and the first k bytes of the next. A program that is cut leaves its first
- * k bytes written and the rest of the page FFh; an erase that is cut leaves the block's first k bytes
- * FFh and the rest as before. A k that is larger than the step does the whole step. Where the call has
- * no more than n steps it is not cut, and the form does and replies what the plain call does.
+ * The forms that end in _cut run the same code as if the power failed after n whole steps and k bytes
+ * of one more. They are for tests of a device, and to learn the steps of a call. A program that is cut
+ * leaves its first k bytes written and the rest of the page FFh; an erase that is cut leaves FFh in
+ * the block's first k bytes and the rest as it was. A k that is larger than the step does the whole
+ * step. Where the call has no more than n steps it is not cut, and the form does and replies what the
+ * plain call does.
  *
  * A call that is cut replies JOHVIMARU_POWER_CUT. Its image is the one that a real cut leaves. Map,
  * letters and numbers are then as if the call had been finished, and of no use: after a real cut they
- * are gone, and the record has to be found again from the image.
+ * are gone. Until a mount has finished, nothing but a mount may then be called on the image: it finds
+ * the record again, and erases what the cut call has left. A mount that is cut itself is followed by
+ * another.
  *
  *
  * WHAT THE CALLER OWES
@@ -83,7 +130,12 @@
  *   the pointer is not to const. A length is at most PTRDIFF_MAX bytes.
  * - numbers points to five elements. It has no length.
  * - Buffers of one call that the call may write do not overlap any other buffer of that call.
- * - Nothing else reads or writes the buffers while the call runs.
+ * - Nothing else writes the buffers while the call runs, nor reads those that it may write.
+ * - The chip does the steps in the order in which they come, and a step is begun only when the one
+ *   before it has ended. A page is programmed from its first byte on: where the power fails, some
+ *   bytes at its start are written and the rest is still FFh. A block is erased from its first byte
+ *   on: where the power fails, some bytes at its start are FFh and the rest is as it was. An erase
+ *   that ends has left nothing but FFh, and a program that ends the whole page.
  * - Lengths that are wrong for the call, and any content of image, map, letters and numbers, are no
  *   fault of the caller: the call refuses what it cannot take.
  */
@@ -97,36 +149,45 @@
 extern "C" {
 #endif
 
-/* ---- Sizes */
+/* The version of this header: another one has other calls or constants. */
+#define JOHVIMARU_VERSION 1
+
+/* ---- Sizes, of a type in which an image's bytes can be counted whatever an int holds */
 
 /* Bytes in a page and in a block. */
-#define JOHVIMARU_PAGE_SIZE 256
-#define JOHVIMARU_BLOCK_SIZE 4096
+#define JOHVIMARU_PAGE_SIZE 256UL
+#define JOHVIMARU_BLOCK_SIZE 4096UL
 
 /* The least and the largest number of blocks in an image. */
-#define JOHVIMARU_MIN_BLOCKS 8
-#define JOHVIMARU_MAX_BLOCKS 256
+#define JOHVIMARU_MIN_BLOCKS 8UL
+#define JOHVIMARU_MAX_BLOCKS 256UL
 
 /* Files, and nodes in all of them. */
-#define JOHVIMARU_FILES 14
-#define JOHVIMARU_PLACES 224
+#define JOHVIMARU_FILES 14UL
+#define JOHVIMARU_PLACES 224UL
+
+/* The count of nodes of each file, as the initial value of an array of JOHVIMARU_FILES numbers. */
+#define JOHVIMARU_FILE_COUNTS {32, 32, 24, 24, 16, 16, 16, 16, 8, 8, 8, 8, 8, 8}
 
 /* Bytes in a payload. */
-#define JOHVIMARU_PAYLOAD_SIZE 224
+#define JOHVIMARU_PAYLOAD_SIZE 224UL
 
 /* Elements of the record's three buffers. */
-#define JOHVIMARU_MAP_LENGTH 448
-#define JOHVIMARU_LETTERS_LENGTH 448
-#define JOHVIMARU_NUMBERS_LENGTH 5
+#define JOHVIMARU_MAP_LENGTH 448UL
+#define JOHVIMARU_LETTERS_LENGTH 448UL
+#define JOHVIMARU_NUMBERS_LENGTH 5UL
 
-/* Bytes of noise that format takes: a key of 16 bytes for each of 448 key positions. */
-#define JOHVIMARU_NOISE_SIZE 7168
+/* Numbers of the scratch that mount takes. */
+#define JOHVIMARU_SCRATCH_LENGTH 224UL
+
+/* Bytes of noise that format, commit and wipe take: a key of 16 bytes for each of 448 key positions. */
+#define JOHVIMARU_NOISE_SIZE 7168UL
 
 /* Stands in a map for none. */
-#define JOHVIMARU_NONE 65535
+#define JOHVIMARU_NONE 65535U
 
 /* Bytes of stack that are enough for any call, as measured on x86-64. */
-#define JOHVIMARU_STACK_SIZE 6144
+#define JOHVIMARU_STACK_SIZE 6144UL
 
 /* ---- The record's numbers, by their index */
 
@@ -136,13 +197,13 @@ extern "C" {
 #define JOHVIMARU_KEYS_1 3
 #define JOHVIMARU_COMMIT 4
 
-/* ---- Replies. Numbers 12 to 14 are kept for the call that finds a record again. */
+/* ---- Replies */
 
 /* The call was done. */
 #define JOHVIMARU_DONE 0
 /* The image is not 8 to 256 full blocks. */
 #define JOHVIMARU_REFUSED_IMAGE 1
-/* Map or letters are of a wrong length. */
+/* Map, letters or scratch are of a wrong length. */
 #define JOHVIMARU_REFUSED_LENGTHS 2
 /* The noise is not 7,168 bytes. */
 #define JOHVIMARU_REFUSED_NOISE 3
@@ -158,10 +219,16 @@ extern "C" {
 #define JOHVIMARU_NOTHING_THERE 8
 /* No key is free. */
 #define JOHVIMARU_NO_FREE_KEY 9
-/* There is no page to take. */
+/* There is no page to take, or no empty block. */
 #define JOHVIMARU_NO_ROOM 10
-/* The next sequence is above 99,999,999: no write can be numbered. */
+/* The sequences or epochs, which end at 99,999,999, do not last for the call. */
 #define JOHVIMARU_NUMBERS_SPENT 11
+/* One of the key blocks is nowhere whole on the image. */
+#define JOHVIMARU_NO_KEY_BLOCK 12
+/* No commit block on the image is whole. */
+#define JOHVIMARU_NO_COMMIT 13
+/* The image names a page for a place that is not a whole node of it, or one key for two places. */
+#define JOHVIMARU_ENTRY_UNFIT 14
 /* The power failed before the call's last step was whole. Only the _cut forms reply it. */
 #define JOHVIMARU_POWER_CUT 255
 
@@ -192,7 +259,7 @@ uint32_t johvimaru_format(uint8_t *image, size_t image_length,
                           const uint8_t *noise, size_t noise_length);
 
 /*
- * A format of which the power lasts for n steps and the first k bytes of the next.
+ * A format of which the power lasts for n steps and k bytes of one more.
  */
 uint32_t johvimaru_format_cut(uint8_t *image, size_t image_length,
                               uint16_t *map, size_t map_length,
@@ -200,6 +267,50 @@ uint32_t johvimaru_format_cut(uint8_t *image, size_t image_length,
                               uint32_t numbers[JOHVIMARU_NUMBERS_LENGTH],
                               const uint8_t *noise, size_t noise_length,
                               uint64_t n, size_t k);
+
+/*
+ * Mounts the image: finds its record from what is on it alone, and erases what cut calls have left.
+ *
+ *   image     the image.
+ *   map, letters, numbers
+ *             the record. What it held before does not matter.
+ *   scratch   224 numbers. What they held before does not matter.
+ *
+ * Tests, in order: JOHVIMARU_REFUSED_IMAGE, JOHVIMARU_REFUSED_LENGTHS (map, letters or scratch),
+ * JOHVIMARU_NO_COMMIT, JOHVIMARU_NO_KEY_BLOCK, JOHVIMARU_ENTRY_UNFIT.
+ *
+ * Of several whole copies of a key block or of the commit it takes the one of the highest epoch, and of
+ * equal ones that in the lowest block. A place holds what the commit says, unless a whole page of a
+ * later sequence than the commit covers says otherwise: a node that is written there, or a cut-off
+ * that removes it. The page of the highest sequence decides, and of equal ones the highest page. Keys
+ * that places have are used. Others are deleted where the commit does not say that they are free, or
+ * where a later page, whole or torn, is one of a node under that key; all others are free.
+ *
+ * Done, it has erased, in order, every block that is not empty, is not one of the three that it took,
+ * and is no data block (see write): a step for each. Map, letters and numbers are the record, both next
+ * numbers one above the highest that was found. scratch has for each place the sequence of the page
+ * that decided, 0 where the commit did.
+ *
+ * Refused for image or lengths, it has set the numbers to 0 and left all else as it was. Refused for
+ * what is on the image, it has left the image as it was, filled the map with JOHVIMARU_NONE and the
+ * letters with 'd', and set numbers and scratch to 0.
+ */
+uint32_t johvimaru_mount(uint8_t *image, size_t image_length,
+                         uint16_t *map, size_t map_length,
+                         uint8_t *letters, size_t letters_length,
+                         uint32_t numbers[JOHVIMARU_NUMBERS_LENGTH],
+                         uint32_t *scratch, size_t scratch_length);
+
+/*
+ * A mount of which the power lasts for n steps and k bytes of one more. Cut, it has left scratch too as
+ * if it had been finished.
+ */
+uint32_t johvimaru_mount_cut(uint8_t *image, size_t image_length,
+                             uint16_t *map, size_t map_length,
+                             uint8_t *letters, size_t letters_length,
+                             uint32_t numbers[JOHVIMARU_NUMBERS_LENGTH],
+                             uint32_t *scratch, size_t scratch_length,
+                             uint64_t n, size_t k);
 
 /*
  * Writes a payload at a file's offset. What was there before is replaced, and its key deleted.
@@ -215,11 +326,12 @@ uint32_t johvimaru_format_cut(uint8_t *image, size_t image_length,
  * JOHVIMARU_REFUSED_FILE, JOHVIMARU_REFUSED_OFFSET, JOHVIMARU_REFUSED_PAYLOAD,
  * JOHVIMARU_REFUSED_RECORD, JOHVIMARU_NUMBERS_SPENT, JOHVIMARU_NO_FREE_KEY, JOHVIMARU_NO_ROOM.
  *
- * Done, it has programmed one page, in one step: the lowest empty page that has only empty pages after
- * it in its block and stands in a block with nodes, else the first page of the lowest empty block if
- * at least two blocks are empty. The payload is enciphered under the lowest free key, whose letter is
- * now 'u'. The letter of the key that was there before, if any, is now 'd'. The map has the page and
- * the key position at the place, and the next sequence is one higher. Refused, nothing is changed.
+ * Done, it has programmed one page, in one step. It is the lowest one from which on its block is empty,
+ * among the data blocks: those with a page, whole or torn, that has the header of a node or a
+ * cut-off. Where there is none, and at least two blocks are empty, it is page 0 of the lowest of
+ * these. The payload is enciphered under the lowest free key, whose letter is now 'u'. The letter of
+ * the key that was there before, if any, is now 'd'. The map has the page and the key position at the
+ * place, and the next sequence is one higher. Refused, nothing is changed.
  */
 uint32_t johvimaru_write(uint8_t *image, size_t image_length,
                          uint16_t *map, size_t map_length,
@@ -229,8 +341,8 @@ uint32_t johvimaru_write(uint8_t *image, size_t image_length,
                          const uint8_t *payload, size_t payload_length);
 
 /*
- * A write of which the power lasts for n steps and the first k bytes of the next. A write has one step,
- * so it is cut where n is 0. Cut at a k below 30 it has left no header, and its key is still free; at
+ * A write of which the power lasts for n steps and k bytes of one more. A write has one step, so it is
+ * cut where n is 0. Cut at a k below 30 it has left no header, and its key is still free; at
  * 30 to 255 it has left a header and no end, its key must not be used again, and what was at the place
  * before still is; at 256 or more it is as good as done.
  */
@@ -265,6 +377,120 @@ uint32_t johvimaru_read(const uint8_t *image, size_t image_length,
                         const uint32_t numbers[JOHVIMARU_NUMBERS_LENGTH],
                         uint32_t file, uint32_t offset,
                         uint8_t *output, size_t output_length);
+
+/*
+ * Cuts a file off: removes its nodes from an offset on. Their keys are deleted, but still on the image
+ * until the next commit.
+ *
+ *   image     the image.
+ *   map, letters, numbers
+ *             its record.
+ *   file      0 to 13.
+ *   offset    below the file's count: the first node that is removed.
+ *
+ * Tests, in order: JOHVIMARU_REFUSED_IMAGE, JOHVIMARU_REFUSED_LENGTHS (map or letters),
+ * JOHVIMARU_REFUSED_FILE, JOHVIMARU_REFUSED_OFFSET, JOHVIMARU_REFUSED_RECORD, JOHVIMARU_NOTHING_THERE
+ * (no node from the offset on), JOHVIMARU_NUMBERS_SPENT (the next sequence), JOHVIMARU_NO_ROOM.
+ *
+ * Done, it has programmed one page, in one step, chosen as a write chooses it. The map has
+ * JOHVIMARU_NONE in both halves at the places removed, the letters of their keys are now 'd', and the
+ * next sequence is one higher. Refused, nothing is changed.
+ */
+uint32_t johvimaru_cut_off(uint8_t *image, size_t image_length,
+                           uint16_t *map, size_t map_length,
+                           uint8_t *letters, size_t letters_length,
+                           uint32_t numbers[JOHVIMARU_NUMBERS_LENGTH],
+                           uint32_t file, uint32_t offset);
+
+/*
+ * A cut-off of which the power lasts for n steps and k bytes of one more. It has one step, so it is cut
+ * where n is 0. Cut at a k below 256 it has removed nothing; at 256 or more it is as good as done.
+ */
+uint32_t johvimaru_cut_off_cut(uint8_t *image, size_t image_length,
+                               uint16_t *map, size_t map_length,
+                               uint8_t *letters, size_t letters_length,
+                               uint32_t numbers[JOHVIMARU_NUMBERS_LENGTH],
+                               uint32_t file, uint32_t offset,
+                               uint64_t n, size_t k);
+
+/*
+ * Commits: replaces every key that no node has, so that what it enciphered cannot be read again, and
+ * writes the record onto the image, so that dead pages can go.
+ *
+ *   image     the image.
+ *   map, letters, numbers
+ *             its record.
+ *   noise     7,168 bytes from a good source of randomness, other ones at each call, which nobody else
+ *             knows: bytes 16p to 16p + 15 become the key of position p where its letter is not 'u'.
+ *
+ * Tests, in order: JOHVIMARU_REFUSED_IMAGE, JOHVIMARU_REFUSED_LENGTHS (map or letters),
+ * JOHVIMARU_REFUSED_NOISE, JOHVIMARU_REFUSED_RECORD, JOHVIMARU_NUMBERS_SPENT (the next epoch),
+ * JOHVIMARU_NO_ROOM (no block is empty).
+ *
+ * Done, it has programmed a new copy of key block 0 (16 pages), erased the old one, done the same with
+ * key block 1 (16 pages) and with the commit (10 pages), and has then erased, in order, each data block
+ * in which no page is a node's of the map: 45 steps, and one for each such block. Each copy went into
+ * the block that was the lowest empty one at that time, and all carry the old next epoch. The map is
+ * as it was. Each 'd' of the letters is now 'f'. The next epoch is one higher, and the numbers have the
+ * new blocks. Refused, nothing is changed.
+ */
+uint32_t johvimaru_commit(uint8_t *image, size_t image_length,
+                          uint16_t *map, size_t map_length,
+                          uint8_t *letters, size_t letters_length,
+                          uint32_t numbers[JOHVIMARU_NUMBERS_LENGTH],
+                          const uint8_t *noise, size_t noise_length);
+
+/*
+ * A commit of which the power lasts for n steps and k bytes of one more. Wherever it is cut, every node
+ * that the map has is found by the next mount.
+ */
+uint32_t johvimaru_commit_cut(uint8_t *image, size_t image_length,
+                              uint16_t *map, size_t map_length,
+                              uint8_t *letters, size_t letters_length,
+                              uint32_t numbers[JOHVIMARU_NUMBERS_LENGTH],
+                              const uint8_t *noise, size_t noise_length,
+                              uint64_t n, size_t k);
+
+/*
+ * Wipes a file from an offset on: removes its nodes from there, and commits. What they held can then not
+ * be read again from the image. It is done too where there is no node to remove.
+ *
+ *   image     the image.
+ *   map, letters, numbers
+ *             its record.
+ *   noise     as for a commit.
+ *   file      0 to 13.
+ *   offset    below the file's count: the first node that is removed.
+ *
+ * Tests, in order: JOHVIMARU_REFUSED_IMAGE, JOHVIMARU_REFUSED_LENGTHS (map or letters),
+ * JOHVIMARU_REFUSED_NOISE, JOHVIMARU_REFUSED_FILE, JOHVIMARU_REFUSED_OFFSET,
+ * JOHVIMARU_REFUSED_RECORD, JOHVIMARU_NUMBERS_SPENT (it takes two epochs), JOHVIMARU_NO_ROOM (no block
+ * is empty).
+ *
+ * Done, it has programmed a commit without the nodes removed into the lowest empty block (10 pages),
+ * erased the old one, and has then done all steps of a commit: 11 more than that. The map has
+ * JOHVIMARU_NONE in both halves at the places removed; letters and numbers are as after a commit, but
+ * the next epoch is two higher. Refused, nothing is changed.
+ */
+uint32_t johvimaru_wipe(uint8_t *image, size_t image_length,
+                        uint16_t *map, size_t map_length,
+                        uint8_t *letters, size_t letters_length,
+                        uint32_t numbers[JOHVIMARU_NUMBERS_LENGTH],
+                        const uint8_t *noise, size_t noise_length,
+                        uint32_t file, uint32_t offset);
+
+/*
+ * A wipe of which the power lasts for n steps and k bytes of one more. Cut before its tenth page was
+ * whole it has removed nothing. Cut later it has removed the nodes, and the keys that it has not yet
+ * replaced are deleted: the next commit or wipe replaces them.
+ */
+uint32_t johvimaru_wipe_cut(uint8_t *image, size_t image_length,
+                            uint16_t *map, size_t map_length,
+                            uint8_t *letters, size_t letters_length,
+                            uint32_t numbers[JOHVIMARU_NUMBERS_LENGTH],
+                            const uint8_t *noise, size_t noise_length,
+                            uint32_t file, uint32_t offset,
+                            uint64_t n, size_t k);
 
 #ifdef __cplusplus
 }

@@ -5,20 +5,26 @@
 //! disk. The library and the second implementation test in each call whether the record fits the
 //! image. A read at a vacant place is that test and little else, so it tells the test's share.
 //!
+//! A mount is timed beside one pass of the form of every page, a commit and a wipe beside the second
+//! implementation.
+//!
 //! Under `cargo bench` it prints ratios. Under `cargo test` it only compares results.
 
 use johvimaru_tests::databases::{Folder, Lmdb, Sqlite};
+use johvimaru_tests::ffi::page as harness;
 use johvimaru_tests::model::calls;
 use johvimaru_tests::model::files::{self, PLACES};
 use johvimaru_tests::model::image::{Power, BLOCK};
-use johvimaru_tests::model::list::Data;
+use johvimaru_tests::model::list::{Call, Data};
 use johvimaru_tests::model::pages::{ERASED, PAGE, PAYLOAD};
 use johvimaru_tests::model::record::Record;
 use johvimaru_tests::model::store::Store;
 use johvimaru_tests::recorder::{self, Reply};
 use johvimaru_tests::shared_library::SharedLibrary;
+use johvimaru_tests::side_by_side;
 use johvimaru_tests::timing::{self, Work};
 use std::cell::RefCell;
+use std::hint::black_box;
 
 /// Calls in a turn.
 const CALLS: usize = 4;
@@ -78,6 +84,7 @@ fn main() {
         println!("{title:<36}{:>15}{:>15}", "write", "read");
         verdicts.iter().for_each(|verdict| println!("{verdict}"));
     }
+    whole_blocks(bench);
 }
 
 /// What the write of this number writes.
@@ -325,4 +332,96 @@ impl Peer for Sqlite {
     fn read(&mut self, place: usize, output: &mut Payload) {
         Sqlite::read(self, place as u32, output);
     }
+}
+
+// ---- Mount, commit and wipe
+
+/// The time of a mount over that of one pass of the form of every page is at most this.
+const PASS_LIMIT: f64 = 1.5;
+
+/// A setting for the calls on whole blocks: its blocks, and how many writes were made on it.
+fn written(blocks: usize, writes: usize) -> Ours {
+    let mut ours = Ours::new(blocks);
+    (0..writes).for_each(|number| ours.write(number % VACANT, &payload(number)));
+    ours.keep();
+    ours
+}
+
+/// The forms of all pages of an image, by the library.
+fn pass(image: &[u8]) -> u32 {
+    let mut fields = [0; 6];
+    image.chunks_exact(PAGE).map(|page| harness::form(page, &mut fields)).sum()
+}
+
+/// A mount by the library beside that pass and beside the second implementation's mount.
+fn mounts(blocks: usize, writes: usize, bench: bool) {
+    let ours = written(blocks, writes);
+    let (mut image, mut record) = (ours.image.clone(), recorder::Record::blank());
+    let mut second = Store { image: ours.image.clone(), record: Record::blank() };
+    assert_eq!(recorder::mount(&mut image, &mut record, &mut [0; PLACES]), Reply::Done);
+    assert_eq!(second.call(Call::MOUNT), calls::DONE);
+    assert!(image == ours.image && record == ours.record, "a mount finds what was written");
+    assert_eq!((&record.map, &record.letters), (&second.record.map, &second.record.letters));
+    if bench {
+        let ways: Vec<Work> = vec![
+            Box::new(|| {
+                recorder::mount(&mut image, &mut record, &mut [0; PLACES]);
+            }),
+            Box::new(|| assert!(pass(black_box(&ours.image)) > 0)),
+            Box::new(|| {
+                second.call(Call::MOUNT);
+            }),
+        ];
+        let times = timing::run(ways, ROUNDS / 4);
+        let (pass, second) = (times.ratio(0, 1), times.ratio(0, 2));
+        let word = if pass <= PASS_LIMIT { "met" } else { "NOT MET" };
+        let name = format!("mount, {blocks} blocks, {writes} writes");
+        println!("{name:<36}{pass:>15.2}{second:>15.2}   {word}");
+    }
+}
+
+/// A commit or a wipe by the library on 1 MiB beside the second implementation's, each on a copy.
+fn purges(name: &str, bench: bool, call: Call) {
+    let ours = written(256, 440);
+    let noise = FORMAT_NOISE.bytes();
+    let second = Store {
+        image: ours.image.clone(),
+        record: Record {
+            map: ours.record.map.clone(),
+            letters: ours.record.letters.clone(),
+            numbers: side_by_side::numbers(ours.record.numbers),
+        },
+    };
+    let library = || {
+        let (mut image, mut record) = (ours.image.clone(), ours.record.clone());
+        let reply = match call {
+            Call::Wipe { .. } => recorder::wipe(&mut image, &mut record, &noise, 0, 0),
+            _ => recorder::commit(&mut image, &mut record, &noise),
+        };
+        assert_eq!(reply, Reply::Done);
+        image
+    };
+    let model = || {
+        let mut copy = second.clone();
+        assert_eq!(copy.call(call), calls::DONE);
+        copy.image
+    };
+    assert!(library() == model(), "{name}: the images");
+    if bench {
+        let ways: Vec<Work> = vec![Box::new(|| drop(library())), Box::new(|| drop(model()))];
+        let ratio = timing::run(ways, ROUNDS / 4).ratio(0, 1);
+        let word = if ratio <= LIMIT { "met" } else { "NOT MET" };
+        println!("{name:<36}{:>15}{ratio:>15.2}   {word}", "");
+    }
+}
+
+/// All of them, as a table.
+fn whole_blocks(bench: bool) {
+    println!("{:<36}{:>15}{:>15}", "\nours, a multiple of", "one pass", "second");
+    for (blocks, full) in [(8, 60), (32, 440), (128, 440), (256, 440)] {
+        mounts(blocks, CALLS, bench);
+        mounts(blocks, full, bench);
+    }
+    purges("commit, 256 blocks", bench, Call::Commit { noise: FORMAT_NOISE });
+    purges("wipe, 256 blocks", bench, Call::Wipe { file: 0, offset: 0, noise: FORMAT_NOISE });
 }

@@ -1,6 +1,7 @@
 /*
- * A session with the store: format 8 blocks, write two nodes, write one of them again, read back, and
- * see what a write that the power cuts leaves. It is C and C++.
+ * A recorder's day: a volume is formatted, nodes are written and overwritten, the power fails in the
+ * middle of a write, the volume is mounted again, a trip is cut off, and at the quay a file is wiped and
+ * its keys with it. It is C and C++.
  */
 #include <inttypes.h>
 #include <stdio.h>
@@ -10,61 +11,51 @@
 
 #define BLOCKS JOHVIMARU_MIN_BLOCKS
 
-/* An image and its working record. */
-struct store {
-    uint8_t image[BLOCKS * JOHVIMARU_BLOCK_SIZE];
-    uint16_t map[JOHVIMARU_MAP_LENGTH];
-    uint8_t letters[JOHVIMARU_LETTERS_LENGTH];
-    uint32_t numbers[JOHVIMARU_NUMBERS_LENGTH];
-};
+/* An image and its working record, as the calls take them, one after the other. */
+static uint8_t image[BLOCKS * JOHVIMARU_BLOCK_SIZE];
+static uint16_t map[JOHVIMARU_MAP_LENGTH];
+static uint8_t letters[JOHVIMARU_LETTERS_LENGTH];
+static uint32_t numbers[JOHVIMARU_NUMBERS_LENGTH];
 
-static struct store store;
+#define STORE                                                                                     \
+    image, sizeof image, map, JOHVIMARU_MAP_LENGTH, letters, JOHVIMARU_LETTERS_LENGTH, numbers
 
-/* Noise for the example. A device takes it from a source of randomness. */
+/* Noise for the example, other bytes at each call. A device takes it from a source of randomness. */
 static uint8_t noise[JOHVIMARU_NOISE_SIZE];
 
-static void fill_noise(void)
+static const uint8_t *new_noise(void)
 {
-    uint32_t x = 1;
+    static uint32_t x = 1;
     for (size_t i = 0; i < sizeof noise; i++) {
         x = x * 1664525u + 1013904223u;
         noise[i] = (uint8_t)(x >> 24);
     }
+    return noise;
 }
 
-static uint32_t format(size_t noise_length)
+static void say(const char *call, uint32_t reply)
 {
-    return johvimaru_format(store.image, sizeof store.image, store.map, JOHVIMARU_MAP_LENGTH,
-                            store.letters, JOHVIMARU_LETTERS_LENGTH, store.numbers, noise,
-                            noise_length);
+    printf("%s: reply %" PRIu32 "\n", call, reply);
 }
 
-/* Writes a text, with zero bytes after it. */
-static uint32_t write_text(uint32_t file, uint32_t offset, const char *text)
+/* A text as a payload, with zero bytes after it. */
+static const uint8_t *payload_of(const char *text)
 {
-    uint8_t payload[JOHVIMARU_PAYLOAD_SIZE] = {0};
+    static uint8_t payload[JOHVIMARU_PAYLOAD_SIZE];
+    memset(payload, 0, sizeof payload);
     memcpy(payload, text, strlen(text));
-    return johvimaru_write(store.image, sizeof store.image, store.map, JOHVIMARU_MAP_LENGTH,
-                           store.letters, JOHVIMARU_LETTERS_LENGTH, store.numbers, file, offset,
-                           payload, sizeof payload);
+    return payload;
 }
 
-/* The same where the power fails at byte k of the page. */
-static uint32_t write_text_cut(uint32_t file, uint32_t offset, const char *text, size_t k)
+static void write_text(uint32_t file, uint32_t offset, const char *text)
 {
-    uint8_t payload[JOHVIMARU_PAYLOAD_SIZE] = {0};
-    memcpy(payload, text, strlen(text));
-    return johvimaru_write_cut(store.image, sizeof store.image, store.map, JOHVIMARU_MAP_LENGTH,
-                               store.letters, JOHVIMARU_LETTERS_LENGTH, store.numbers, file, offset,
-                               payload, sizeof payload, 0, k);
+    say("write", johvimaru_write(STORE, file, offset, payload_of(text), JOHVIMARU_PAYLOAD_SIZE));
 }
 
 static void print_node(uint32_t file, uint32_t offset)
 {
     uint8_t output[JOHVIMARU_PAYLOAD_SIZE] = {0};
-    uint32_t reply = johvimaru_read(store.image, sizeof store.image, store.map, JOHVIMARU_MAP_LENGTH,
-                                    store.letters, JOHVIMARU_LETTERS_LENGTH, store.numbers, file,
-                                    offset, output, sizeof output);
+    uint32_t reply = johvimaru_read(STORE, file, offset, output, sizeof output);
     printf("read file %" PRIu32 " offset %" PRIu32 ": reply %" PRIu32, file, offset, reply);
     if (reply == JOHVIMARU_DONE) {
         printf(", \"%s\"", (const char *)output);
@@ -76,7 +67,7 @@ static void print_numbers(void)
 {
     printf("numbers:");
     for (size_t i = 0; i < JOHVIMARU_NUMBERS_LENGTH; i++) {
-        printf(" %" PRIu32, store.numbers[i]);
+        printf(" %" PRIu32, numbers[i]);
     }
     printf("\n");
 }
@@ -84,42 +75,84 @@ static void print_numbers(void)
 /* The header of a page, which is text. */
 static void print_header(size_t page)
 {
-    printf("page %zu: \"%.30s\"\n", page, (const char *)(store.image + page * JOHVIMARU_PAGE_SIZE));
+    printf("page %zu: \"%.30s\"\n", page, (const char *)(image + page * JOHVIMARU_PAGE_SIZE));
+}
+
+static unsigned count(char letter)
+{
+    unsigned n = 0;
+    for (size_t p = 0; p < JOHVIMARU_LETTERS_LENGTH; p++) {
+        n += letters[p] == (uint8_t)letter;
+    }
+    return n;
+}
+
+/* A line for each node, with file, offset, page and key position; then the used, free and deleted keys. */
+static void print_listing(void)
+{
+    static const uint32_t counts[JOHVIMARU_FILES] = JOHVIMARU_FILE_COUNTS;
+    size_t x = 0;
+    for (unsigned file = 0; file < JOHVIMARU_FILES; file++) {
+        for (unsigned offset = 0; offset < counts[file]; offset++, x++) {
+            if (map[x] != JOHVIMARU_NONE) {
+                printf("%4u%4u%6u%6u\n", file, offset, (unsigned)map[x],
+                       (unsigned)map[JOHVIMARU_PLACES + x]);
+            }
+        }
+    }
+    printf("%6u%6u%6u\n", count('u'), count('f'), count('d'));
+}
+
+static uint32_t mount(void)
+{
+    uint32_t scratch[JOHVIMARU_SCRATCH_LENGTH];
+    return johvimaru_mount(STORE, scratch, JOHVIMARU_SCRATCH_LENGTH);
 }
 
 int main(void)
 {
-    fill_noise();
-    printf("format, noise too short: reply %" PRIu32 "\n", format(sizeof noise - 1));
+    say("mount, nothing there", mount());
+    say("format, noise too short", johvimaru_format(STORE, new_noise(), JOHVIMARU_NOISE_SIZE - 1));
+    say("format", johvimaru_format(STORE, new_noise(), JOHVIMARU_NOISE_SIZE));
     print_numbers();
-    printf("format: reply %" PRIu32 "\n", format(sizeof noise));
-    print_numbers();
-    print_node(0, 0);
 
-    printf("write: reply %" PRIu32 "\n", write_text(0, 0, "draught 4.12 m"));
-    printf("write: reply %" PRIu32 "\n", write_text(2, 5, "track 51.92 N 4.48 E"));
-    printf("write: reply %" PRIu32 "\n", write_text(0, 0, "draught 6.80 m"));
-    print_numbers();
+    write_text(0, 0, "draught 4.12 m");
+    write_text(2, 5, "track 51.92 N 4.48 E");
+    write_text(0, 0, "draught 6.80 m");
     print_node(0, 0);
-    print_node(2, 5);
+    print_node(0, 1);
     print_node(14, 0);
     print_node(13, 8);
-
     print_header(48);
     print_header(49);
     print_header(50);
-    printf("place 0: page %u, key position %u\n", (unsigned)store.map[0],
-           (unsigned)store.map[JOHVIMARU_PLACES]);
-    printf("letters: %.4s\n", (const char *)store.letters);
 
-    /* The page is cut after its header: a copy of the image shows what is left of it. */
-    struct store before = store;
-    printf("write, cut at byte 30: reply %" PRIu32 "\n", write_text_cut(2, 5, "lost", 30));
+    /* The power fails after the page's header: nobody sees a reply, and the record is lost. */
+    say("write, cut at byte 30",
+        johvimaru_write_cut(STORE, 2, 5, payload_of("lost"), JOHVIMARU_PAYLOAD_SIZE, 0, 30));
     print_header(51);
-    printf("byte 30 of page 51: %u\n", (unsigned)store.image[51 * JOHVIMARU_PAGE_SIZE + 30]);
-    store = before;
+    say("mount", mount());
+    print_numbers();
+    print_node(2, 5);
+    printf("letters: %.5s\n", (const char *)letters);
 
-    store.numbers[JOHVIMARU_COMMIT] = 3;
-    printf("write, the record names a wrong block: reply %" PRIu32 "\n", write_text(0, 0, "no"));
+    /* A trip is removed, and its key is marked; the commit replaces the keys of both. */
+    say("cut-off file 2 from 5", johvimaru_cut_off(STORE, 2, 5));
+    print_node(2, 5);
+    print_listing();
+    say("commit", johvimaru_commit(STORE, new_noise(), JOHVIMARU_NOISE_SIZE));
+    print_numbers();
+    print_listing();
+
+    /* At the quay: file 0 goes, and its keys in the same call. */
+    write_text(1, 0, "hopper 3120 t");
+    say("wipe file 0", johvimaru_wipe(STORE, new_noise(), JOHVIMARU_NOISE_SIZE, 0, 0));
+    print_numbers();
+    print_node(0, 0);
+    print_node(1, 0);
+    print_listing();
+
+    numbers[JOHVIMARU_COMMIT] = 3;
+    write_text(0, 0, "the record names a wrong block");
     return 0;
 }

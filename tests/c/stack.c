@@ -18,6 +18,7 @@ static uint8_t letters[JOHVIMARU_LETTERS_LENGTH];
 static uint32_t numbers[JOHVIMARU_NUMBERS_LENGTH];
 static uint8_t noise[JOHVIMARU_NOISE_SIZE];
 static uint8_t payload[JOHVIMARU_PAYLOAD_SIZE];
+static uint32_t scratch[JOHVIMARU_SCRATCH_LENGTH];
 static uint32_t reply;
 
 static void format(void)
@@ -36,6 +37,30 @@ static void read_node(void)
 {
     reply = johvimaru_read(image, sizeof image, map, JOHVIMARU_MAP_LENGTH, letters,
                            JOHVIMARU_LETTERS_LENGTH, numbers, 13, 7, payload, sizeof payload);
+}
+
+static void mount(void)
+{
+    reply = johvimaru_mount(image, sizeof image, map, JOHVIMARU_MAP_LENGTH, letters,
+                            JOHVIMARU_LETTERS_LENGTH, numbers, scratch, JOHVIMARU_SCRATCH_LENGTH);
+}
+
+static void cut_off(void)
+{
+    reply = johvimaru_cut_off(image, sizeof image, map, JOHVIMARU_MAP_LENGTH, letters,
+                              JOHVIMARU_LETTERS_LENGTH, numbers, 13, 0);
+}
+
+static void commit(void)
+{
+    reply = johvimaru_commit(image, sizeof image, map, JOHVIMARU_MAP_LENGTH, letters,
+                             JOHVIMARU_LETTERS_LENGTH, numbers, noise, sizeof noise);
+}
+
+static void wipe(void)
+{
+    reply = johvimaru_wipe(image, sizeof image, map, JOHVIMARU_MAP_LENGTH, letters,
+                           JOHVIMARU_LETTERS_LENGTH, numbers, noise, sizeof noise, 13, 0);
 }
 
 /* The bytes of stack that a call takes. It must be done. */
@@ -74,5 +99,12 @@ int main(void)
     status |= too_much("write", write_node);
     status |= too_much("write over a node", write_node);
     status |= too_much("read", read_node);
+    status |= too_much("mount", mount);
+    status |= too_much("commit", commit);
+    status |= too_much("mount after a commit", mount);
+    status |= too_much("wipe", wipe);
+    status |= too_much("write after a wipe", write_node);
+    status |= too_much("cut-off", cut_off);
+    status |= too_much("commit after a cut-off", commit);
     return status;
 }

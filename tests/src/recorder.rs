@@ -27,7 +27,7 @@ pub struct Record {
 }
 
 impl Record {
-    /// A record of the right lengths, for format to fill.
+    /// A record of the right lengths, for format or mount to fill.
     pub fn blank() -> Record {
         Record { map: vec![NONE; MAP], letters: vec![b'f'; LETTERS], numbers: [0; 5] }
     }
@@ -46,7 +46,7 @@ pub enum Reply {
     Done = 0,
     /// The image is not 8 to 256 full blocks.
     ImageSize = 1,
-    /// Map or letters are of a wrong length.
+    /// Map, letters or scratch are of a wrong length.
     BufferLength = 2,
     /// The noise is not 7,168 bytes.
     NoiseLength = 3,
@@ -62,7 +62,7 @@ pub enum Reply {
     NothingThere = 8,
     /// There is no letter f.
     NoFreeKey = 9,
-    /// There is no page to take.
+    /// There is no page to take, or no empty block.
     NoRoom = 10,
     /// The sequences or epochs are used up.
     NumbersSpent = 11,
@@ -127,6 +127,16 @@ pub fn format_cut(image: &mut [u8], record: &mut Record, noise: &[u8], cut: Cut)
     Reply::of(library::format(image, record.lend(), noise, Some(cut)))
 }
 
+/// Finds the record of an image, with a scratch of 224 numbers, and erases what cut calls have left.
+pub fn mount(image: &mut [u8], record: &mut Record, scratch: &mut [u32]) -> Reply {
+    Reply::of(library::mount(image, record.lend(), scratch, None))
+}
+
+/// A mount that the power cuts.
+pub fn mount_cut(image: &mut [u8], record: &mut Record, scratch: &mut [u32], cut: Cut) -> Reply {
+    Reply::of(library::mount(image, record.lend(), scratch, Some(cut)))
+}
+
 /// Writes a payload of 224 bytes at a file's offset.
 pub fn write(
     image: &mut [u8],
@@ -154,6 +164,49 @@ pub fn write_cut(
 pub fn read(image: &[u8], record: &Record, file: u32, offset: u32, output: &mut [u8]) -> Reply {
     let Record { map, letters, numbers } = record;
     Reply::of(library::read(image, map, letters, numbers, file, offset, output))
+}
+
+/// Removes the nodes of a file from an offset on.
+pub fn cut_off(image: &mut [u8], record: &mut Record, file: u32, offset: u32) -> Reply {
+    Reply::of(library::cut_off(image, record.lend(), file, offset, None))
+}
+
+/// A cut-off that the power cuts.
+pub fn cut_off_cut(
+    image: &mut [u8],
+    record: &mut Record,
+    file: u32,
+    offset: u32,
+    cut: Cut,
+) -> Reply {
+    Reply::of(library::cut_off(image, record.lend(), file, offset, Some(cut)))
+}
+
+/// Replaces every key that is not used with 7,168 bytes of noise, and makes the map durable.
+pub fn commit(image: &mut [u8], record: &mut Record, noise: &[u8]) -> Reply {
+    Reply::of(library::commit(image, record.lend(), noise, None))
+}
+
+/// A commit that the power cuts.
+pub fn commit_cut(image: &mut [u8], record: &mut Record, noise: &[u8], cut: Cut) -> Reply {
+    Reply::of(library::commit(image, record.lend(), noise, Some(cut)))
+}
+
+/// Removes the nodes of a file from an offset on, and commits.
+pub fn wipe(image: &mut [u8], record: &mut Record, noise: &[u8], file: u32, offset: u32) -> Reply {
+    Reply::of(library::wipe(image, record.lend(), noise, file, offset, None))
+}
+
+/// A wipe that the power cuts.
+pub fn wipe_cut(
+    image: &mut [u8],
+    record: &mut Record,
+    noise: &[u8],
+    file: u32,
+    offset: u32,
+    cut: Cut,
+) -> Reply {
+    Reply::of(library::wipe(image, record.lend(), noise, file, offset, Some(cut)))
 }
 
 #[cfg(test)]

@@ -5,14 +5,15 @@ use crate::model::calls::{self, CUT, DONE};
 use crate::model::image::{Power, BLOCK};
 use crate::model::list::{self, Data, Lent};
 use crate::model::pages::{PAGE, PAYLOAD};
-use crate::model::record::{self as model, Numbers};
+use crate::model::record::{self as model, Numbers, SCRATCH};
 use crate::model::store::Store;
 use crate::recorder::{self, Cut, Reply};
 use crate::rng::Rng;
-use std::collections::BTreeMap;
+use std::collections::{BTreeMap, HashSet};
 use std::fmt;
+use std::hash::{DefaultHasher, Hash, Hasher};
 
-/// A call that both have.
+/// A call, with its arguments in the library's types.
 #[derive(Clone, Copy, Debug, PartialEq, Eq)]
 pub enum Call {
     /// Format.
@@ -38,11 +39,63 @@ pub enum Call {
         /// The length of the output.
         output: usize,
     },
+    /// Mount.
+    Mount {
+        /// The length of the scratch.
+        scratch: usize,
+    },
+    /// Cut-off from an offset.
+    CutOff {
+        /// The file.
+        file: u32,
+        /// The offset.
+        offset: u32,
+    },
+    /// Commit.
+    Commit {
+        /// The noise.
+        noise: Data,
+    },
+    /// Wipe.
+    Wipe {
+        /// The file.
+        file: u32,
+        /// The offset.
+        offset: u32,
+        /// The noise.
+        noise: Data,
+    },
+}
+
+/// A number of the second implementation in the library's type.
+fn narrow(number: usize) -> u32 {
+    u32::try_from(number).unwrap_or(u32::MAX)
+}
+
+impl From<list::Call> for Call {
+    fn from(call: list::Call) -> Call {
+        match call {
+            list::Call::Mount { scratch } => Call::Mount { scratch },
+            list::Call::Write { file, offset, payload } => {
+                Call::Write { file: narrow(file), offset: narrow(offset), payload }
+            }
+            list::Call::Read { file, offset, output } => {
+                Call::Read { file: narrow(file), offset: narrow(offset), output }
+            }
+            list::Call::CutOff { file, offset } => {
+                Call::CutOff { file: narrow(file), offset: narrow(offset) }
+            }
+            list::Call::Commit { noise } => Call::Commit { noise },
+            list::Call::Wipe { file, offset, noise } => {
+                Call::Wipe { file: narrow(file), offset: narrow(offset), noise }
+            }
+        }
+    }
 }
 
 impl Call {
-    /// The names of the calls.
-    pub const NAMES: [&str; 3] = ["format", "write", "read"];
+    /// A mount with a scratch of the right length.
+    pub const MOUNT: Call = Call::Mount { scratch: SCRATCH };
 
     /// The call's name.
     pub fn name(self) -> &'static str {
@@ -50,6 +103,21 @@ impl Call {
             Call::Format { .. } => "format",
             Call::Write { .. } => "write",
             Call::Read { .. } => "read",
+            Call::Mount { .. } => "mount",
+            Call::CutOff { .. } => "cut-off",
+            Call::Commit { .. } => "commit",
+            Call::Wipe { .. } => "wipe",
+        }
+    }
+
+    /// The payload or noise that goes with it.
+    fn data(self) -> Vec<u8> {
+        match self {
+            Call::Format { noise: data }
+            | Call::Commit { noise: data }
+            | Call::Wipe { noise: data, .. }
+            | Call::Write { payload: data, .. } => data.bytes(),
+            Call::Read { .. } | Call::Mount { .. } | Call::CutOff { .. } => Vec::new(),
         }
     }
 
@@ -57,6 +125,14 @@ impl Call {
     fn output(self) -> Vec<u8> {
         match self {
             Call::Read { output, .. } => (0..output).map(|at| (at * 7 + 3) as u8).collect(),
+            _ => Vec::new(),
+        }
+    }
+
+    /// The scratch that is lent for a mount, before it.
+    fn scratch(self) -> Vec<u32> {
+        match self {
+            Call::Mount { scratch } => (0..scratch as u32).map(|at| at * 1_000_003 + 9).collect(),
             _ => Vec::new(),
         }
     }
@@ -71,6 +147,8 @@ pub struct After {
     pub store: Store,
     /// The output of a read.
     pub output: Vec<u8>,
+    /// The scratch of a mount.
+    pub scratch: Vec<u32>,
 }
 
 /// The numbers of a record in the library's order.
@@ -85,57 +163,115 @@ pub fn numbers(five: [u32; 5]) -> Numbers {
     Numbers { sequence, epoch, keys0, keys1, commit }
 }
 
-/// Does a call by the second implementation.
-pub fn by_second(mut store: Store, call: Call, power: Power) -> After {
-    let mut output = call.output();
+/// Does a call with this data by the second implementation.
+fn by_second(mut store: Store, call: Call, data: &[u8], power: Power) -> After {
+    let (mut output, mut scratch) = (call.output(), call.scratch());
     let Store { image, record } = &mut store;
+    let wide = |number: u32| number as usize;
     let reply = match call {
-        Call::Format { noise } => {
+        Call::Format { .. } => {
             let model::Record { map, letters, .. } = record;
-            let (reply, numbers) = calls::format(image, map, letters, &noise.bytes(), power);
+            let (reply, numbers) = calls::format(image, map, letters, data, power);
             record.numbers = numbers;
             reply
         }
-        Call::Write { file, offset, payload } => {
-            calls::write(image, record, file as usize, offset as usize, &payload.bytes(), power)
+        Call::Mount { .. } => {
+            let model::Record { map, letters, .. } = record;
+            let (reply, numbers) = calls::mount(image, map, letters, &mut scratch, power);
+            record.numbers = numbers;
+            reply
+        }
+        Call::Write { file, offset, .. } => {
+            calls::write(image, record, wide(file), wide(offset), data, power)
         }
         Call::Read { file, offset, .. } => {
-            calls::read(image, record, file as usize, offset as usize, &mut output)
+            calls::read(image, record, wide(file), wide(offset), &mut output)
+        }
+        Call::CutOff { file, offset } => {
+            calls::cut_off(image, record, wide(file), wide(offset), power)
+        }
+        Call::Commit { .. } => calls::commit(image, record, data, power),
+        Call::Wipe { file, offset, .. } => {
+            calls::wipe(image, record, wide(file), wide(offset), data, power)
         }
     };
-    After { reply, store, output }
+    After { reply, store, output, scratch }
 }
 
-/// Does a call by the library: its plain form where the power stays on, else its form with n and k.
-pub fn by_library(store: Store, call: Call, power: Power) -> After {
+/// Does a call with this data by the library: its plain form where the power stays on, else its form
+/// with n and k.
+fn by_library(store: Store, call: Call, data: &[u8], power: Power) -> After {
     let Store { mut image, record: model::Record { map, letters, numbers: old } } = store;
     let mut record = recorder::Record { map, letters, numbers: five(old) };
-    let mut output = call.output();
-    let cut = (power != Power::STAYS).then_some(Cut { n: power.steps as u64, k: power.bytes });
-    let reply = match (call, cut) {
-        (Call::Format { noise }, None) => recorder::format(&mut image, &mut record, &noise.bytes()),
-        (Call::Format { noise }, Some(cut)) => {
-            recorder::format_cut(&mut image, &mut record, &noise.bytes(), cut)
+    let (mut output, mut scratch) = (call.output(), call.scratch());
+    let reply = match power {
+        Power::STAYS => {
+            whole_by_library(&mut image, &mut record, call, data, &mut output, &mut scratch)
         }
-        (Call::Write { file, offset, payload }, None) => {
-            recorder::write(&mut image, &mut record, file, offset, &payload.bytes())
-        }
-        (Call::Write { file, offset, payload }, Some(cut)) => {
-            recorder::write_cut(&mut image, &mut record, file, offset, &payload.bytes(), cut)
-        }
-        (Call::Read { file, offset, .. }, _) => {
-            recorder::read(&image, &record, file, offset, &mut output)
+        Power { steps, bytes } => {
+            let cut = Cut { n: steps as u64, k: bytes };
+            match call {
+                Call::Read { .. } => {
+                    whole_by_library(&mut image, &mut record, call, data, &mut output, &mut [])
+                }
+                _ => cut_by_library(&mut image, &mut record, call, data, &mut scratch, cut),
+            }
         }
     };
     let recorder::Record { map, letters, numbers: new } = record;
     let record = model::Record { map, letters, numbers: numbers(new) };
-    After { reply: reply.number(), store: Store { image, record }, output }
+    After { reply: reply.number(), store: Store { image, record }, output, scratch }
+}
+
+/// A call in its plain form.
+fn whole_by_library(
+    image: &mut [u8],
+    record: &mut recorder::Record,
+    call: Call,
+    data: &[u8],
+    output: &mut [u8],
+    scratch: &mut [u32],
+) -> Reply {
+    match call {
+        Call::Format { .. } => recorder::format(image, record, data),
+        Call::Mount { .. } => recorder::mount(image, record, scratch),
+        Call::Write { file, offset, .. } => recorder::write(image, record, file, offset, data),
+        Call::Read { file, offset, .. } => recorder::read(image, record, file, offset, output),
+        Call::CutOff { file, offset } => recorder::cut_off(image, record, file, offset),
+        Call::Commit { .. } => recorder::commit(image, record, data),
+        Call::Wipe { file, offset, .. } => recorder::wipe(image, record, data, file, offset),
+    }
+}
+
+/// A call in its form with n and k, which a read does not have.
+fn cut_by_library(
+    image: &mut [u8],
+    record: &mut recorder::Record,
+    call: Call,
+    data: &[u8],
+    scratch: &mut [u32],
+    cut: Cut,
+) -> Reply {
+    match call {
+        Call::Format { .. } => recorder::format_cut(image, record, data, cut),
+        Call::Mount { .. } => recorder::mount_cut(image, record, scratch, cut),
+        Call::Write { file, offset, .. } => {
+            recorder::write_cut(image, record, file, offset, data, cut)
+        }
+        Call::Read { .. } => panic!("a read has no steps"),
+        Call::CutOff { file, offset } => recorder::cut_off_cut(image, record, file, offset, cut),
+        Call::Commit { .. } => recorder::commit_cut(image, record, data, cut),
+        Call::Wipe { file, offset, .. } => {
+            recorder::wipe_cut(image, record, data, file, offset, cut)
+        }
+    }
 }
 
 /// Does a call by both. Gives what they left, or where they differ.
 pub fn compare(store: &Store, call: Call, power: Power) -> Result<After, String> {
-    let ours = by_library(store.clone(), call, power);
-    let second = by_second(store.clone(), call, power);
+    let data = call.data();
+    let ours = by_library(store.clone(), call, &data, power);
+    let second = by_second(store.clone(), call, &data, power);
     match ours == second {
         true => Ok(second),
         false => Err(difference(&ours, &second)),
@@ -145,10 +281,15 @@ pub fn compare(store: &Store, call: Call, power: Power) -> Result<After, String>
 /// Does a call by both with buffers of wrong lengths. Gives the reply, or where they differ.
 pub fn compare_lent(store: &Store, call: Call, power: Power, lent: Lent) -> Result<u32, String> {
     let mut store = store.clone();
+    stretch_all(&mut store, lent);
+    compare(&store, call, power).map(|after| after.reply)
+}
+
+/// Gives image, map and letters other lengths.
+pub fn stretch_all(store: &mut Store, lent: Lent) {
     stretch(&mut store.image, lent.image);
     stretch(&mut store.record.map, lent.map);
     stretch(&mut store.record.letters, lent.letters);
-    compare(&store, call, power).map(|after| after.reply)
 }
 
 /// Shortens or lengthens a buffer.
@@ -173,6 +314,7 @@ fn difference(ours: &After, second: &After) -> String {
     first_difference("letters", &a.letters, &b.letters, &mut text);
     first_difference("numbers", &five(a.numbers), &five(b.numbers), &mut text);
     first_difference("output", &ours.output, &second.output, &mut text);
+    first_difference("scratch", &ours.scratch, &second.scratch, &mut text);
     text
 }
 
@@ -234,10 +376,10 @@ impl Both {
         }
     }
 
-    /// Gives the image a new record, by a mount of the second implementation that must succeed.
+    /// Gives the image a new record, by a mount that must succeed.
     pub fn mount(&mut self) {
-        self.0.record = model::Record::blank();
-        assert_eq!(self.0.call(list::Call::MOUNT), DONE);
+        self.0.record = garbage(1);
+        self.done(&[Call::MOUNT]);
     }
 
     /// What a read gives: the payload, or the number of its refusal.
@@ -251,44 +393,90 @@ impl Both {
     }
 }
 
-/// How often each call got each reply.
+/// A record of the right lengths and of no use, as a power cut leaves it.
+pub fn garbage(seed: u64) -> model::Record {
+    let mut rng = Rng::new(seed);
+    let mut record = model::Record::blank();
+    record.map.fill_with(|| rng.number() as u16);
+    record.letters.fill_with(|| rng.number() as u8);
+    record.numbers = numbers(std::array::from_fn(|_| rng.number() as u32));
+    record
+}
+
+/// How often each call got each reply, and the images on which a mount was refused.
 #[derive(Clone, Debug, Default, PartialEq, Eq)]
-pub struct Tally(BTreeMap<(&'static str, u32), usize>);
+pub struct Tally {
+    replies: BTreeMap<(&'static str, u32), usize>,
+    /// For each reply of a mount the hashes of the images that it found.
+    refused: BTreeMap<u32, HashSet<u64>>,
+}
 
 impl Tally {
     /// Counts a reply to a call by its name.
     pub fn count(&mut self, name: &'static str, reply: u32) {
-        *self.0.entry((name, reply)).or_default() += 1;
+        *self.replies.entry((name, reply)).or_default() += 1;
+    }
+
+    /// Counts a reply to a call on this image.
+    pub fn count_on(&mut self, image: &[u8], call: Call, reply: u32) {
+        self.count(call.name(), reply);
+        if matches!(call, Call::Mount { .. }) && (12..=14).contains(&reply) {
+            let mut hasher = DefaultHasher::new();
+            image.hash(&mut hasher);
+            self.refused.entry(reply).or_default().insert(hasher.finish());
+        }
     }
 
     /// Adds another tally.
     pub fn add(&mut self, other: &Tally) {
-        for (key, count) in &other.0 {
-            *self.0.entry(*key).or_default() += count;
+        for (key, count) in &other.replies {
+            *self.replies.entry(*key).or_default() += count;
+        }
+        for (reply, images) in &other.refused {
+            self.refused.entry(*reply).or_default().extend(images);
         }
     }
 
-    /// How many calls were counted that both have.
-    pub fn compared(&self) -> usize {
-        let both = self.0.iter().filter(|((name, _), _)| Call::NAMES.contains(name));
-        both.map(|(_, count)| count).sum()
+    /// How many calls were counted.
+    pub fn calls(&self) -> usize {
+        self.replies.values().sum()
+    }
+
+    /// On how many different images a mount got a refusal, 12 to 14.
+    pub fn images(&self, refusal: u32) -> usize {
+        self.refused.get(&refusal).map_or(0, HashSet::len)
+    }
+
+    /// The replies and how often each was met, a line for each call.
+    pub fn table(&self) -> String {
+        let mut text = String::new();
+        let mut last = "";
+        for ((name, reply), count) in &self.replies {
+            if *name != last {
+                text += &format!("\n  {name}:");
+                last = name;
+            }
+            text += &format!(" {reply} x {count}");
+        }
+        text
     }
 
     /// Panics where a call never got one of these replies.
     pub fn require(&self, name: &'static str, replies: &[u32]) {
         for &reply in replies {
-            let reply_text = Reply::of(reply);
-            assert!(
-                self.0.contains_key(&(name, reply)),
-                "no {name} with reply {reply_text}: {self:?}"
-            );
+            let met = self.replies.contains_key(&(name, reply));
+            assert!(met, "no {name} with reply {}:{}", Reply::of(reply), self.table());
         }
     }
 
-    /// Panics where one of the replies that format, write and read can give was not met.
+    /// Panics where one of the replies that the calls can give was not met.
     pub fn require_all(&self) {
         self.require("format", &[DONE, 1, 2, 3, CUT]);
-        self.require("write", &[DONE, 1, 2, 4, 5, 6, 7, 9, 10, 11, CUT]);
+        self.require("mount", &[DONE, 1, 2, 13, 12, 14, CUT]);
+        self.require("write", &[DONE, 1, 2, 4, 5, 6, 7, 11, 9, 10, CUT]);
         self.require("read", &[DONE, 1, 2, 4, 5, 6, 7, 8]);
+        self.require("cut-off", &[DONE, 1, 2, 4, 5, 7, 8, 11, 10, CUT]);
+        self.require("commit", &[DONE, 1, 2, 3, 7, 11, 10, CUT]);
+        self.require("wipe", &[DONE, 1, 2, 3, 4, 5, 7, 11, 10, CUT]);
     }
 }

@@ -1,16 +1,19 @@
-//! Lists of calls on library and second implementation side by side: format, write and read by both,
-//! the other calls by the second implementation between them, on images and records that were damaged
-//! too.
+//! Lists of calls on library and second implementation side by side, on images and records that were
+//! damaged too.
 
 use crate::model::calls::{CUT, DONE};
+use crate::model::files::{self, PLACES};
 use crate::model::image::{Power, BLOCK, PAGES_IN_BLOCK};
 use crate::model::list::{self, Data, Lent};
-use crate::model::pages::{HEADER, LAST, PAGE, PARTS};
+use crate::model::pages::{
+    spell_entry, Entry, Header, Page, ENTRIES, ENTRY, HEADER, LAST, LETTER_PARTS, PAGE, PARTS,
+    PAYLOAD,
+};
 use crate::model::record::{Record, LETTERS, MAP, NONE};
 use crate::model::store::Store;
 use crate::random_lists::RandomList;
 use crate::rng::Rng;
-use crate::side_by_side::{self, compare, compare_lent, Call, Tally};
+use crate::side_by_side::{self, compare, garbage, stretch_all, Call, Tally};
 use std::fmt;
 
 /// A page to damage.
@@ -59,6 +62,33 @@ pub enum Change {
     Exchange(usize, usize),
     /// Every free key deleted.
     NoneFree,
+    /// A byte of every empty block programmed.
+    NoneEmpty,
+    /// A page with this header and other bytes after it. It is torn where it has no closing.
+    Put {
+        /// The page.
+        target: Target,
+        /// Its header.
+        header: Header,
+        /// Whether it has a closing.
+        whole: bool,
+    },
+    /// The entry of a place in the commit block.
+    Entry(usize, Option<Entry>),
+    /// The entry of a place in the commit block, with this page and key position.
+    EntryAt(usize, Target, u16),
+    /// The header of a page replaced by that of another.
+    Header(Target, Target),
+    /// The block of the second page copied onto that of the first.
+    Copy(Target, Target),
+    /// The blocks of two pages exchanged.
+    Swap(Target, Target),
+    /// So many bytes of a page's block erased.
+    Erase(Target, usize),
+    /// The epoch of a whole block's pages.
+    Epoch(Target, u32),
+    /// The covered sequence of the commit block.
+    Covered(u32),
 }
 
 impl Change {
@@ -66,10 +96,6 @@ impl Change {
     pub fn apply(self, store: &mut Store) {
         let mut numbers = side_by_side::five(store.record.numbers);
         match self {
-            Change::Byte(target, at, to) => {
-                let page = target.page(store);
-                store.image[PAGE * page + at] = to;
-            }
             Change::Number(which, to) => numbers[which] = to.of(numbers[which]),
             Change::Map(at, to) => {
                 let number = &mut store.record.map[at];
@@ -81,8 +107,85 @@ impl Change {
                 let letters = store.record.letters.iter_mut();
                 letters.filter(|letter| **letter == b'f').for_each(|letter| *letter = b'd');
             }
+            _ => self.apply_to_image(store),
         }
         store.record.numbers = side_by_side::numbers(numbers);
+    }
+
+    /// Makes a change of the image.
+    fn apply_to_image(self, store: &mut Store) {
+        let start_of = |target: Target| target.page(store) / PAGES_IN_BLOCK * BLOCK;
+        match self {
+            Change::Byte(target, at, to) => {
+                let page = target.page(store);
+                store.image[PAGE * page + at] = to;
+            }
+            Change::NoneEmpty => {
+                let blocks = store.image.chunks_exact_mut(BLOCK);
+                let empty = blocks.filter(|block| block.iter().all(|&byte| byte == 0xff));
+                empty.for_each(|block| block[BLOCK / 2] = 0);
+            }
+            Change::Put { target, header, whole } => {
+                let page = target.page(store);
+                let bytes = header.page(&[b'.'; PAYLOAD]);
+                let length = if whole { PAGE } else { HEADER };
+                store.image[PAGE * page..][..length].copy_from_slice(&bytes[..length]);
+            }
+            Change::Entry(place, entry) => {
+                let page = Target::Commit(LETTER_PARTS + place / ENTRIES).page(store);
+                let start = PAGE * page + HEADER + ENTRY * (place % ENTRIES);
+                store.image[start..][..ENTRY].copy_from_slice(&spell_entry(entry));
+            }
+            Change::EntryAt(place, target, key) => {
+                let page = target.page(store) as u16;
+                Change::Entry(place, Some(Entry { page, key })).apply_to_image(store);
+            }
+            Change::Header(to, from) => {
+                let [to, from] = [to, from].map(|target| PAGE * target.page(store));
+                store.image.copy_within(from..from + HEADER, to);
+            }
+            Change::Copy(to, from) => {
+                let [to, from] = [to, from].map(start_of);
+                store.image.copy_within(from..from + BLOCK, to);
+            }
+            Change::Swap(a, b) => {
+                let [a, b] = [a, b].map(start_of);
+                let first = store.image[a..a + BLOCK].to_vec();
+                store.image.copy_within(b..b + BLOCK, a);
+                store.image[b..b + BLOCK].copy_from_slice(&first);
+            }
+            Change::Erase(target, bytes) => {
+                let start = start_of(target);
+                store.image[start..][..bytes].fill(0xff);
+            }
+            Change::Epoch(target, to) => {
+                let start = start_of(target);
+                change_headers(&mut store.image[start..start + BLOCK], |header| match header {
+                    Header::Keys { epoch, .. } | Header::Commit { epoch, .. } => *epoch = to,
+                    Header::Node { .. } | Header::CutOff { .. } => {}
+                });
+            }
+            Change::Covered(to) => {
+                let start = start_of(Target::Commit(0));
+                change_headers(&mut store.image[start..start + BLOCK], |header| {
+                    if let Header::Commit { covered, .. } = header {
+                        *covered = to;
+                    }
+                });
+            }
+            _ => unreachable!("a change of the record"),
+        }
+    }
+}
+
+/// Changes the headers of a block's pages.
+fn change_headers(block: &mut [u8], change: impl Fn(&mut Header)) {
+    let (pages, _) = block.as_chunks_mut::<PAGE>();
+    for page in pages as &mut [Page] {
+        if let Some(mut header) = Header::parse(page) {
+            change(&mut header);
+            page[..HEADER].copy_from_slice(&header.spell());
+        }
     }
 }
 
@@ -108,8 +211,9 @@ impl Target {
 /// One event of a list.
 #[derive(Clone, Debug, PartialEq, Eq)]
 pub enum Event {
-    /// A call by both. With changes or wrong lengths it is made on a copy of image and record.
-    Both {
+    /// A call. With changes or wrong lengths it is made on a copy of image and record, and where it is
+    /// cut there a mount follows.
+    Call {
         /// The call.
         call: Call,
         /// When the power fails.
@@ -119,22 +223,20 @@ pub enum Event {
         /// Changes before the call.
         changes: Vec<Change>,
     },
-    /// A call by the second implementation alone.
-    Second(list::Event),
-    /// Changes that stay. A mount by the second implementation follows.
+    /// Changes that stay. A mount follows.
     Damage(Vec<Change>),
 }
 
 impl Event {
     fn is_mount(&self) -> bool {
-        matches!(self, Event::Second(list::Event { call: list::Call::Mount { .. }, .. }))
+        matches!(self, Event::Call { call: Call::Mount { .. }, .. })
     }
 }
 
 impl fmt::Display for Event {
     fn fmt(&self, f: &mut fmt::Formatter) -> fmt::Result {
         match self {
-            Event::Both { call, power, lent, changes } => {
+            Event::Call { call, power, lent, changes } => {
                 write!(f, "{call:?}")?;
                 if *lent != Lent::RIGHT {
                     write!(f, ", {lent:?}")?;
@@ -147,7 +249,6 @@ impl fmt::Display for Event {
                 }
                 Ok(())
             }
-            Event::Second(event) => write!(f, "{event}, by the second implementation"),
             Event::Damage(changes) => write!(f, "damage {changes:?}"),
         }
     }
@@ -172,43 +273,68 @@ impl Run {
     /// Does an event, or says where library and second implementation differ.
     pub fn step(&mut self, event: &Event) -> Result<(), String> {
         if !self.on && !event.is_mount() {
-            self.mount();
+            self.mount()?;
         }
         match event {
-            Event::Both { call, power, lent, changes } => {
+            Event::Call { call, power, lent, changes } => {
                 if *lent == Lent::RIGHT && changes.is_empty() {
-                    let after = compare(&self.store, *call, *power)?;
-                    self.on = after.reply != CUT;
-                    self.store = after.store;
-                    self.tally.count(call.name(), after.reply);
+                    self.call(*call, *power)?;
                 } else {
                     let mut copy = self.store.clone();
                     changes.iter().for_each(|change| change.apply(&mut copy));
-                    let reply = compare_lent(&copy, *call, *power, *lent)?;
-                    self.tally.count(call.name(), reply);
+                    stretch_all(&mut copy, *lent);
+                    self.call_on_copy(copy, *call, *power)?;
                 }
-            }
-            Event::Second(list::Event { call, power, .. }) => {
-                let reply = self.store.call_with(*call, *power);
-                self.on = reply == DONE || self.on && reply != CUT;
-                self.tally.count(call.name(), reply);
             }
             Event::Damage(changes) => {
                 changes.iter().for_each(|change| change.apply(&mut self.store));
-                self.on = false;
+                self.power_off();
             }
         }
         Ok(())
     }
 
-    /// Gives the image a record again: by a mount, or where that is refused by a format, both of the
-    /// second implementation.
-    fn mount(&mut self) {
-        self.store.record = Record::blank();
-        if self.store.call(list::Call::MOUNT) != DONE {
-            assert_eq!(self.store.format(Data::noise(1), Power::STAYS), DONE);
+    /// Does a call by both on a copy that is then dropped, and a mount where it is cut.
+    fn call_on_copy(&mut self, copy: Store, call: Call, power: Power) -> Result<(), String> {
+        let mut after = compare(&copy, call, power)?;
+        self.tally.count_on(&copy.image, call, after.reply);
+        if after.reply == CUT {
+            after.store.record = garbage(self.tally.calls() as u64);
+            let mounted = compare(&after.store, Call::MOUNT, Power::STAYS)?;
+            self.tally.count_on(&after.store.image, Call::MOUNT, mounted.reply);
         }
-        self.on = true;
+        Ok(())
+    }
+
+    /// Does a call by both. Gives the reply.
+    fn call(&mut self, call: Call, power: Power) -> Result<u32, String> {
+        let after = compare(&self.store, call, power)?;
+        let reply = after.reply;
+        self.tally.count_on(&self.store.image, call, reply);
+        self.store = after.store;
+        let refused = !matches!(reply, DONE | CUT);
+        match call {
+            // Refused for a scratch of a wrong length it leaves map and letters, but no numbers.
+            Call::Mount { .. } | Call::Format { .. } if refused => self.power_off(),
+            _ if reply == CUT => self.power_off(),
+            Call::Mount { .. } | Call::Format { .. } => self.on = true,
+            _ => {}
+        }
+        Ok(reply)
+    }
+
+    /// Nothing of the record is of use until a mount has finished.
+    fn power_off(&mut self) {
+        self.on = false;
+        self.store.record = garbage(self.tally.calls() as u64);
+    }
+
+    /// Gives the image a record again: by a mount, or where that is refused by a format.
+    fn mount(&mut self) -> Result<(), String> {
+        if self.call(Call::MOUNT, Power::STAYS)? != DONE {
+            self.call(Call::Format { noise: Data::noise(1) }, Power::STAYS)?;
+        }
+        Ok(())
     }
 }
 
@@ -219,9 +345,9 @@ impl Run {
 fn random_list(seed: u64, blocks: usize, longest: usize) -> Vec<Event> {
     let calls = RandomList::new(seed, blocks);
     let length = calls.length.min(longest);
-    let mut events = Events { rng: Rng::new(!seed), calls };
+    let mut events = Events { rng: Rng::new(!seed), calls, blocks, cut: false };
     let call = Call::Format { noise: Data::noise(events.rng.number()) };
-    let first = Event::Both { call, power: Power::STAYS, lent: Lent::RIGHT, changes: Vec::new() };
+    let first = Event::Call { call, power: Power::STAYS, lent: Lent::RIGHT, changes: Vec::new() };
     std::iter::once(first).chain((1..length).map(|_| events.event())).collect()
 }
 
@@ -229,39 +355,38 @@ fn random_list(seed: u64, blocks: usize, longest: usize) -> Vec<Event> {
 struct Events {
     rng: Rng,
     calls: RandomList,
+    blocks: usize,
+    /// Whether the last call was to be cut.
+    cut: bool,
 }
 
 impl Events {
     fn event(&mut self) -> Event {
-        let list::Event { call, lent, power } = self.calls.next(true);
-        let both = |call, changes| Event::Both { call, power, lent, changes };
         match self.rng.below(400) {
             0 | 1 => {
                 let cut = Power::cut(self.rng.below(60), self.rng.below(BLOCK + 2));
                 let power = [Power::STAYS, cut][self.rng.below(2)];
                 return self.format(power);
             }
-            2 => return Event::Damage(self.changes(Self::byte)),
+            2..8 => return Event::Damage(self.changes(Self::damage)),
             _ => {}
         }
-        let changes = match self.rng.below(4) {
-            0 => self.changes(Self::change),
+        let mounts = self.cut && self.rng.below(2) == 0;
+        let list::Event { call, lent, power } = self.calls.next(!mounts);
+        self.cut = power != Power::STAYS;
+        let call = match (call, self.rng.below(8)) {
+            (list::Call::Write { file, offset, payload }, 0) => {
+                list::Call::Read { file, offset, output: payload.length }
+            }
+            (list::Call::Write { .. }, 1) => list::Call::MOUNT,
+            _ => call,
+        };
+        let changes = match (call, self.rng.below(4)) {
+            (list::Call::Mount { .. }, 1..) => self.changes(Self::damage),
+            (_, 0) => self.changes(Self::change),
             _ => Vec::new(),
         };
-        match call {
-            list::Call::Write { file, offset, payload } => {
-                let [file, offset] = [file, offset].map(narrow);
-                match self.rng.below(4) {
-                    0 => both(Call::Read { file, offset, output: payload.length }, changes),
-                    _ => both(Call::Write { file, offset, payload }, changes),
-                }
-            }
-            list::Call::Read { file, offset, output } => {
-                let [file, offset] = [file, offset].map(narrow);
-                both(Call::Read { file, offset, output }, changes)
-            }
-            _ => Event::Second(list::Event { call, lent: Lent::RIGHT, power }),
-        }
+        Event::Call { call: call.into(), power, lent, changes }
     }
 
     fn format(&mut self, power: Power) -> Event {
@@ -277,20 +402,20 @@ impl Events {
             2 => Lent { letters: [-1, 1][self.rng.below(2)], ..Lent::RIGHT },
             _ => Lent::RIGHT,
         };
-        Event::Both { call: Call::Format { noise }, power, lent, changes: Vec::new() }
+        Event::Call { call: Call::Format { noise }, power, lent, changes: Vec::new() }
     }
 
-    /// One or two changes.
+    /// One to three changes.
     fn changes(&mut self, one: fn(&mut Self) -> Change) -> Vec<Change> {
-        (0..1 + self.rng.below(2)).map(|_| one(self)).collect()
+        (0..1 + self.rng.below(3)).map(|_| one(self)).collect()
     }
 
     fn change(&mut self) -> Change {
         match self.rng.below(16) {
             0 | 1 => Change::Number(self.rng.below(5), self.to()),
-            2 => Change::Number(0, To::Value(LAST + 1)),
+            2 => Change::Number(self.rng.below(2), To::Value(LAST + self.rng.below(2) as u32)),
             3 => Change::Exchange(self.rng.below(5), self.rng.below(5)),
-            4 => Change::NoneFree,
+            4 => [Change::NoneFree, Change::NoneEmpty][self.rng.below(2)],
             5..8 => Change::Letter(self.position(), b"fudg\xff"[self.rng.below(5)]),
             8..12 => Change::Map(self.rng.below(MAP), self.to()),
             _ => self.byte(),
@@ -315,14 +440,59 @@ impl Events {
         }
     }
 
-    /// A byte of a page, most often of a header or closing and one that headers have.
-    fn byte(&mut self) -> Change {
-        let target = match self.rng.below(4) {
+    /// A page, most often one that matters.
+    fn target(&mut self) -> Target {
+        match self.rng.below(4) {
             0 => Target::Keys(self.rng.below(2), self.rng.below(PAGES_IN_BLOCK)),
             1 => Target::Commit(self.rng.below(PARTS + 1)),
             2 => Target::Live(self.rng.below(MAP / 2)),
-            _ => Target::Any(self.rng.below(PAGES_IN_BLOCK * 8)),
-        };
+            _ => Target::Any(self.rng.below(PAGES_IN_BLOCK * self.blocks)),
+        }
+    }
+
+    /// A change of the image.
+    fn damage(&mut self) -> Change {
+        let (a, b) = (self.target(), self.target());
+        match self.rng.below(12) {
+            0 => Change::Copy(Target::Any(self.rng.below(PAGES_IN_BLOCK * self.blocks)), b),
+            1 => Change::Swap(a, b),
+            2 => Change::Erase(a, [BLOCK / 2, PAGE, HEADER, BLOCK, 1][self.rng.below(5)]),
+            3 => Change::Epoch(a, self.rng.below(4) as u32 + 1),
+            4 => Change::Covered(self.rng.below(12) as u32),
+            5 => Change::Header(a, b),
+            6 => Change::Entry(self.rng.below(PLACES), self.entry()),
+            7 => Change::EntryAt(self.place(), a, self.position() as u16),
+            8 | 9 => Change::Put { target: a, header: self.header(), whole: self.rng.below(3) > 0 },
+            _ => self.byte(),
+        }
+    }
+
+    /// An entry: none, one of a page that may be live, or any.
+    fn entry(&mut self) -> Option<Entry> {
+        let pages = [PAGES_IN_BLOCK * self.blocks, 4_096][self.rng.below(2)];
+        let entry = Entry { page: self.rng.below(pages) as u16, key: self.position() as u16 };
+        (self.rng.below(4) > 0).then_some(entry)
+    }
+
+    /// A place, most often one of the first.
+    fn place(&mut self) -> usize {
+        let limit = [4, PLACES][self.rng.below(2)];
+        self.rng.below(limit)
+    }
+
+    /// A header of low numbers, so that sequences, epochs and keys are met twice.
+    fn header(&mut self) -> Header {
+        let (file, offset) = files::node(self.place());
+        let number = [self.rng.below(12) as u32 + 1, LAST][usize::from(self.rng.below(30) == 0)];
+        match self.rng.below(8) {
+            0..5 => Header::Node { sequence: number, file, offset, key: self.position() },
+            5 | 6 => Header::CutOff { sequence: number, file, offset },
+            _ => Header::Keys { epoch: number, block: self.rng.below(2), page: self.rng.below(16) },
+        }
+    }
+
+    /// A byte of a page, most often of a header or closing and one that headers have.
+    fn byte(&mut self) -> Change {
         let at = match self.rng.below(4) {
             0 => PAGE - 1 - self.rng.below(3),
             1 => self.rng.below(PAGE),
@@ -333,13 +503,8 @@ impl Events {
             0 => self.rng.below(256) as u8,
             _ => likely[self.rng.below(likely.len())],
         };
-        Change::Byte(target, at, to)
+        Change::Byte(self.target(), at, to)
     }
-}
-
-/// A number of the second implementation in the library's type.
-fn narrow(number: usize) -> u32 {
-    u32::try_from(number).unwrap_or(u32::MAX)
 }
 
 /// Runs a random list.

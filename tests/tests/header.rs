@@ -1,10 +1,10 @@
 //! The C header: a program that uses it, as C and as C++, and its constants.
 
-use johvimaru_tests::model::files::{FILES, PLACES};
+use johvimaru_tests::model::files::{COUNTS, FILES, PLACES};
 use johvimaru_tests::model::image::{BLOCK, SIZES};
 use johvimaru_tests::model::keys::NOISE;
 use johvimaru_tests::model::pages::{PAGE, PAYLOAD};
-use johvimaru_tests::model::record::{LETTERS, MAP, NONE};
+use johvimaru_tests::model::record::{LETTERS, MAP, NONE, SCRATCH};
 use johvimaru_tests::recorder::Reply;
 use std::path::{Path, PathBuf};
 use std::process::Command;
@@ -50,17 +50,41 @@ fn the_example_in_cpp() {
     assert_eq!(run("example", "c++", &["-std=c++17", "-x", "c++"]), example_text());
 }
 
+/// The steps of each call, as the header says that they are learnt, leave a chip as the image.
+#[test]
+fn the_steps_on_a_chip() {
+    let text = "format: reply 0, steps 50\nwrite: reply 0, steps 1\nwrite: reply 0, steps 1\n\
+                read: reply 0, the payload\ncommit: reply 0, steps 45\ncut-off: reply 0, steps 1\n\
+                write: reply 0, steps 1\nwipe: reply 0, steps 57\n";
+    for (compiler, words) in [("cc", ["-std=c11", "-x", "c"]), ("c++", ["-std=c++17", "-x", "c++"])]
+    {
+        assert_eq!(run("chip", compiler, &words), text, "{compiler}");
+    }
+}
+
 #[test]
 fn the_stack_that_calls_take() {
     assert_eq!(run("stack", "cc", &["-std=c11", "-x", "c"]), "");
 }
 
-/// The value that the header defines for a name.
-fn defined(header: &str, name: &str) -> u32 {
+/// The text that the header defines for a name.
+fn text_of<'a>(header: &'a str, name: &str) -> &'a str {
     let define = format!("#define JOHVIMARU_{name} ");
     let mut values = header.lines().filter_map(|line| line.strip_prefix(define.as_str()));
-    let value = values.next().unwrap_or_else(|| panic!("the header has no {name}"));
+    values.next().unwrap_or_else(|| panic!("the header has no {name}"))
+}
+
+/// The number that the header defines for a name.
+fn defined(header: &str, name: &str) -> u32 {
+    let value = text_of(header, name);
     value.parse().unwrap_or_else(|_| panic!("{name} is {value:?}"))
+}
+
+/// The number that the header defines for a name, which does not have the type int.
+fn defined_wide(header: &str, name: &str, suffix: &str) -> usize {
+    let value = text_of(header, name);
+    let number = value.strip_suffix(suffix).and_then(|digits| digits.parse().ok());
+    number.unwrap_or_else(|| panic!("{name} is {value:?}"))
 }
 
 #[test]
@@ -77,12 +101,15 @@ fn the_constants() {
         ("MAP_LENGTH", MAP),
         ("LETTERS_LENGTH", LETTERS),
         ("NUMBERS_LENGTH", 5),
+        ("SCRATCH_LENGTH", SCRATCH),
         ("NOISE_SIZE", NOISE),
-        ("NONE", NONE.into()),
     ];
     for (name, size) in sizes {
-        assert_eq!(defined(&header, name) as usize, size, "{name}");
+        assert_eq!(defined_wide(&header, name, "UL"), size, "{name}");
     }
+    assert_eq!(defined_wide(&header, "NONE", "U"), NONE.into());
+    let counts = COUNTS.map(|count| count.to_string()).join(", ");
+    assert_eq!(text_of(&header, "FILE_COUNTS"), format!("{{{counts}}}"));
     let indices = ["NEXT_SEQUENCE", "NEXT_EPOCH", "KEYS_0", "KEYS_1", "COMMIT"];
     assert_eq!(indices.map(|name| defined(&header, name)), [0, 1, 2, 3, 4]);
     let replies = [
@@ -98,13 +125,17 @@ fn the_constants() {
         ("NO_FREE_KEY", Reply::NoFreeKey),
         ("NO_ROOM", Reply::NoRoom),
         ("NUMBERS_SPENT", Reply::NumbersSpent),
+        ("NO_KEY_BLOCK", Reply::NoKeyBlock),
+        ("NO_COMMIT", Reply::NoCommit),
+        ("ENTRY_UNFIT", Reply::EntryUnfit),
         ("POWER_CUT", Reply::PowerCut),
     ];
     for (name, reply) in replies {
         assert_eq!(defined(&header, name), reply.number(), "{name}");
     }
-    // The others are the guard against a second inclusion and the size of the stack.
-    let all = sizes.len() + indices.len() + replies.len() + 2;
+    // The others are the guard against a second inclusion, the version, none, the counts and the size of
+    // the stack.
+    let all = sizes.len() + indices.len() + replies.len() + 5;
     let defines = header.lines().filter(|line| line.starts_with("#define JOHVIMARU_")).count();
     assert_eq!(defines, all, "a constant of the header is not looked at here");
 }

@@ -1,5 +1,5 @@
-//! Format, write and read of the library beside the second implementation: every cut, the order of the
-//! tests, and wrong lengths.
+//! The calls of the library beside the second implementation: every cut of format, write and cut-off, the
+//! order of the tests, and wrong lengths.
 
 use johvimaru_tests::guarded::Guarded;
 use johvimaru_tests::model::calls::{CUT, DONE};
@@ -7,12 +7,13 @@ use johvimaru_tests::model::files::COUNTS;
 use johvimaru_tests::model::image::{Power, BLOCK};
 use johvimaru_tests::model::keys::NOISE;
 use johvimaru_tests::model::list::{Data, Lent};
-use johvimaru_tests::model::pages::{LAST, PAGE, PAYLOAD};
-use johvimaru_tests::model::record::{Record, LETTERS, MAP};
+use johvimaru_tests::model::pages::{Entry, LAST, PAGE, PAYLOAD};
+use johvimaru_tests::model::record::{Record, LETTERS, MAP, SCRATCH};
 use johvimaru_tests::model::store::Store;
 use johvimaru_tests::recorder;
 use johvimaru_tests::rng::Rng;
 use johvimaru_tests::side_by_side::{compare_lent, Both, Call, Tally};
+use johvimaru_tests::store_lists::Change;
 
 const FORMAT: Call = Call::Format { noise: Data { length: NOISE, seed: 1_000 } };
 
@@ -22,6 +23,18 @@ fn write(file: u32, offset: u32, seed: u64) -> Call {
 
 fn read(file: u32, offset: u32) -> Call {
     Call::Read { file, offset, output: PAYLOAD }
+}
+
+fn cut_off(file: u32, offset: u32) -> Call {
+    Call::CutOff { file, offset }
+}
+
+fn wipe(file: u32, offset: u32, length: usize) -> Call {
+    Call::Wipe { file, offset, noise: Data { length, seed: 2_000 } }
+}
+
+fn commit(length: usize) -> Call {
+    Call::Commit { noise: Data { length, seed: 3_000 } }
 }
 
 // ---- Cuts
@@ -60,6 +73,41 @@ fn every_cut_of_a_write() {
             assert!(whole == plain, "a write with power for {steps} steps");
         }
     }
+}
+
+#[test]
+fn every_cut_of_a_cut_off() {
+    for mut store in states() {
+        store.done(&[write(0, 0, 9)]);
+        for bytes in (0..=PAGE + 2).chain([usize::MAX]) {
+            let mut cut = store.clone();
+            assert_eq!(cut.cut(cut_off(0, 0), 0, bytes), CUT);
+            cut.mount();
+            let is_in = cut.content(0, 0) == Err(8);
+            assert_eq!(is_in, bytes >= PAGE, "cut at {bytes}");
+        }
+    }
+}
+
+/// A mount that erases two blocks, cut at every byte, and the mount after it.
+#[test]
+fn every_cut_of_a_mount() {
+    let mut store = Both::formatted(8);
+    store.done(&[write(0, 0, 1), write(2, 5, 2)]);
+    store.0.image.copy_within(0..BLOCK, 5 * BLOCK);
+    store.0.image[6 * BLOCK + 77] = 0;
+    let mut whole = store.clone();
+    whole.mount();
+    for steps in 0..2 {
+        for bytes in 0..=BLOCK + 1 {
+            let mut cut = store.clone();
+            assert_eq!(cut.cut(Call::MOUNT, steps, bytes), CUT);
+            cut.mount();
+            assert!(cut == whole, "cut at {steps}, {bytes}");
+        }
+    }
+    assert_eq!(store.cut(Call::MOUNT, 2, 0), DONE);
+    assert!(store == whole);
 }
 
 #[test]
@@ -120,23 +168,28 @@ fn full_and_open() -> (Store, Store) {
     (store.0, open.0)
 }
 
-/// Every set of faults of a write or a read.
+/// Every set of faults of the calls on a record.
 #[test]
 fn the_first_fault_decides() {
     let (full, open) = full_and_open();
     let mut tally = Tally::default();
-    for faults in (0..1 << 10).map(Faults) {
+    for faults in (0..1 << 12).map(Faults) {
         let mut store = faults.choose(9, &full, &open).clone();
+        if faults.has(11) {
+            Change::NoneEmpty.apply(&mut store);
+        }
         if faults.has(8) {
             store.record.letters.iter_mut().filter(|l| **l == b'f').for_each(|l| *l = b'd');
         }
         if faults.has(7) {
             store.record.numbers.sequence = LAST + 1;
+            store.record.numbers.epoch = LAST;
         }
         if faults.has(6) {
             store.record.numbers.commit += 1;
         }
         let length = faults.choose(5, PAYLOAD - 1, PAYLOAD);
+        let noise = faults.choose(5, NOISE - 1, NOISE);
         let file = faults.choose(3, 14, 1);
         let offset = faults.choose(4, 32, 0);
         let lent = Lent {
@@ -145,9 +198,14 @@ fn the_first_fault_decides() {
             letters: faults.choose(2, 1, 0),
         };
         let payload = Data { length, seed: 3 };
-        for call in
-            [Call::Write { file, offset, payload }, Call::Read { file, offset, output: length }]
-        {
+        let calls = [
+            Call::Write { file, offset, payload },
+            Call::Read { file, offset, output: length },
+            cut_off(faults.choose(10, file, file - 1), offset),
+            wipe(file, offset, noise),
+            commit(noise),
+        ];
+        for call in calls {
             match compare_lent(&store, call, Power::STAYS, lent) {
                 Ok(reply) => tally.count(call.name(), reply),
                 Err(why) => panic!("{call:?}, faults {:b}:\n{why}", faults.0),
@@ -156,6 +214,53 @@ fn the_first_fault_decides() {
     }
     tally.require("write", &[DONE, 1, 2, 4, 5, 6, 7, 9, 10, 11]);
     tally.require("read", &[1, 2, 4, 5, 6, 7, 8]);
+    tally.require("cut-off", &[DONE, 1, 2, 4, 5, 7, 8, 10, 11]);
+    tally.require("wipe", &[DONE, 1, 2, 3, 4, 5, 7, 10, 11]);
+    tally.require("commit", &[DONE, 1, 2, 3, 7, 10]);
+}
+
+/// The last epochs: a commit takes one, a wipe two.
+#[test]
+fn the_last_epochs() {
+    for (epoch, commits, wipes) in
+        [(LAST - 1, DONE, DONE), (LAST, DONE, 11), (LAST + 1, 11, 11), (LAST + 2, 7, 7)]
+    {
+        let mut store = Both::formatted(8);
+        store.done(&[write(0, 0, 1)]);
+        store.0.record.numbers.epoch = epoch;
+        let mut wiped = store.clone();
+        assert_eq!(wiped.call(wipe(0, 0, NOISE)), wipes, "epoch {epoch}");
+        assert_eq!(store.call(commit(NOISE)), commits, "epoch {epoch}");
+    }
+}
+
+/// Every set of faults of a mount.
+#[test]
+fn the_first_fault_of_a_mount_decides() {
+    let mut rich = Both::formatted(8);
+    rich.done(&[write(0, 0, 1)]);
+    for faults in (0..1 << 7).map(Faults) {
+        let Both(mut store) = rich.clone();
+        if faults.has(6) {
+            Change::Entry(7, Some(Entry { page: 4_000, key: 0 })).apply(&mut store);
+        }
+        if faults.has(5) {
+            store.image[BLOCK] = b'k';
+        }
+        if faults.has(4) {
+            store.image[2 * BLOCK] = b'c';
+        }
+        let scratch = faults.choose(3, SCRATCH + 1, SCRATCH);
+        let lent = Lent {
+            image: faults.choose(0, -1, 0),
+            map: faults.choose(1, 1, 0),
+            letters: faults.choose(2, -1, 0),
+        };
+        let reply = compare_lent(&store, Call::Mount { scratch }, Power::STAYS, lent);
+        let expected = [(1, 1), (2, 2), (4, 2), (8, 2), (16, 13), (32, 12), (64, 14)];
+        let first = expected.into_iter().find(|(bit, _)| faults.0 & bit != 0);
+        assert_eq!(reply, Ok(first.map_or(DONE, |(_, reply)| reply)), "faults {:b}", faults.0);
+    }
 }
 
 /// Every set of faults of a format.
@@ -187,9 +292,11 @@ fn lengths_of_every_buffer() {
     for length in (0..=PAYLOAD + 32).chain([PAGE, 448, 4_096]) {
         calls.push(Call::Write { file: 0, offset: 1, payload: Data { length, seed: 4 } });
         calls.push(Call::Read { file: 0, offset: 0, output: length });
+        calls.push(Call::Mount { scratch: length });
     }
     for length in [0, 1, 16, 224, NOISE - 16, NOISE - 1, NOISE, NOISE + 1, 2 * NOISE] {
         calls.push(Call::Format { noise: Data { length, seed: 4 } });
+        calls.extend([commit(length), wipe(0, 0, length)]);
     }
     for call in calls {
         store.clone().call(call);
@@ -203,7 +310,9 @@ fn lengths_of_every_buffer() {
             Lent { letters: by_letters, ..Lent::RIGHT },
         ];
         for lent in lents {
-            for call in [FORMAT, write(0, 1, 5), read(0, 0)] {
+            let record =
+                [write(0, 1, 5), read(0, 0), cut_off(0, 0), commit(NOISE), wipe(0, 0, NOISE)];
+            for call in record.into_iter().chain([FORMAT, Call::MOUNT]) {
                 let reply = compare_lent(&store.0, call, Power::STAYS, lent);
                 reply.unwrap_or_else(|why| panic!("{call:?}, {lent:?}:\n{why}"));
             }
@@ -221,6 +330,8 @@ fn every_file_and_offset() {
         for offset in (0..40).chain([255, 256, 1 << 16, u32::MAX - 32, u32::MAX]) {
             store.clone().call(write(file, offset, 1));
             store.clone().call(read(file, offset));
+            store.clone().call(cut_off(file, offset));
+            store.clone().call(wipe(file, offset, NOISE));
         }
     }
 }
@@ -241,5 +352,14 @@ fn nothing_else_is_written() {
         let reply = recorder::read(image.content(), &record, 13, 7, output.lent());
         assert_eq!(reply, recorder::Reply::Done);
         assert_eq!(output.content(), data);
+        for reply in [
+            recorder::cut_off(image.lent(), &mut record, 13, 7),
+            recorder::commit(image.lent(), &mut record, &noise),
+            recorder::wipe(image.lent(), &mut record, &noise, 0, 0),
+            recorder::mount(image.lent(), &mut record, &mut [0; SCRATCH]),
+        ] {
+            assert_eq!(reply, recorder::Reply::Done);
+        }
+        image.content();
     }
 }

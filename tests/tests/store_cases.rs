@@ -1,11 +1,11 @@
-//! Document 01's cases of format, write and read through the library, beside the second implementation.
-//! The mount after a cut is the second implementation's.
+//! Document 01's cases through the library, beside the second implementation.
 
 use johvimaru_tests::model::calls::{CUT, DONE};
 use johvimaru_tests::model::files::{self, PLACES};
+use johvimaru_tests::model::image::BLOCK;
 use johvimaru_tests::model::list::Data;
 use johvimaru_tests::model::listing;
-use johvimaru_tests::model::record::Record;
+use johvimaru_tests::model::record::{Numbers, Record};
 use johvimaru_tests::model::store::Store;
 use johvimaru_tests::side_by_side::{Both, Call};
 
@@ -41,6 +41,13 @@ fn p9_sizes_of_images() {
         assert_eq!(store.call(write(0, 0, 1)), reply, "write, {length} bytes");
         let read = Call::Read { file: 0, offset: 0, output: 224 };
         assert_eq!(store.call(read), reply, "read, {length} bytes");
+        assert_eq!(store.call(Call::MOUNT), reply, "mount, {length} bytes");
+        let commit = Call::Commit { noise: Data::noise(2) };
+        assert_eq!(store.call(commit), reply, "commit, {length} bytes");
+        let cut_off = Call::CutOff { file: 0, offset: 0 };
+        assert_eq!(store.call(cut_off), reply, "cut-off, {length} bytes");
+        let wipe = Call::Wipe { file: 0, offset: 0, noise: Data::noise(3) };
+        assert_eq!(store.call(wipe), reply, "wipe, {length} bytes");
     }
 }
 
@@ -85,6 +92,38 @@ fn the_listing() {
     assert_eq!(store.content(0, 0), payload(3));
     assert_eq!(store.content(2, 5), payload(2));
     assert_eq!(store.content(2, 4), Err(8));
+}
+
+/// A commit after the listing's writes: where its blocks are, and what a mount finds.
+#[test]
+fn a_commit_after_the_listing() {
+    let mut store = Both::formatted(8);
+    store.done(&[write(0, 0, 1), write(2, 5, 2), write(0, 0, 3)]);
+    store.done(&[Call::Commit { noise: Data::noise(9) }]);
+    let numbers = Numbers { sequence: 4, epoch: 3, keys0: 4, keys1: 0, commit: 1 };
+    assert_eq!(store.0.record.numbers, numbers);
+    let blocks: Vec<u16> = store.0.record.entries().into_iter().flatten().map(|e| e.page).collect();
+    assert_eq!(blocks, [50, 49], "the nodes are in block 3");
+    assert!(store.0.image[2 * BLOCK..][..BLOCK].iter().all(|&byte| byte == 0xff));
+    let after = store.0.clone();
+    store.mount();
+    assert!(store.0 == after, "a mount finds the same record");
+    let lines = "   0   0    50     2\n   2   5    49     1\n     2   446     0\n";
+    assert_eq!(listing::text(&store.0.image), lines);
+    assert_eq!(store.content(0, 0), payload(3));
+    assert_eq!(store.content(2, 5), payload(2));
+}
+
+/// A wipe after the listing's writes: the file is gone, and no key is deleted.
+#[test]
+fn a_wipe_after_the_listing() {
+    let mut store = Both::formatted(8);
+    store.done(&[write(0, 0, 1), write(2, 5, 2), write(0, 0, 3)]);
+    store.done(&[Call::Wipe { file: 0, offset: 0, noise: Data::noise(9) }]);
+    store.mount();
+    assert_eq!(listing::text(&store.0.image), "   2   5    49     1\n     1   447     0\n");
+    assert_eq!(store.content(0, 0), Err(8));
+    assert_eq!(store.content(2, 5), payload(2));
 }
 
 /// Every place written, read, written again and read again.

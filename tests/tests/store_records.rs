@@ -1,5 +1,5 @@
-//! Write and read of the library on damaged images and on records that almost fit, beside the second
-//! implementation: each byte of the chosen blocks, each number, letter and place, changed alone.
+//! The library on damaged images and on records that almost fit, beside the second implementation: each
+//! byte of the chosen blocks, each number, letter and place, changed alone.
 
 use johvimaru_tests::model::blocks::page_to_take;
 use johvimaru_tests::model::calls::DONE;
@@ -35,11 +35,13 @@ fn rich() -> Store {
     store
 }
 
-/// Compares a write and two reads on a changed copy of a store.
+/// Compares calls on a changed copy of a store.
 fn check(store: &Store, changes: &[Change], tally: &mut Tally) {
     let mut copy = store.clone();
     changes.iter().for_each(|change| change.apply(&mut copy));
     let calls = [
+        Call::CutOff { file: 0, offset: 1 },
+        Call::Commit { noise: Data::noise(10) },
         Call::Write { file: 0, offset: 1, payload: Data::payload(9) },
         Call::Read { file: 0, offset: 0, output: PAYLOAD },
         Call::Read { file: 13, offset: 0, output: PAYLOAD },
@@ -52,6 +54,16 @@ fn check(store: &Store, changes: &[Change], tally: &mut Tally) {
     }
 }
 
+/// Compares a mount of a changed copy of a store.
+fn check_mount(store: &Store, change: Change, tally: &mut Tally) {
+    let mut copy = store.clone();
+    change.apply(&mut copy);
+    match compare(&copy, Call::MOUNT, Power::STAYS) {
+        Ok(after) => tally.count("mount", after.reply),
+        Err(why) => panic!("mount after {change:?}:\n{why}"),
+    }
+}
+
 /// The other bytes to try in the place of one.
 fn others(byte: u8) -> Vec<u8> {
     let likely = *b" 0129NDKC:-fug\r\n\xff";
@@ -59,12 +71,14 @@ fn others(byte: u8) -> Vec<u8> {
     likely.into_iter().chain(near).filter(|&other| other != byte).collect()
 }
 
-/// Tries other bytes at some places of a page.
+/// Tries other bytes at some places of a page, and mounts such an image.
 fn check_page(store: &Store, page: usize, places: impl Iterator<Item = usize>) -> Tally {
     let mut tally = Tally::default();
     for at in places {
         for byte in others(store.image[PAGE * page + at]) {
-            check(store, &[Change::Byte(Target::Any(page), at, byte)], &mut tally);
+            let change = Change::Byte(Target::Any(page), at, byte);
+            check(store, &[change], &mut tally);
+            check_mount(store, change, &mut tally);
         }
     }
     tally
@@ -86,6 +100,9 @@ fn headers_and_closings_of_the_key_blocks() {
     }
     tally.require("write", &[DONE, 7]);
     tally.require("read", &[DONE, 7, 8]);
+    tally.require("cut-off", &[DONE, 7]);
+    tally.require("commit", &[DONE, 7]);
+    tally.require("mount", &[DONE, 12]);
 }
 
 #[test]
@@ -102,6 +119,9 @@ fn every_byte_of_the_commit_block() {
     }
     tally.require("write", &[DONE, 7]);
     tally.require("read", &[DONE, 7, 8]);
+    tally.require("cut-off", &[DONE, 7]);
+    tally.require("commit", &[DONE, 7]);
+    tally.require("mount", &[DONE, 13, 14]);
 }
 
 #[test]
@@ -116,6 +136,9 @@ fn headers_and_closings_of_data_blocks() {
     }
     tally.require("write", &[DONE, 7]);
     tally.require("read", &[DONE, 7, 8]);
+    tally.require("cut-off", &[DONE, 7]);
+    tally.require("commit", &[DONE, 7]);
+    tally.require("mount", &[DONE, 14]);
 }
 
 #[test]
@@ -136,6 +159,8 @@ fn each_number_changed() {
     }
     tally.require("write", &[DONE, 7, 11]);
     tally.require("read", &[DONE, 7, 8]);
+    tally.require("cut-off", &[DONE, 7]);
+    tally.require("commit", &[DONE, 7]);
 }
 
 #[test]
@@ -150,6 +175,8 @@ fn each_letter_changed() {
     check(&store, &[Change::NoneFree], &mut tally);
     tally.require("write", &[DONE, 7, 9]);
     tally.require("read", &[DONE, 7, 8]);
+    tally.require("cut-off", &[DONE, 7]);
+    tally.require("commit", &[DONE, 7]);
 }
 
 #[test]
@@ -172,6 +199,8 @@ fn each_place_changed() {
     }
     tally.require("write", &[DONE, 7]);
     tally.require("read", &[DONE, 7, 8]);
+    tally.require("cut-off", &[DONE, 7]);
+    tally.require("commit", &[DONE, 7]);
 }
 
 /// Two places exchanged, a place named twice, and a key named twice with its letter right.
@@ -192,6 +221,8 @@ fn places_exchanged_and_doubled() {
     }
     tally.require("write", &[DONE, 7]);
     tally.require("read", &[DONE, 7, 8]);
+    tally.require("cut-off", &[DONE, 7]);
+    tally.require("commit", &[DONE, 7]);
 }
 
 /// A second whole page of another place under a key that is used: the record fits in all but that the
@@ -220,4 +251,6 @@ fn a_key_named_twice() {
     }
     tally.require("write", &[DONE, 7]);
     tally.require("read", &[DONE, 7, 8]);
+    tally.require("cut-off", &[DONE, 7]);
+    tally.require("commit", &[DONE, 7]);
 }

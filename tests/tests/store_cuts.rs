@@ -1,0 +1,111 @@
+//! A commit and a wipe of the library, cut at every byte of every step, and the library's mount after
+//! it: beside the second implementation, and what is then in the store beside the plain book.
+
+use johvimaru_tests::model::book::Book;
+use johvimaru_tests::model::calls::{CUT, DONE};
+use johvimaru_tests::model::files::{self, PLACES};
+use johvimaru_tests::model::image::{Power, Step, BLOCK};
+use johvimaru_tests::model::list::{Call, Data};
+use johvimaru_tests::model::pages::{DELETED, PAGE, PAYLOAD};
+use johvimaru_tests::recorder::{self, Reply};
+use johvimaru_tests::side_by_side::{self, Both};
+
+/// A store with its book.
+#[derive(Clone)]
+struct Kept {
+    store: Both,
+    book: Book,
+    calls: usize,
+}
+
+impl Kept {
+    /// Does a call and enters it. Gives the reply.
+    fn call(&mut self, call: Call, power: Power) -> u32 {
+        let reply = match power {
+            Power::STAYS => self.store.call(call.into()),
+            Power { steps, bytes } => self.store.cut(call.into(), steps, bytes),
+        };
+        self.calls += 1;
+        self.book.enter(self.calls, call, reply, power);
+        reply
+    }
+
+    /// A store of 8 blocks with four nodes, a block without a live page and deleted keys.
+    fn rich() -> Kept {
+        let mut kept = Kept { store: Both::formatted(8), book: Book::new(), calls: 0 };
+        let write = |file, offset, seed| Call::Write { file, offset, payload: Data::payload(seed) };
+        let mut calls: Vec<Call> = (0..17).map(|seed| write(0, 0, seed)).collect();
+        calls.extend([write(0, 31, 20), write(2, 5, 21), write(2, 6, 22), write(13, 7, 23)]);
+        calls.push(Call::CutOff { file: 2, offset: 6 });
+        for call in calls {
+            assert_eq!(kept.call(call, Power::STAYS), DONE, "{call:?}");
+        }
+        assert!(kept.book.marks.contains(&DELETED));
+        kept
+    }
+
+    /// Map, letters and reads of the library are what the book says.
+    fn check(&self, at: &str) {
+        let Both(store) = &self.store;
+        let record = &store.record;
+        assert!(record.letters == self.book.marks, "{at}: letters");
+        let ours = recorder::Record {
+            map: record.map.clone(),
+            letters: record.letters.clone(),
+            numbers: side_by_side::five(record.numbers),
+        };
+        for place in 0..PLACES {
+            let content = self.book.places[place].as_ref();
+            let key = record.entry(place).map(|entry| usize::from(entry.key));
+            assert_eq!(key, content.map(|content| content.position), "{at}: place {place}");
+            if let Some(content) = content {
+                let (file, offset) = files::node(place);
+                let mut output = [0; PAYLOAD];
+                let reply =
+                    recorder::read(&store.image, &ours, file as u32, offset as u32, &mut output);
+                assert_eq!(reply, Reply::Done, "{at}: read");
+                assert!(output[..] == content.payload, "{at}: payload of place {place}");
+            }
+        }
+    }
+}
+
+/// Cuts a call at every byte of every step, and mounts. Gives how many calls were compared.
+fn every_cut(call: Call) -> usize {
+    let kept = Kept::rich();
+    let mut count = 0;
+    for (n, step) in kept.store.0.steps(call).iter().enumerate() {
+        let bytes = match step {
+            Step::Program { .. } => PAGE,
+            Step::Erase { .. } => BLOCK,
+        };
+        for k in 0..=bytes {
+            let mut cut = kept.clone();
+            assert_eq!(cut.call(call, Power::cut(n, k)), CUT);
+            cut.store.mount();
+            cut.check(&format!("{call:?} cut at {n}, {k}"));
+            count += 2;
+        }
+    }
+    let mut whole = kept.clone();
+    assert_eq!(whole.call(call, Power::STAYS), DONE);
+    whole.check("whole");
+    let steps = kept.store.0.steps(call).len();
+    for n in [steps, steps + 1, usize::MAX - 1] {
+        let mut last = kept.clone();
+        assert_eq!(last.call(call, Power::cut(n, 0)), DONE);
+        assert!(last.store == whole.store, "power for {n} steps");
+    }
+    count
+}
+
+#[test]
+fn every_cut_of_a_commit() {
+    assert!(every_cut(Call::Commit { noise: Data::noise(50) }) > 50_000);
+}
+
+#[test]
+fn every_cut_of_a_wipe() {
+    let noise = Data::noise(51);
+    assert!(every_cut(Call::Wipe { file: 0, offset: 0, noise }) > 60_000);
+}

@@ -70,7 +70,8 @@ fn input_that_is_no_image() {
     assert_same(&[0xff; 8 * BLOCK], "8 empty blocks");
 }
 
-/// Calls on images of 8 to 16 blocks, each image listed as it stands and with a byte changed.
+/// Calls on images of 8 to 16 blocks, the last of them cut; each image listed as it stands and with a
+/// byte changed.
 #[test]
 fn images_of_random_calls() {
     let mut rng = Rng::new(7);
@@ -86,6 +87,8 @@ fn images_of_random_calls() {
             };
             store.call(call);
         }
+        let last = [write(0, 0, seed), Call::Commit { noise: Data::noise(seed) }][rng.below(2)];
+        store.cut(last, rng.below(50), rng.below(300));
         assert_same(&store.image, &format!("list {seed}"));
         let at = rng.below(store.image.len());
         store.image[at] ^= 1 << rng.below(8);

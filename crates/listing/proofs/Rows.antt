@@ -1,15 +1,15 @@
 -- The rows of a map's places.
-use Prim.Native.Nat.{ℕ, zero, suc, _+_, _-_, _<_, _≤_}
+use Prim.Native.Nat.{ℕ, suc, _+_, _-_, _<_, _≤_}
 use native.Mathlib.Omega.{arith}
 use native.Mathlib.Numerals.{add-one}
-use mathlib.Core.Path.{_≡_, refl, sym, ap, _∙_}
+use mathlib.Core.Path.{_≡_, sym}
 use mathlib.Core.List.{List, [], _++_, append-assoc, append-nil}
 use lib.ListN.{length, getD}
-use borrow.Author.Tests.{lt-ltb, le-ltb}
+use borrow.Author.Tests.{lt-ltb}
 use Rattle.page.specs.Plan.{places}
 use Rattle.page.specs.Entry.{none}
 use Rattle.page.proofs.Slices.{getD-there}
-use Rattle.store.specs.Record.{mapSize, pageOf, keyOf, live}
+use Rattle.store.specs.Record.{mapSize, pageOf, keyOf}
 use Rattle.listing.specs.Listing.{fileOf, offsetOf, row, rowOf, rowsFrom}
 
 -- ---- one place, its page and key as code reads them

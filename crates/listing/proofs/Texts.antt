@@ -1,11 +1,10 @@
 -- Text that grows from the front of a buffer.
-use Prim.Native.Nat.{ℕ, zero, suc, _+_, _-_, _<_, _≤_}
+use Prim.Native.Nat.{ℕ, _+_, _-_, _≤_}
 use native.Mathlib.Omega.{arith}
-use native.Mathlib.Numerals.{add-one}
-use mathlib.Core.Path.{_≡_, refl, sym, ap, _∙_}
-use mathlib.Core.List.{List, [], _∷_, _++_, append-assoc}
-use lib.ListN.{length, take, drop, getD, set}
-use lib.Seq.{take-at, length-take-le, take-append-add, take-append-seam}
+use mathlib.Core.Path.{_≡_}
+use mathlib.Core.List.{List, _++_, append-assoc}
+use lib.ListN.{length, take, drop}
+use lib.Seq.{length-take-le, take-append-add, take-append-seam}
 use Rattle.base.specs.Part.{splice}
 
 -- a part written after the first at bytes

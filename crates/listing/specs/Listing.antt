@@ -32,7 +32,7 @@ fileOf x = firstFrom (λ file. ltb x (startOf filePlan file + countOf filePlan f
 unfoldable pub offsetOf : ℕ → ℕ
 offsetOf x = x - startOf filePlan (fileOf x)
 
--- ---- rows: file, offset, page, key (4, 4, 6, 6 columns)
+-- ---- rows: file and offset in 4 columns, page and key in 6
 unfoldable pub row : ℕ → ℕ → ℕ → ℕ → List ℕ
 row file offset page key = spell 4 file ++ (spell 4 offset ++ (spell 6 page ++ (spell 6 key ++ lineEnd)))
 
@@ -45,7 +45,7 @@ unfoldable pub rowsFrom : List ℕ → ℕ → ℕ → List ℕ
 rowsFrom map zero x = []
 rowsFrom map (suc n) x = rowOf map x ++ rowsFrom map n (suc x)
 
--- ---- totals: used, free, deleted (6 columns each)
+-- ---- totals: the letters u, f and d, in 6 columns
 -- at how many positions letter l stands
 unfoldable pub total : ℕ → List ℕ → ℕ
 total l letters = countFrom (λ p. eqb (getD letters p 0) l) positions 0
@@ -54,7 +54,7 @@ unfoldable pub totals : List ℕ → List ℕ
 totals letters =
     spell 6 (total usedLetter letters) ++ (spell 6 (total freeLetter letters) ++ (spell 6 (total deletedLetter letters) ++ lineEnd))
 
--- ---- a refusal: its number (6 columns)
+-- ---- a refusal: its number, in 6 columns
 unfoldable pub refusal : ℕ → List ℕ
 refusal n = spell 6 n ++ lineEnd
 
@@ -70,7 +70,7 @@ mountedCopy img = leftWhole (mountOf img (replicate mapSize 0) (replicate positi
 unfoldable pub listingOf : List ℕ → List ℕ
 listingOf img = let m = mountedCopy img in textOf (numberOf (m .reply)) (m .after .map) (m .after .letters)
 
--- an image has at most 65,536 bytes; longer input is refused as an image of wrong size is
+-- the most bytes that are taken as an image; longer input gets the number of an image of wrong size
 abbrev pub longest : ℕ
 longest = 65536
 

@@ -13,7 +13,7 @@ ghost use lib.ListN.{length, take};
 ghost use Rattle.base.specs.Lent.{old, new};
 ghost use Rattle.listing.specs.Listing.{listingOf, listed, textSize};
 
-// The most bytes that an image has.
+// The most bytes that are taken as an image.
 const LONGEST: usize = 65_536;
 
 // A map has the pages of all places, then their keys.
@@ -49,7 +49,7 @@ fn list(input: &mut [u8], out: &mut [u8]) -> usize
     list_image(input, out)
 }
 
-// Reads one byte more than an image has at most, so that longer input is seen.
+// Reads one byte more than that at most, so that longer input is seen.
 fn main() {
     let mut input = [0u8; LONGEST + 1];
     let n = io::read_full(STDIN_FILENO, &mut input);

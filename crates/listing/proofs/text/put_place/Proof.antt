@@ -1,12 +1,10 @@
 -- `text::put_place` meets its contract: the row of the place, or nothing.
 use borrow.Author.Needs.{needs}
-use Prim.Native.Nat.{_+_}
 use native.Mathlib.Omega.{arith}
-use mathlib.Core.Path.{_∙_, sym}
+use mathlib.Core.Path.{sym}
 use mathlib.Core.List.{append-nil}
 use lib.ListN.{take}
 use denote.Ref.{now}
-use Rattle.page.specs.Plan.{places}
 use Rattle.listing.proofs.Rows.{row-none, row-some}
 use Rattle.listing.proofs.text.put_place.Statement.{statement}
 use Rattle.listing.proofs.text.put_place.Tie as tie

@@ -16,7 +16,7 @@ use Rattle.page.specs.Plan.{filePlan, places, countOf}
 use Rattle.page.specs.Header.{lastNumber}
 use Rattle.page.specs.Key.{positions}
 use Rattle.page.specs.Entry.{none, freeLetter, usedLetter, deletedLetter}
-use Rattle.page.proofs.Plans.{place-at, plan-below}
+use Rattle.page.proofs.Plans.{plan-length, count-file}
 use Rattle.image.specs.Size.{sizeRight}
 use Rattle.image.specs.Look.{formAt}
 use Rattle.store.specs.Kind.{kindOf}
@@ -24,7 +24,6 @@ use Rattle.store.specs.Record.{Record, recordOf, withNumbers, pageOf, ke
 use Rattle.store.specs.Write.{placeAt, released}
 use Rattle.store.specs.CutOff.{restOf, emptied, removed}
 use Rattle.store.specs.Commit.{cleanLetter, cleaned}
-use Rattle.store.specs.Taken.{Planned}
 use Rattle.store.specs.declared.Kind.the-variants.{Keys, Commit}
 use Rattle.store.specs.declared.Numbers.{Numbers}
 use Rattle.store.proofs.Fits.{Fit, Vacant, Named, live-key, live-apart, named-live, named-position}
@@ -154,11 +153,11 @@ module _ (img : List ℕ) (r : Record) (x : ℕ) (f : Fit img r) (size : sizeRig
       named p y h k e false t = let o = not-x p y h e in f .named p y h k (sym (key-is y o) ∙ e)
 
 -- ---- the places of a file from an offset on
-pub removed-fit : (img : List ℕ) (r : Record) (file offset : ℕ) → Fit img r → sizeRight img ≡ true → Full r → Planned file offset → Fit img (removed r file offset)
+pub removed-fit : (img : List ℕ) (r : Record) (file offset : ℕ) → Fit img r → sizeRight img ≡ true → Full r → offset < countOf filePlan file → Fit img (removed r file offset)
 unfolding removed
-removed-fit img r file offset f size full planned =
+removed-fit img r file offset f size full right =
     fold-keeps (λ t. Fit img t × Full t) emptied (restOf file offset) (placeAt file offset) r
-    (λ x t a b k. (emptied-fit img t x (k .0) size (k .1) (omega (arith, planned .offsetRight, file-end file (planned .fileRight))), still-full t (emptied x t) (emptied-as-long x t) (k .1)))
+    (λ x t a b k. (emptied-fit img t x (k .0) size (k .1) (omega (arith, file-end file (omega (arith, plan-length, count-file filePlan file offset right)))), still-full t (emptied x t) (emptied-as-long x t) (k .1)))
     (f, full) .0
 
 -- ---- each d made f

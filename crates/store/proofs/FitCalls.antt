@@ -94,7 +94,7 @@ cut-off-record-fits img r file offset t =
     let page = cutOffPage (n .sequence) file offset in
     let size = cut-off-length (n .sequence) file offset in
     rw (one-step (program (foundAt (newPage img n)) page) img)
-    (fit-over img (last img r page f size (t .room)) (removed r file offset) (nextSequence n) (removed-fit img r file offset f (t .ready .size) (t .ready .buffers) (t .planned))
+    (fit-over img (last img r page f size (t .room)) (removed r file offset) (nextSequence n) (removed-fit img r file offset f (t .ready .size) (t .ready .buffers) (t .planned .offsetRight))
     (chosen-next (last img r page f size (t .room)) n (chosen-stays img r page f size (t .room))) (counted-next n (fit-counted img r f) (t .numbersLeft))
     (λ x h d. form-stays img r page f size (t .room) (removed r file offset .map) x d))
 

@@ -1,13 +1,13 @@
 -- Records that fit: carried over to another image, with a place made vacant, with each d made f, and with a node placed.
-use Prim.Native.Nat.{ℕ, zero, suc, _+_, _<_, _≤_}
+use Prim.Native.Nat.{ℕ, _+_, _<_, _≤_}
 use native.Mathlib.Omega.{arith}
 use native.Mathlib.Decide.{ℕ-discrete}
-use mathlib.Core.Path.{_≡_, refl, sym, ap, _∙_}
+use mathlib.Core.Path.{_≡_, refl, sym, _∙_}
 use mathlib.Core.Logic.{_⊎_, inl, inr}
 use mathlib.Core.Bool.{Bool, true, false, cond, _&&_}
-use mathlib.Core.List.{List, [], _∷_, map}
+use mathlib.Core.List.{List, map}
 use lib.Dec.{eqb}
-use lib.ListN.{length, getD, set, List·getD-map}
+use lib.ListN.{length, getD, set}
 use lib.Seq.{getD-set-same, getD-set-other}
 use borrow.Author.Tests.{eq-eqb, ne-eqb, eqb-true}
 use Rattle.base.proofs.Choice.{and-true, and-intro, true-false}
@@ -16,18 +16,16 @@ use Rattle.page.specs.Plan.{filePlan, places, countOf}
 use Rattle.page.specs.Header.{lastNumber}
 use Rattle.page.specs.Key.{positions}
 use Rattle.page.specs.Entry.{none, freeLetter, usedLetter, deletedLetter}
-use Rattle.page.proofs.Plans.{place-at, plan-below}
+use Rattle.page.proofs.Plans.{plan-length, count-file}
 use Rattle.image.specs.Size.{sizeRight}
 use Rattle.image.specs.Look.{formAt}
 use Rattle.store.specs.Kind.{kindOf}
 use Rattle.store.specs.Record.{Record, recordOf, withNumbers, pageOf, keyOf, live}
 use Rattle.store.specs.Write.{placeAt, released}
 use Rattle.store.specs.CutOff.{restOf, emptied, removed}
-use Rattle.store.specs.Commit.{cleanLetter, cleaned}
-use Rattle.store.specs.Taken.{Planned}
 use Rattle.store.specs.declared.Kind.the-variants.{Keys, Commit}
 use Rattle.store.specs.declared.Numbers.{Numbers}
-use Rattle.store.proofs.Fits.{Fit, Vacant, Named, live-key, live-apart, named-live, named-position}
+use Rattle.store.proofs.Fits.{Fit, Vacant, Named, live-apart, named-live}
 use Rattle.store.proofs.Outcomes.{Full, still-full, emptied-as-long}
 use Rattle.store.proofs.Records.{put, put-page, put-key, page-stays, key-stays, file-end}
 
@@ -154,40 +152,12 @@ module _ (img : List ℕ) (r : Record) (x : ℕ) (f : Fit img r) (size : sizeRig
       named p y h k e false t = let o = not-x p y h e in f .named p y h k (sym (key-is y o) ∙ e)
 
 -- ---- the places of a file from an offset on
-pub removed-fit : (img : List ℕ) (r : Record) (file offset : ℕ) → Fit img r → sizeRight img ≡ true → Full r → Planned file offset → Fit img (removed r file offset)
+pub removed-fit : (img : List ℕ) (r : Record) (file offset : ℕ) → Fit img r → sizeRight img ≡ true → Full r → offset < countOf filePlan file → Fit img (removed r file offset)
 unfolding removed
-removed-fit img r file offset f size full planned =
+removed-fit img r file offset f size full right =
     fold-keeps (λ t. Fit img t × Full t) emptied (restOf file offset) (placeAt file offset) r
-    (λ x t a b k. (emptied-fit img t x (k .0) size (k .1) (omega (arith, planned .offsetRight, file-end file (planned .fileRight))), still-full t (emptied x t) (emptied-as-long x t) (k .1)))
+    (λ x t a b k. (emptied-fit img t x (k .0) size (k .1) (omega (arith, file-end file (omega (arith, plan-length, count-file filePlan file offset right)))), still-full t (emptied x t) (emptied-as-long x t) (k .1)))
     (f, full) .0
-
--- ---- each d made f
--- u stays u, and nothing else becomes u
-clean-used : (l : ℕ) → (l ≡ freeLetter) ⊎ (l ≡ usedLetter) ⊎ (l ≡ deletedLetter) → cleanLetter l ≡ usedLetter → l ≡ usedLetter
-clean-used l (inl e) h = absurd (let z : cleanLetter l ≡ freeLetter = rw e in omega arith)
-clean-used l (inr (inl e)) h = e
-clean-used l (inr (inr e)) h = absurd (let z : cleanLetter l ≡ freeLetter = rw e in omega arith)
-
-clean-is : (l : ℕ) → (l ≡ freeLetter) ⊎ (l ≡ usedLetter) ⊎ (l ≡ deletedLetter) → (cleanLetter l ≡ freeLetter) ⊎ (cleanLetter l ≡ usedLetter) ⊎ (cleanLetter l ≡ deletedLetter)
-clean-is l (inl e) = inl (rw e)
-clean-is l (inr (inl e)) = inr (inl (rw e))
-clean-is l (inr (inr e)) = inl (rw e)
-
-pub cleaned-fit : (img : List ℕ) (r : Record) → Fit img r → Fit img (cleaned r)
-cleaned-fit img r f =
-    let at : (p : ℕ) → getD (map cleanLetter (r .letters)) p 0 ≡ cleanLetter (getD (r .letters) p 0) = λ p. List·getD-map cleanLetter (r .letters) p 0 in
-    record {
-      sequence = f .sequence;
-      epoch = f .epoch;
-      keys0 = f .keys0;
-      keys1 = f .keys1;
-      commit = f .commit;
-      place = f .place;
-      apart = f .apart;
-      letter = λ p h. rw (at p) (clean-is (getD (r .letters) p 0) (f .letter p h));
-      used = λ p h u. f .used p h (clean-used (getD (r .letters) p 0) (f .letter p h) (sym (at p) ∙ u));
-      named = λ p x h i e. at p ∙ rw (f .named p x h i e);
-    }
 
 -- ---- a node at a vacant place x, under a position p that is not used
 module _ (img : List ℕ) (s : Record) (m : List ℕ) (x p : ℕ) (f : Fit img s) (vacant : Vacant (s .map) x) (below : x < places) (position : p < positions) (full : length (s .letters) ≡ positions)

@@ -106,7 +106,7 @@ fn a_cut_off_removes_the_rest_of_its_file_alone() {
     assert_eq!(scratch[29..34], [0, 1, 5, 3, 0]);
 }
 
-/// A dead node at or below the covered sequence is not read as live.
+/// A covered node that is dead stays dead.
 #[test]
 fn covered_pages_are_no_events() {
     let mut image = image_with(&commit(2, 9, &[(0, 48, 0)]));
@@ -148,7 +148,7 @@ fn letters_of_the_commit() {
     assert_eq!(with_letter(&mounted(&image).record, b'd'), [0, 5, 6]);
 }
 
-/// The whole block of highest epoch is chosen, on a tie the lower one. The others are erased, in order.
+/// Of whole blocks the highest epoch is chosen, the lower block on a tie; the others are erased.
 #[test]
 fn the_chosen_blocks() {
     let noise = Data::noise(2).bytes();
@@ -177,7 +177,7 @@ fn the_chosen_blocks() {
     assert_eq!(numbers, Numbers { sequence: 1, epoch: 10, keys0: 0, keys1: 3, commit: 2 });
 }
 
-/// Every block not chosen, not data and not empty is erased, whatever is in it.
+/// Strays are erased, whatever is in them.
 #[test]
 fn what_mount_erases() {
     let mut image = image();

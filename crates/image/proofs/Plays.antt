@@ -1,4 +1,4 @@
--- Steps in a row: all whole, or n of them whole and the first k bytes of the next.
+-- Steps in a row: all of them, or as far as n steps and k bytes go.
 use Prim.Native.Nat.{ℕ, zero, suc, _-_, _<_, _≤_}
 use native.Mathlib.Omega.{arith}
 use native.Mathlib.Nat.{sub-zero}

@@ -19,7 +19,7 @@ blockAt img b = part img (b * blockSize) blockSize
 unfoldable pub formAt : List ℕ → ℕ → Form
 formAt img g = formOf (pageAt img g)
 
--- a page or block is empty if all its bytes are FFh
+-- empty: nothing but FFh
 unfoldable pub pageEmpty : List ℕ → ℕ → Bool
 pageEmpty img g = isEmpty (pageAt img g)
 

@@ -1,4 +1,4 @@
--- Document 01, "The flash image": 8 to 256 blocks of 4,096 bytes; a block is 16 pages.
+-- Document 01, "The flash image": how large an image is, in blocks and pages.
 use Prim.Native.Nat.{ℕ, _/_, _%_}
 use mathlib.Core.Bool.{Bool, _&&_}
 use mathlib.Core.List.{List}

@@ -29,7 +29,7 @@ deletedLetter = 0x64
 abbrev pub isLetter : ℕ → Bool
 isLetter b = eqb b freeLetter || eqb b usedLetter || eqb b deletedLetter
 
--- ---- entries: page (4 columns, 0 to 4,095), key (4, 0 to 447), or none
+-- ---- entries: a page and a key position in 4 columns each, or none
 abbrev pub entryWidth : ℕ
 entryWidth = 4
 

@@ -1,4 +1,4 @@
--- Document 01, "Page forms": a page is whole if header and closing are both right; torn if only the header is; otherwise, unless empty, spoilt.
+-- Document 01, "Page forms": whole, torn (a header without its closing), empty, or spoilt.
 use Prim.Native.Nat.{ℕ}
 use mathlib.Core.Bool.{Bool, cond}
 use mathlib.Core.List.{List}

@@ -2,7 +2,7 @@
 use Prim.Native.Nat.{ℕ}
 use mathlib.Core.List.{List, [], _∷_}
 
--- a page has 256 bytes: 30 of header, 224 of payload, 2 of closing
+-- header, payload and closing make up a page
 abbrev pub headerSize : ℕ
 headerSize = 30
 

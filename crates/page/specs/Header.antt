@@ -93,7 +93,7 @@ inRange f =
     (cond (eqb (f .kind) keysLetter) (keysRanges f)
     (cond (eqb (f .kind) commitLetter) (commitRanges f) false)))
 
--- ---- the columns of a header: kind letter (1 column), number (8), unit (3), part (4), key (4), second number (8), then colon and space
+-- ---- where the kind letter, each number and the end of a header stand, and how wide they are
 abbrev pub numberWidth : ℕ
 numberWidth = 8
 

@@ -13,7 +13,7 @@ use Rattle.page.specs.declared.Frame.{Frame}
 unfoldable pub pageBytes : Frame → List ℕ → List ℕ
 pageBytes f payload = headerBytes f ++ (payload ++ closing)
 
--- "Cipher": the payload XOR the AES-128 encipherments of counters 0 to 13 under a key of 16 bytes; the same both ways
+-- "Cipher": AES-128 in counter mode from zero, under a key of 16 bytes; the same both ways
 unfoldable pub enciphered : List ℕ → List ℕ → List ℕ
 enciphered key payload = counterMode (keyExpansion key) payload
 
@@ -37,6 +37,6 @@ commitPage epoch i covered payload = pageBytes (commitFrame epoch i covered) pay
 unfoldable pub payloadOf : List ℕ → List ℕ
 payloadOf page = part page headerSize payloadSize
 
--- a program that is cut leaves the first k bytes written and the rest FFh
+-- what a program leaves that was cut at byte k
 unfoldable pub cutPage : ℕ → List ℕ → List ℕ
 cutPage k page = take k page ++ replicate (pageSize - k) erased

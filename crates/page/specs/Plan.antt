@@ -28,6 +28,6 @@ startOf plan zero = 0
 startOf [] (suc file) = 0
 startOf (n ∷ plan) (suc file) = n + startOf plan file
 
--- a node's place: the sum of the earlier counts plus its offset; none where the offset is not below the file's count
+-- a node's place: its offset after all earlier files; none where its file has no such offset
 unfoldable pub placeOf : List ℕ → ℕ → ℕ → Place
 placeOf plan file offset = cond (ltb offset (countOf plan file)) (At (startOf plan file + offset)) Outside

@@ -4,7 +4,7 @@ ghost use mathlib.Core.Path.{_≡_};
 ghost use Rattle.page.specs.Header.{nodeFrame, cutOffFrame, keysFrame, commitFrame};
 
 impl Frame {
-    // A page has 256 bytes: 30 of header, 224 of payload, 2 of closing, which starts at 254.
+    // The size of a page and of its header and payload, and where its closing starts.
     pub const PAGE: usize = 256;
 
     pub const HEADER: usize = 30;

@@ -213,11 +213,11 @@ pub with-whole : (h : Frame) (m : Form) → m ≡ Whole h → wholeWith h m ≡ 
 with-whole h m e = rw e (frame-same h h refl)
 
 -- ---- whole key blocks and whole commit blocks
--- the 16 pages are whole, in order, of one block number and epoch
+-- every page is whole, and the one that its number says, of one key block and epoch
 pub record KeyBlock (img : List ℕ) (b q e : ℕ) : Type 0 where
   pub pages : (i : ℕ) → i < pagesInBlock → formAt img (pageIn b i) ≡ Whole (keysFrame e q i)
 
--- pages 0 to 9 are whole parts 0 to 9 of one epoch and covered sequence, with valid payloads, and pages 10 to 15 empty
+-- the parts stand in order, of one epoch and covered sequence, valid, and the pages behind them are empty
 pub record CommitBlock (img : List ℕ) (b e s : ℕ) : Type 0 where
   pub pages : (i : ℕ) → i < parts → formAt img (pageIn b i) ≡ Whole (commitFrame e i s)
   pub valid : (i : ℕ) → i < parts → validPayload i (payloadOf (pageAt img (pageIn b i))) ≡ true

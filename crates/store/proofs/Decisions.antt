@@ -1,4 +1,4 @@
--- What decides a place at mount: of the events above the covered sequence the one of highest sequence, ties to the higher page, else the commit's entry; and the map that mount makes of that.
+-- What decides a place at mount: of the events above the covered sequence the highest, on a tie that of the higher page; without any, the entry of the commit. And the map that mount makes of that.
 use Prim.Native.Nat.{ℕ, suc, _+_, _<_, _≤_}
 use native.Mathlib.Omega.{arith}
 use native.Mathlib.Nat.{zero-add}
@@ -158,7 +158,7 @@ module _ (img : List ℕ) (s x : ℕ) (entry : Entry) where
       go false l b m t u c k = stays n d p (λ f' v. let q = its f' v in absurd (omega (arith, ltb-false s (f .number) l, rw q at (v .above))))
 
 -- ---- the decision of a place
--- for each place the event of highest sequence above the covered one decides, ties to the higher page, else the commit's entry
+-- a place is decided by its highest event above the covered sequence, the later page on a tie, or by its entry where there is none
 pub deciding-event : (img : List ℕ) (c x : ℕ)
     → ByEntry img (coveredIn img c) x (pages img) (entryIn img c x) (decision img c x) ⊎ ByEvent img (coveredIn img c) x (pages img) (decision img c x)
 unfolding decision

@@ -1,4 +1,4 @@
--- The key position and the page that a write takes: the lowest f; the lowest empty page of a data block with only empty pages after it, else the first page of the lowest empty block if two are empty.
+-- The key position and the page that a write takes: the lowest free one; the lowest open page of a data block, or a fresh block's first page while another block stays empty.
 use Prim.Native.Nat.{ℕ, _-_, _*_, _/_, _%_, _<_, _≤_}
 use native.Mathlib.Omega.{arith}
 use native.Mathlib.Decide.{decLt}
@@ -114,7 +114,7 @@ module _ (img : List ℕ) (r : Numbers) (g : ℕ) where
 
 -- ---- the first page of an empty block
 module _ (img : List ℕ) where
-  -- the first page of the lowest empty block if two are empty
+  -- a fresh block's first page, where another block stays empty
   pub fresh-page : (g : ℕ) → freshPage img ≡ At g → (2 ≤ emptyBlocks img) × (g ≡ lowestEmpty img * pagesInBlock)
   unfolding freshPage
   fresh-page g e =

@@ -27,15 +27,15 @@ use Rattle.page.proofs.Ranges.{keys-range, commit-range}
 use Rattle.image.specs.Size.{blockSize, pagesInBlock, blocks, sizeRight}
 use Rattle.image.specs.Look.{blockAt, pageAt, formAt, blockEmpty, lowestEmpty, emptyBlocks}
 use Rattle.image.specs.Step.{Step, erase, Inside, whole, playAll}
-use Rattle.image.specs.Block.{renewedKey, keysFrom, keyBlockSteps, commitBlockSteps}
+use Rattle.image.specs.Block.{renewedKey, keysFrom, keyBlockSteps, commitBlockSteps, keyBlockPage, commitBlockPage}
 use Rattle.image.proofs.Step.{blockOf, block-whole-other, page-of-same}
 use Rattle.image.proofs.Empties.{empty-block-page, page-empty-same, erase-empties}
 use Rattle.image.proofs.Forms.{form-same, form-of-page, empty-form-at}
 use Rattle.image.proofs.Looks.{sized, size-same, block-inside, blocks-same, lowest-empty, lowest-below, lowest-some}
 use Rattle.image.proofs.Plays.{playAll-nil, playAll-cons, playAll-append, playAll-length, block-playAll-other}
 use Rattle.image.proofs.Rows.{rowSteps, row-in-no-other, row-page-done, row-page-rest}
-use Rattle.image.proofs.KeyBlock.{keyBlockPage, key-block-steps, key-block-inside, key-page-size, keys-from-length, renewed-at-length}
-use Rattle.image.proofs.CommitBlock.{commitBlockPage, commit-block-steps, commit-block-inside, commit-page-size}
+use Rattle.image.proofs.KeyBlock.{key-block-steps, key-block-inside, key-page-size, keys-from-length, renewed-at-length}
+use Rattle.image.proofs.CommitBlock.{commit-block-steps, commit-block-inside, commit-page-size}
 use Rattle.store.specs.Kind.{pageIn, kindOf, headed, hasEvents, isChosen, isData}
 use Rattle.store.specs.Record.{Record, withNumbers, pageOf, keyOf, live, fits}
 use Rattle.store.specs.Format.{noiseSize}
@@ -52,7 +52,7 @@ use Rattle.store.proofs.Verdicts.{commit-taken, wipe-taken}
 use Rattle.store.proofs.BlockKinds.{kind-agree, kind-unbegun, chosen-is-no-data, keys-kind, commit-kind, page-block, page-in, KeyBlock, CommitBlock}
 use Rattle.store.proofs.Fits.{Fit, Vacant, Named, fits-is, fit-fits, fit-inside, is-letter, named-inside, named-position, named-live}
 use Rattle.store.proofs.Outcomes.{Full, still-full, cleaned-as-long, removed-as-long, commit-outcome, wipe-outcome}
-use Rattle.store.proofs.Legals.{removed-numbers}
+use Rattle.store.proofs.Removals.{removed-numbers}
 use Rattle.store.proofs.Spares.{keys0-chosen, keys1-chosen, commit-chosen}
 use Rattle.store.proofs.Fitting.{Chosen, fit-over, removed-fit}
 use Rattle.store.proofs.FittingRecords.{cleaned-fit}

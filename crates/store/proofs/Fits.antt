@@ -155,11 +155,11 @@ pub record Fit (img : List ℕ) (r : Record) : Type 0 where
   pub keys0 : (e : ℕ) × (kindOf img (r .numbers .keys0) ≡ Keys 0 e)
   pub keys1 : (e : ℕ) × (kindOf img (r .numbers .keys1) ≡ Keys 1 e)
   pub commit : (e : ℕ) × (s : ℕ) × (kindOf img (r .numbers .commit) ≡ Commit e s)
-  -- each place is none in both halves or names a whole N page of that file, offset and key
+  -- a place is vacant in the whole, or has its own node with its own key
   pub place : (x : ℕ) → x < places → Vacant (r .map) x ⊎ Named img (r .map) x
   -- no key is named twice
   pub apart : (x y : ℕ) → x < places → y < places → keyOf (r .map) x ≡ keyOf (r .map) y → keyOf (r .map) x < positions → x ≡ y
-  -- every letter is f, u or d, and u stands at exactly the named positions
+  -- letters are letters, and the used ones are those that places name
   pub letter : (p : ℕ) → p < positions → (getD (r .letters) p 0 ≡ freeLetter) ⊎ (getD (r .letters) p 0 ≡ usedLetter) ⊎ (getD (r .letters) p 0 ≡ deletedLetter)
   pub used : (p : ℕ) → p < positions → getD (r .letters) p 0 ≡ usedLetter → (x : ℕ) × (x < places) × (keyOf (r .map) x ≡ p)
   pub named : (p x : ℕ) → p < positions → x < places → keyOf (r .map) x ≡ p → getD (r .letters) p 0 ≡ usedLetter
@@ -253,7 +253,7 @@ size-parts img e = let s = sized img e in (omega (arith, s .full), omega (arith,
 
 -- ---- what follows of a record that fits
 module _ (img : List ℕ) (r : Record) (fit : Fit img r) where
-  -- a block is one of data exactly if it has a whole or torn N or D page
+  -- a block is one of data exactly if an event stands in it
   pub fit-data : (b : ℕ) → isData img (r .numbers) b ≡ hasEvents img b
   fit-data b =
       data-has-events img (r .numbers) b

@@ -30,7 +30,7 @@ commitTests img r noise =
     formatTests img (r .map) (r .letters) noise
     ++ (fitTests img r ++ ((leb (r .numbers .epoch) lastNumber else NumbersSpent) ∷ (leb 1 (emptyBlocks img) else NoRoom) ∷ []))
 
--- ---- replacing one block: a new copy in the lowest empty block, then the old one erased
+-- ---- replacing one block: the copy goes to the lowest empty one, and then the block copied from is erased
 unfoldable pub replaceKeys : List ℕ → Record → List ℕ → ℕ → List Step
 replaceKeys img r noise q =
     let old = keysBlock (r .numbers) q in
@@ -89,7 +89,7 @@ cleanLetter l = cond (eqb l deletedLetter) freeLetter l
 abbrev pub cleaned : Record → Record
 cleaned r = record { map = r .map; letters = map cleanLetter (r .letters); numbers = r .numbers }
 
--- key block 0, then 1, then the commit block, then the data blocks without a live page, in order; all carry one new epoch
+-- both key blocks, the commit block, and what has no live page any more; the copies are of one epoch
 unfoldable pub commitStages : List ℕ → Stage → Stage
 commitStages noise s =
     let t = deadErased (commitReplaced (keysReplaced noise 1 (keysReplaced noise 0 s))) in

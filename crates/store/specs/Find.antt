@@ -22,11 +22,11 @@ found n i = cond (ltb i n) (At i) Nothing
 unfoldable pub lowestFree : List ℕ → Found
 lowestFree letters = found positions (firstFrom (λ p. eqb (getD letters p 0) freeLetter) positions 0)
 
--- an empty page of a data block with only empty pages after it
+-- an open page: it stands in a data block, and from it on the block is empty
 unfoldable pub isOpen : List ℕ → Numbers → ℕ → Bool
 isOpen img r g = isData img r (g / pagesInBlock) && allFrom (pageEmpty img) (pagesInBlock - g % pagesInBlock) g
 
--- the first page of the lowest empty block if two are empty
+-- a fresh block's first page, where another block stays empty
 unfoldable pub freshPage : List ℕ → Found
 freshPage img = cond (leb 2 (emptyBlocks img)) (At (lowestEmpty img * pagesInBlock)) Nothing
 

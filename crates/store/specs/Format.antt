@@ -44,7 +44,7 @@ formatNumbers = record { sequence = 1; epoch = 2; keys0 = 0; keys1 = 1; commit =
 abbrev pub formatted : Record
 formatted = record { map = replicate mapSize none; letters = replicate positions freeLetter; numbers = formatNumbers }
 
--- erases all blocks in order, writes key blocks 0 and 1 from the noise and a commit with no entries, all f, covered 0, all of epoch 1
+-- every block is erased; then both key blocks from the noise, and a commit without entries that covers nothing, of the first epoch
 unfoldable pub formatSteps : List ℕ → List ℕ → List Step
 formatSteps img noise =
     listFrom erase (blocks img) 0

@@ -32,7 +32,7 @@ wholeWith h (Whole f) = sameFrame f h
 wholeWith h (Torn f) = false
 wholeWith h Spoilt = false
 
--- a key block is whole if its 16 pages are whole, in order, of one block number and epoch
+-- a whole key block: every page is whole and the one that its number says, of one key block and epoch
 unfoldable pub keyBlockWhole : List ℕ → ℕ → ℕ → ℕ → Bool
 keyBlockWhole img b q e = allFrom (λ i. wholeWith (keysFrame e q i) (formAt img (pageIn b i))) pagesInBlock 0
 
@@ -40,7 +40,7 @@ keyBlockWhole img b q e = allFrom (λ i. wholeWith (keysFrame e q i) (formAt img
 abbrev pub partWhole : List ℕ → ℕ → ℕ → ℕ → ℕ → Bool
 partWhole img b e s i = wholeWith (commitFrame e i s) (formAt img (pageIn b i)) && validPayload i (payloadOf (pageAt img (pageIn b i)))
 
--- a commit block is whole if pages 0 to 9 are whole parts 0 to 9 of one epoch and covered sequence, with valid payloads, and pages 10 to 15 empty
+-- a whole commit block: its parts in order, of one epoch and covered sequence, valid; nothing behind them
 unfoldable pub commitBlockWhole : List ℕ → ℕ → ℕ → ℕ → Bool
 commitBlockWhole img b e s =
     allFrom (partWhole img b e s) parts 0

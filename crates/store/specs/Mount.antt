@@ -92,23 +92,23 @@ decideBy s x g (Whole f) d =
     (cond (cuts x f) (record { sequence = f .number; page = none; key = none }) d))
     d
 
--- for each place the event of highest sequence above the covered one decides, else the commit's entry
+-- all pages in order against what the commit's entry gives the place
 unfoldable pub decision : List ℕ → ℕ → ℕ → Decision
 decision img c x = foldFrom (λ g. decideBy (coveredIn img c) x g (formAt img g)) (pages img) 0 (byEntry (entryIn img c x))
 
 unfoldable pub mountMap : List ℕ → ℕ → List ℕ
 mountMap img c = listFrom (λ x. decision img c x .page) places 0 ++ listFrom (λ x. decision img c x .key) places 0
 
--- scratch gets each place's deciding sequence or 0
+-- what the scratch gets: the sequence that decided, 0 where none did
 unfoldable pub mountScratch : List ℕ → ℕ → List ℕ
 mountScratch img c = listFrom (λ x. decision img c x .sequence) places 0
 
--- a live entry fits: where the commit's entry decides, the place is none or names a whole N page of that file, offset and key
+-- entries are looked at only where they decide; there the place must pass the record's own test
 unfoldable pub entriesFit : List ℕ → ℕ → Bool
 entriesFit img c = allFrom (λ x. not (eqb (decision img c x .sequence) 0) || placeFits img (mountMap img c) x) places 0
 
 -- ---- letters
--- a whole or torn N page above the covered sequence that names position p
+-- a node's header above the covered sequence, its page whole or not, with position p
 abbrev pub spends : ℕ → ℕ → Form → Bool
 spends s p Empty = false
 spends s p (Whole f) = eqb (f .kind) nodeLetter && ltb s (f .number) && eqb (f .key) p
@@ -152,7 +152,7 @@ mounted img =
     let c = foundAt (chosenCommit img) in
     record { map = mountMap img c; letters = listFrom (mountLetter img c) positions 0; numbers = mountNumbers img }
 
--- ---- every block not chosen, not data and not empty is erased, in order
+-- ---- strays: neither chosen nor data, and yet not empty. They are erased, in order
 unfoldable pub isStray : List ℕ → Numbers → ℕ → Bool
 isStray img r b = not (isChosen r b) && not (isData img r b) && not (blockEmpty img b)
 
@@ -183,7 +183,7 @@ blockTests commit keys0 keys1 =
     ∷ (isFound keys0 && isFound keys1 else NoKeyBlock)
     ∷ []
 
--- refusals 12 to 14 fill map with 65,535, letters with d, scratch with 0; 1 and 2 change nothing; either way the numbers are all 0
+-- where the lengths are right a refusal leaves nothing of a record: no page, no key, every letter d. Numbers are 0 after any refusal
 abbrev pub fills : Reply → Bool
 fills v = leb (numberOf NoKeyBlock) (numberOf v)
 

@@ -37,7 +37,7 @@ pub record Left : Type 0 where
   pub after : Record
   pub lent : List ℕ
 
--- the form with n and k: n steps whole, the first k bytes of the next. A call is cut if n is below its number of steps
+-- the form with n and k: power for n steps and k bytes. It is cut where it has more steps
 unfoldable pub left : ℕ → ℕ → Outcome → List ℕ → Left
 left n k o img =
     record {

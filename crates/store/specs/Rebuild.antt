@@ -28,14 +28,14 @@ highestSequence img = highestFrom (λ g. sequenceOf (formAt img g)) (pages img) 
 unfoldable pub rebuiltOf : List ℕ → ℕ → Rebuilt
 rebuiltOf img c = cond (mountFits img c) (Fits (highestSequence img)) Unfit
 
--- the lent lists after that; the events say of each block, by 1 or 0, whether it has a whole or torn N or D page
+-- the lent lists after that; the events say of each block, by 1 or 0, whether an event stands in it
 pub record Rebuilding (img : List ℕ) (c : ℕ) (map letters scratch events : List ℕ) : Type 0 where
   pub mapMade : map ≡ mountMap img c
   pub lettersMade : letters ≡ listFrom (mountLetter img c) positions 0
   pub scratchMade : scratch ≡ mountScratch img c
   pub eventsMade : (b : ℕ) → b < blocks img → getD events b 0 ≡ cond (hasEvents img b) 1 0
 
--- refusals 12 to 14 fill map with 65,535, letters with d, scratch with 0
+-- what a refusal behind the tests of lengths leaves
 pub record Cleared (map letters scratch : List ℕ) : Type 0 where
   pub mapCleared : map ≡ replicate mapSize none
   pub lettersCleared : letters ≡ replicate positions deletedLetter

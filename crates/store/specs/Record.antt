@@ -18,7 +18,7 @@ use Rattle.image.specs.Look.{formAt}
 use Rattle.store.specs.Kind.{kindOf, keysEpoch, commitEpoch}
 use Rattle.store.specs.declared.Numbers.{Numbers}
 
--- a map of 448 numbers, 224 pages, then 224 keys, 65,535 for none; 448 letters; and the record's numbers
+-- a map, the pages of all places and then their keys; a letter for each position; and the record's numbers
 pub record Record : Type 0 where
   pub map : List ℕ
   pub letters : List ℕ
@@ -52,7 +52,7 @@ nodeAt x p (Whole f) = eqb (f .kind) nodeLetter && isAt x (placeOf filePlan (f .
 nodeAt x p (Torn f) = false
 nodeAt x p Spoilt = false
 
--- a place is none in both halves or names a whole N page of that file, offset and key
+-- a place is vacant in both halves, or has a whole node of its own, under the key that the node names
 unfoldable pub placeFits : List ℕ → List ℕ → ℕ → Bool
 placeFits img map x =
     cond (eqb (pageOf map x) none && eqb (keyOf map x) none) true (nodeAt x (keyOf map x) (formAt img (pageOf map x)))
@@ -65,7 +65,7 @@ namedTimes map p = countFrom (λ x. eqb (keyOf map x) p) places 0
 unfoldable pub keysApart : List ℕ → Bool
 keysApart map = allFrom (λ p. leb (namedTimes map p) 1) positions 0
 
--- every letter is f, u or d, and u stands at exactly the named positions
+-- letters are letters, and those that places name are the used ones
 unfoldable pub lettersFit : List ℕ → List ℕ → Bool
 lettersFit map letters =
     allFrom (λ p. isLetter (getD letters p 0) && Bool·beq (eqb (getD letters p 0) usedLetter) (leb 1 (namedTimes map p))) positions 0

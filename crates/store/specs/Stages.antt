@@ -45,7 +45,7 @@ begun n k r = record { power = powerFor n k; numbers = r }
 abbrev pub after : Power → List ℕ → Stage → Work
 after p img s = record { flash = run (s .steps) (device p img); numbers = s .after .numbers }
 
--- key block q copied into block b, used keys in place and all others from noise; then the old one erased
+-- key block q copied into block b with new keys for all that is not used; then the old one erased
 unfoldable pub keysInto : List ℕ → List ℕ → Numbers → ℕ → ℕ → List ℕ → List Step
 keysInto letters noise r q b img =
     keyBlockSteps (r .epoch) q b (renewedKey (blockAt img (keysBlock r q)) letters noise) ++ (erase (keysBlock r q) ∷ [])

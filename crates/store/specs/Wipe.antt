@@ -13,7 +13,7 @@ use Rattle.store.specs.declared.Numbers.{Numbers}
 abbrev pub wipeTests : List ℕ → Record → List ℕ → ℕ → ℕ → List Test
 wipeTests img r noise file offset = formatTests img (r .map) (r .letters) noise ++ (planTests file offset ++ renewalTests img r 1)
 
--- first, with the next epoch, a commit block without the removed entries, their letters d, the other letters as they were; the old one erased
+-- the shorter index first: a commit of the record without the removed places, of an epoch of its own
 unfoldable pub removedFirst : List ℕ → Record → ℕ → ℕ → Stage
 removedFirst img r file offset =
     let s = commitReplaced (begin img (removed r file offset)) in

@@ -71,7 +71,7 @@ keysBlock r q = cond (eqb q 0) (r .keys0) (r .keys1)
 unfoldable pub keyHeld : List ℕ → Numbers → ℕ → List ℕ
 keyHeld img r p = keyInBlock (blockAt img (keysBlock r (keyBlock p))) p
 
--- each sequence or epoch used raises its next number by one
+-- the numbers after a sequence was used
 abbrev pub nextSequence : Numbers → Numbers
 nextSequence r =
     record { sequence = r .sequence + 1; epoch = r .epoch; keys0 = r .keys0; keys1 = r .keys1; commit = r .commit }

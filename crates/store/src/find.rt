@@ -69,7 +69,7 @@ fn open_from(image: &[u8], numbers: Numbers, b: usize) -> usize
     empty_from(image, b)
 }
 
-// The lowest empty page of a data block with only empty pages after it, block by block.
+// The lowest open page, block by block.
 fn open_page(image: &[u8], numbers: Numbers) -> Found
     requires { ⌜ sizeRight (now image) ≡ true ⌝ }
     ensures { λ r. ⌜ r ≡ found (pages (old image)) (firstFrom (isOpen (old image) numbers) (pages (old image)) 0) ⌝ }
@@ -86,7 +86,7 @@ fn open_page(image: &[u8], numbers: Numbers) -> Found
     Found::Nothing
 }
 
-// The first page of the lowest empty block, if another is empty.
+// A fresh block's first page, where another block stays empty.
 fn fresh_page(image: &[u8]) -> Found
     ensures { λ r. ⌜ r ≡ freshPage (old image) ⌝ }
 {

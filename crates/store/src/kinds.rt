@@ -273,7 +273,7 @@ fn event_at(image: &[u8], g: usize) -> bool
     is_headed(look::form_at(image, g))
 }
 
-// Whether block b has a whole or torn N or D page.
+// Whether an event stands in block b.
 pub fn has_event(image: &[u8], b: usize) -> bool
     requires { ⌜ b * blockSize + blockSize ≤ length (now image) ⌝ }
     ensures { λ r. ⌜ r ≡ hasEvents (old image) b ⌝ }

@@ -1,4 +1,4 @@
-// Mount: the working record of an image; then every block that is not chosen, not data and not empty is erased.
+// Mount: the working record of an image; then what a power failure left over is erased.
 use crate::Answer;
 use crate::ENOUGH;
 use crate::Numbers;

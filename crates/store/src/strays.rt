@@ -33,7 +33,7 @@ fn erase_unless(image: &mut [u8], b: usize, kept: bool, p: Power) -> Power
     steps::erase_block(image, b, p)
 }
 
-// Erases the strays, in order. The events say of each block, by 1 or 0, whether it has a whole or torn N or D page.
+// Erases the strays, in order. The events say of each block, by 1 or 0, whether an event stands in it.
 pub fn erase_strays(image: &mut [u8], events: &[u8], numbers: Numbers, p: Power) -> Power
     requires { ⌜ (blocks (now image) ≤ mostBlocks) × (length (now events) ≡ mostBlocks)
         × ((b : ℕ) → b < blocks (now image) → getD (now events) b 0 ≡ cond (hasEvents (now image) b) 1 0) ⌝ }

@@ -22,7 +22,7 @@ pub enum Kind {
     },
     /// A whole commit block.
     Commit(Commit),
-    /// It has a whole or torn N or D page. No such block is chosen: a whole key or commit block has
+    /// An event stands in it. No such block is chosen: a whole key or commit block has
     /// no such page.
     Data,
     /// Anything else.
@@ -49,12 +49,12 @@ pub fn kind(pages: &[Page], forms: &[Form]) -> Kind {
     }
 }
 
-/// Whether a block has a whole or torn N or D page.
+/// Whether an event stands in a block.
 pub fn is_data(pages: &[Page]) -> bool {
     pages.iter().any(|page| Form::of(page).is_data())
 }
 
-/// Number and epoch of a key block, where its 16 pages are whole, in order, of one number and epoch.
+/// Number and epoch of a key block, where each of its pages is whole and in its place.
 pub fn whole_keys(forms: &[Form]) -> Option<(usize, u32)> {
     let &Form::Whole(Header::Keys { block, epoch, .. }) = forms.first()? else {
         return None;
@@ -90,7 +90,7 @@ pub struct Commit {
 
 impl Commit {
     /// What the block of these pages, which have these forms, holds, where it is a whole commit block:
-    /// pages 0 to 9 are whole parts 0 to 9 of one epoch and covered sequence, with valid payloads, and
+    /// its parts stand in order, of one epoch and covered sequence and with valid payloads, and
     /// pages 10 to 15 are empty.
     pub fn parse(pages: &[Page], forms: &[Form]) -> Option<Commit> {
         let &Form::Whole(Header::Commit { epoch, covered, .. }) = forms.first()? else {
@@ -138,8 +138,8 @@ impl Commit {
     }
 }
 
-/// The page that a write or cut-off takes: the lowest empty page of a data block with only empty pages
-/// after it, else the first page of the lowest empty block if two are empty.
+/// The page that a write or cut-off takes: the lowest open page of a data block, or a fresh block's
+/// first page while another block stays empty.
 pub fn page_to_take<'a>(blocks: impl Iterator<Item = &'a [Page]>) -> Option<usize> {
     let mut empty_blocks = Vec::new();
     for (number, pages) in blocks.enumerate() {

@@ -111,7 +111,7 @@ impl Book {
         }
     }
 
-    /// The lowest f becomes u, its place gets the payload; a position replaced becomes d.
+    /// Takes the lowest free position for the payload, and deletes the one that the place had.
     fn write(&mut self, file: usize, offset: usize, payload: Vec<u8>) {
         let position = self.take_free(USED);
         let place = files::place(file, offset).expect("the call was not refused");
@@ -129,7 +129,7 @@ impl Book {
         position
     }
 
-    /// No payload in the file from the offset on, positions removed become d.
+    /// The file ends at the offset; the positions behind it are deleted.
     fn remove(&mut self, file: usize, offset: usize) {
         for place in files::rest(file, offset) {
             if let Some(old) = self.places[place].take() {
@@ -138,7 +138,7 @@ impl Book {
         }
     }
 
-    /// Each position not u gets a key of this call, then each d becomes f.
+    /// Keys of this call for all that is not used; then deleted positions are free.
     fn purge(&mut self, number: usize, steps: CopySteps, made_whole: impl Fn(usize) -> bool) {
         for position in 0..POSITIONS {
             let copied = made_whole(steps.keys[position / POSITIONS_IN_BLOCK]);

@@ -291,7 +291,7 @@ impl Run {
         Ok(())
     }
 
-    /// The call just done leaves the same image where the bytes of all keys that no payload has after
+    /// The call just done leaves the same image where the bytes of each key that is no payload's after
     /// it, wherever they were on the flash, are altered at will.
     fn check_purge(&self, call: Call, before: Store, origins: &[Origin]) -> Result<(), Broken> {
         let mut store = before;

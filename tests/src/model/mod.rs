@@ -8,7 +8,7 @@
 //! - [`image`]: the flash image, its two steps and a power cut.
 //! - [`blocks`]: key blocks, commit blocks and data blocks.
 //! - [`record`]: the working record and its fit.
-//! - [`calls`]: format, mount, write, read, cut-off, commit and wipe; [`store`]: an image with its
+//! - [`calls`]: the seven calls; [`store`]: an image with its
 //!   record, and a call on them.
 //! - [`listing`]: the text that the listing program prints.
 //! - [`list`], [`book`], [`origin`] and [`demand`]: lists of calls with cuts, the plain book, where each

@@ -1,4 +1,4 @@
-//! Document 01, "The plain book of demand 3": a byte is on the flash from the step that programs it to
+//! Document 01, "The plain book of demand 3": what each byte is, from the step that programs it to
 //! one that erases it. Where each byte of an image comes from.
 
 use super::book::Key;

@@ -103,8 +103,8 @@ impl Record {
             && matches!(kind(commit), Some(Kind::Commit(_)))
     }
 
-    /// Each place is none in both halves or names a whole N page of that file, offset and key, no key
-    /// is named twice, every letter is f, u or d, and u stands at exactly the named positions.
+    /// Each place is vacant or has a whole node of its own under the key that it names, no two places
+    /// share a key, and the used letters are those of named positions.
     fn nodes_fit(&self, image: &[u8]) -> bool {
         let mut named = [false; POSITIONS];
         let (places, keys) = self.map.split_at(PLACES);

@@ -73,7 +73,7 @@ impl<'a> Work<'a> {
         Ok(())
     }
 
-    /// A new copy of a key block, used keys in place and all others from noise, and the old one erased.
+    /// A new copy of a key block, with new keys for all that is not used, and the old one erased.
     /// Gives the new place.
     fn replace_keys(&mut self, number: usize, noise: &[u8]) -> Result<u32, Refusal> {
         let record = &self.outcome.record;

@@ -108,7 +108,7 @@ impl Survey {
         }
     }
 
-    /// For each place the event of highest sequence above the covered one, on a tie that of the higher
+    /// Of the events of a place above the covered sequence the highest, on a tie that of the higher
     /// page. Only whole pages are events.
     fn decisions(&self, covered: u32) -> Vec<Option<Decision>> {
         let mut decisions = vec![None; PLACES];
@@ -136,7 +136,7 @@ impl Survey {
         decisions
     }
 
-    /// The positions that a whole or torn N page above the covered sequence names.
+    /// The positions that nodes' headers above the covered sequence name, torn pages among them.
     fn spent(&self, covered: u32) -> [bool; POSITIONS] {
         let mut spent = [false; POSITIONS];
         for header in self.forms.iter().filter_map(Form::header) {
@@ -167,7 +167,7 @@ impl Survey {
         }
     }
 
-    /// The erases of every block not chosen, not data and not empty.
+    /// The erases of the strays: neither chosen nor data, and not empty.
     fn erases(&self, numbers: &Numbers) -> Vec<Step> {
         let chosen = [numbers.keys0, numbers.keys1, numbers.commit].map(|place| place as usize);
         let stays = |block, kind: &Kind| {

@@ -87,7 +87,7 @@ static unsigned count(char letter)
     return n;
 }
 
-/* A line for each node, with file, offset, page and key position; then the used, free and deleted keys. */
+/* A line for each node: file, offset, page, key position. Then the used, free and deleted keys. */
 static void print_listing(void)
 {
     static const uint32_t counts[JOHVIMARU_FILES] = JOHVIMARU_FILE_COUNTS;

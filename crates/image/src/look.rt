@@ -62,13 +62,20 @@ pub fn page_empty(image: &[u8], g: usize) -> bool
     forms::is_empty(&image[start..start + Frame::PAGE])
 }
 
-// Whether block b is empty.
+// Whether block b is empty, page by page.
 pub fn block_empty(image: &[u8], b: usize) -> bool
     requires { ⌜ b * blockSize + blockSize ≤ length (now image) ⌝ }
     ensures { λ r. ⌜ r ≡ blockEmpty (old image) b ⌝ }
 {
-    let start = b * BLOCK_SIZE;
-    forms::is_empty(&image[start..start + BLOCK_SIZE])
+    let mut g = b * PAGES_IN_BLOCK;
+    let end = g + PAGES_IN_BLOCK;
+    while g < end {
+        if !page_empty(image, g) {
+            return false;
+        }
+        g += 1;
+    }
+    true
 }
 
 // The lowest empty block, or the number of blocks where there is none.

@@ -5,8 +5,8 @@
 //! disk. The library and the second implementation test in each call whether the record fits the
 //! image. A read at a vacant place is that test and little else, so it tells the test's share.
 //!
-//! A mount is timed beside one pass of the form of every page, a commit and a wipe beside the second
-//! implementation.
+//! A mount is timed beside one pass of the form of every page; a commit and a wipe beside the same
+//! bytes moved without a test, and beside the second implementation.
 //!
 //! Under `cargo bench` it prints ratios. Under `cargo test` it only compares results.
 
@@ -14,9 +14,9 @@ use johvimaru_tests::databases::{Folder, Lmdb, Sqlite};
 use johvimaru_tests::ffi::page as harness;
 use johvimaru_tests::model::calls;
 use johvimaru_tests::model::files::{self, PLACES};
-use johvimaru_tests::model::image::{Power, BLOCK};
+use johvimaru_tests::model::image::{Power, Step, BLOCK};
 use johvimaru_tests::model::list::{Call, Data};
-use johvimaru_tests::model::pages::{ERASED, PAGE, PAYLOAD};
+use johvimaru_tests::model::pages::{self, Form, Header, ERASED, PAGE, PAYLOAD};
 use johvimaru_tests::model::record::Record;
 use johvimaru_tests::model::store::Store;
 use johvimaru_tests::recorder::{self, Reply};
@@ -338,6 +338,8 @@ impl Peer for Sqlite {
 
 /// The time of a mount over that of one pass of the form of every page is at most this.
 const PASS_LIMIT: f64 = 1.5;
+/// The time of a commit or wipe over that of the same bytes moved without a test is at most this.
+const MOVED_LIMIT: f64 = 1.5;
 
 /// A setting for the calls on whole blocks: its blocks, and how many writes were made on it.
 fn written(blocks: usize, writes: usize) -> Ours {
@@ -380,7 +382,36 @@ fn mounts(blocks: usize, writes: usize, bench: bool) {
     }
 }
 
-/// A commit or a wipe by the library on 1 MiB beside the second implementation's, each on a copy.
+/// A step that was taken apart: a page's number, header and payload, or a block to erase.
+enum Move {
+    Page(usize, Header, Vec<u8>),
+    Erase(usize),
+}
+
+impl Move {
+    fn of(step: &Step) -> Move {
+        match step {
+            Step::Program { page, bytes } => match Form::of(bytes) {
+                Form::Whole(header) => Move::Page(*page, header, pages::payload(bytes).to_vec()),
+                _ => unreachable!("a call programs whole pages"),
+            },
+            Step::Erase { block } => Move::Erase(*block),
+        }
+    }
+
+    /// Spells the page and copies it to its place, or erases the block; nothing is tested.
+    fn make(&self, image: &mut [u8]) {
+        match self {
+            Move::Page(page, header, payload) => {
+                image[PAGE * page..][..PAGE].copy_from_slice(&header.page(payload));
+            }
+            Move::Erase(block) => image[BLOCK * block..][..BLOCK].fill(ERASED),
+        }
+    }
+}
+
+/// A commit or a wipe by the library on 1 MiB beside the same bytes moved without a test and beside
+/// the second implementation's, each on a copy.
 fn purges(name: &str, bench: bool, call: Call) {
     let ours = written(256, 440);
     let noise = FORMAT_NOISE.bytes();
@@ -406,18 +437,34 @@ fn purges(name: &str, bench: bool, call: Call) {
         assert_eq!(copy.call(call), calls::DONE);
         copy.image
     };
-    assert!(library() == model(), "{name}: the images");
+    let outcome = match call {
+        Call::Wipe { .. } => calls::wipe::outcome(&second.image, &second.record, 0, 0, &noise),
+        _ => calls::commit::outcome(&second.image, &second.record, &noise),
+    };
+    let steps = outcome.expect("the call is taken").steps;
+    let moves: Vec<Move> = steps.iter().map(Move::of).collect();
+    let moved = || {
+        let mut image = ours.image.clone();
+        moves.iter().for_each(|one| one.make(&mut image));
+        image
+    };
+    assert!(library() == model() && library() == moved(), "{name}: the images");
     if bench {
-        let ways: Vec<Work> = vec![Box::new(|| drop(library())), Box::new(|| drop(model()))];
-        let ratio = timing::run(ways, ROUNDS / 4).ratio(0, 1);
-        let word = if ratio <= LIMIT { "met" } else { "NOT MET" };
-        println!("{name:<36}{:>15}{ratio:>15.2}   {word}", "");
+        let ways: Vec<Work> = vec![
+            Box::new(|| drop(library())),
+            Box::new(|| drop(moved())),
+            Box::new(|| drop(model())),
+        ];
+        let times = timing::run(ways, ROUNDS / 4);
+        let (moved, second) = (times.ratio(0, 1), times.ratio(0, 2));
+        let word = if moved <= MOVED_LIMIT { "met" } else { "NOT MET" };
+        println!("{name:<36}{moved:>15.2}{second:>15.2}   {word}");
     }
 }
 
 /// All of them, as a table.
 fn whole_blocks(bench: bool) {
-    println!("{:<36}{:>15}{:>15}", "\nours, a multiple of", "one pass", "second");
+    println!("{:<36}{:>15}{:>15}", "\nours, a multiple of", "pass, moves", "second");
     for (blocks, full) in [(8, 60), (32, 440), (128, 440), (256, 440)] {
         mounts(blocks, CALLS, bench);
         mounts(blocks, full, bench);

@@ -9,7 +9,7 @@ use borrow.Author.Tests.{leb-true, le-leb, lt-leb}
 use native.Mathlib.Numerals.{add-one}
 use native.Mathlib.Decide.{decLt}
 use mathlib.Core.Path.{_≡_, refl, sym, _∙_}
-use mathlib.Core.Bool.{Bool, true, false, cond, _||_, or-assoc}
+use mathlib.Core.Bool.{Bool, true, false, cond, _&&_, _||_, or-assoc}
 use Rattle.base.proofs.Choice.{and-true, and-intro, or-left, true-false}
 use Rattle.base.specs.Search.{firstFrom, countFrom, allFrom, anyFrom, whichFrom, highestFrom}
 
@@ -81,6 +81,10 @@ module _ (p : ℕ → Bool) (n i : ℕ) (h : i < n) where
   pub all-fails : p i ≡ false → allFrom p (n - i) i ≡ false
   unfolding allFrom
   all-fails e = let k : n - i ≡ suc (n - (i + 1)) = omega arith in rw (k, e)
+
+  pub all-step : allFrom p (n - i) i ≡ (p i && allFrom p (n - (i + 1)) (i + 1))
+  unfolding allFrom
+  all-step = let k : n - i ≡ suc (n - (i + 1)) = omega arith in rw (k, add-one)
 
 pub all-none : (p : ℕ → Bool) (n i : ℕ) → n ≤ i → allFrom p (n - i) i ≡ true
 unfolding allFrom

@@ -44,7 +44,7 @@ const LAST_PAGE: u32 = 4095;
 pub fn is_letter(b: u8) -> bool
     ensures { λ r. ⌜ r ≡ isLetter b ⌝ }
 {
-    b == FREE || b == USED || b == DELETED
+    (b == FREE) | (b == USED) | (b == DELETED)
 }
 
 // Writes the entry of a page and a key, as a map has them.
@@ -134,14 +134,13 @@ fn all_letters(payload: &[u8]) -> bool
     requires { ⌜ length (now payload) ≡ payloadSize ⌝ }
     ensures { λ r. ⌜ r ≡ allFrom (λ j. isLetter (getD (old payload) j 0)) payloadSize 0 ⌝ }
 {
+    let mut all = true;
     let mut j = 0;
     while j < Frame::PAYLOAD {
-        if !is_letter(payload[j]) {
-            return false;
-        }
+        all = all & is_letter(payload[j]);
         j += 1;
     }
-    true
+    all
 }
 
 // Whether 8 bytes are an entry.

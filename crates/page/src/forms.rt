@@ -10,18 +10,30 @@ ghost use Rattle.base.specs.Lent.{old};
 ghost use Rattle.page.specs.Frame.{pageSize};
 ghost use Rattle.page.specs.Form.{isEmpty, closed, formOf};
 
-// Whether all bytes are FFh.
+// Whether all bytes are FFh. The loop has no other way out, so that it goes over many bytes at once.
+fn all_erased(bytes: &[u8]) -> bool
+    ensures { λ r. ⌜ r ≡ isEmpty (old bytes) ⌝ }
+{
+    let mut all = true;
+    let mut i = 0;
+    while i < bytes.len() {
+        all = all & (bytes[i] == Frame::ERASED);
+        i += 1;
+    }
+    all
+}
+
+// Whether all bytes are FFh. What is used is mostly told by its first byte.
 pub fn is_empty(bytes: &[u8]) -> bool
     ensures { λ r. ⌜ r ≡ isEmpty (old bytes) ⌝ }
 {
-    let mut i = 0;
-    while i < bytes.len() {
-        if bytes[i] != Frame::ERASED {
-            return false;
-        }
-        i += 1;
+    if bytes.len() == 0 {
+        return true;
     }
-    true
+    if bytes[0] != Frame::ERASED {
+        return false;
+    }
+    all_erased(bytes)
 }
 
 // Whether a page's closing is right.

@@ -1,38 +1,32 @@
--- `page::bytes::same` meets its contract: the whole is the same where what is left is.
+-- `page::bytes::same` meets its contract: the runs are the same where what was passed is and what is left.
 use borrow.Author.Needs.{needs}
-use borrow.Author.Tests.{eq-eqb, ne-eqb}
 use Prim.Native.Nat.{_≤_, _-_}
 use native.Mathlib.Omega.{arith}
 use native.Mathlib.Numerals.{add-one}
 use mathlib.Core.Path.{_≡_, refl, sym, _∙_}
+use mathlib.Core.Bool.{_&&_}
 use lib.ListN.{length, drop, drop-of-length-le}
 use lib.Seq.{drop-cons}
 use denote.Ref.{now}
 use Rattle.base.specs.Each.{same}
+use Rattle.base.proofs.Choice.{and-assoc, and-passed}
 use Rattle.page.proofs.bytes.same.Statement.{statement}
 use Rattle.page.proofs.bytes.same.Tie as tie
 
 abbrev Inv-loop : tie.InvT-loop
-Inv-loop a b i₀ i = (i ≤ length a) × (same a b ≡ same (drop i a) (drop i b))
+Inv-loop a b all₀ i₀ all i = (i ≤ length a) × (same a b ≡ all && same (drop i a) (drop i b))
 
 abbrev μ-loop : tie.MeasureT-loop
-μ-loop a b i₀ i = length a - i
+μ-loop a b all₀ i₀ all i = length a - i
 
 loop-holds : tie.Need-loop-holds Inv-loop μ-loop
 loop-holds c = (omega arith, refl)
 
-shared-slice-read-if1 : tie.Need-shared-slice-read-if1 Inv-loop μ-loop
-shared-slice-read-if1 c = search needs
+shared-slice-read-all : tie.Need-shared-slice-read-all Inv-loop μ-loop
+shared-slice-read-all c = search needs
 
-shared-slice-read-if1-2 : tie.Need-shared-slice-read-if1-2 Inv-loop μ-loop
-shared-slice-read-if1-2 c = search needs
-
-returns : tie.Need-returns Inv-loop μ-loop
-unfolding same
-returns c =
-    let l = c .before .before .before .before .loop in
-    let r = c .before .before .before .before .before .args in
-    sym (l .inv .1 ∙ rw (drop-cons (now (r .a)) (l .i) 0 (omega arith), drop-cons (now (r .b)) (l .i) 0 (omega arith), ne-eqb _ _ (c .if1 .taken)))
+shared-slice-read-all-2 : tie.Need-shared-slice-read-all-2 Inv-loop μ-loop
+shared-slice-read-all-2 c = search needs
 
 add-i : tie.Need-add-i Inv-loop μ-loop
 add-i c = search needs
@@ -43,28 +37,22 @@ loop-less c = search needs
 loop-again : tie.Need-loop-again Inv-loop μ-loop
 unfolding same
 loop-again c =
-    let l = c .before .before .before .before .loop in
-    let r = c .before .before .before .before .before .args in
-    (omega arith, l .inv .1 ∙ rw (drop-cons (now (r .a)) (l .i) 0 (omega arith), drop-cons (now (r .b)) (l .i) 0 (omega arith), eq-eqb _ _ (c .if1 .left), add-one))
+    let l = c .before .before .before .loop in
+    let r = c .before .before .before .before .args in (
+      omega arith,
+      l .inv .1
+      ∙ rw (drop-cons (now (r .a)) (l .i) 0 (omega arith), drop-cons (now (r .b)) (l .i) 0 (omega arith), add-one)
+      (and-assoc (l .all) _ _),
+    )
 
-returns-2 : tie.Need-returns-2 Inv-loop μ-loop
+returns : tie.Need-returns Inv-loop μ-loop
 unfolding same
-returns-2 c =
+returns c =
     let l = c .before .loop in
     let r = c .before .before .args in
-    sym (l .inv .1 ∙ rw (drop-of-length-le (now (r .a)) {i = l .i} (omega arith), drop-of-length-le (now (r .b)) {i = l .i} (omega arith)))
+    sym (l .inv .1 ∙ rw (drop-of-length-le (now (r .a)) {i = l .i} (omega arith), drop-of-length-le (now (r .b)) {i = l .i} (omega arith)) (and-passed (l .all)))
 
 pub same-spec : {M : Type 1} → statement M
 same-spec =
     tie.close
-    (tie.spec
-    Inv-loop
-    μ-loop
-    loop-holds
-    shared-slice-read-if1
-    shared-slice-read-if1-2
-    returns
-    add-i
-    loop-less
-    loop-again
-    returns-2)
+    (tie.spec Inv-loop μ-loop loop-holds shared-slice-read-all shared-slice-read-all-2 add-i loop-less loop-again returns)

@@ -1,7 +1,7 @@
 -- Laws of choice by a test: `cond` and `_&&_` of the library.
 use Prim.Native.Nat.{ℕ, suc}
 use native.Mathlib.Omega.{arith}
-use mathlib.Core.Path.{_≡_, refl}
+use mathlib.Core.Path.{_≡_, refl, sym}
 use mathlib.Core.Bool.{Bool, true, false, cond, _&&_, _||_}
 
 -- a list of tests, the first that fails giving the number: where no number came, each test was passed
@@ -38,6 +38,12 @@ and-assoc false b c = refl
 pub and-passed : (a : Bool) → a && true ≡ a
 and-passed true = refl
 and-passed false = refl
+
+-- two tests that follow from each other
+pub both-ways : (a b : Bool) → (a ≡ true → b ≡ true) → (b ≡ true → a ≡ true) → a ≡ b
+both-ways true b f g = sym (f refl)
+both-ways false true f g = g refl
+both-ways false false f g = refl
 
 pub true-false : {b : Bool} → b ≡ true → b ≡ false → ⊥
 true-false p q = let z : _≡_ {A = ℕ} 0 1 = cc in omega arith

@@ -29,7 +29,7 @@ use Rattle.page.proofs.HeaderLaws.{header-read, header-is, header-range
 use Rattle.page.proofs.Pages.{enciphered-length, page-length, header-back, closing-back, cut-length, cut-whole, cut-before, cut-after}
 
 -- ---- a form goes by the header, by whether the page is closed and whether it is empty
-abbrev formFrom : Header → Bool → Bool → Form
+abbrev pub formFrom : Header → Bool → Bool → Form
 formFrom (Is f) closed empty = cond closed (Whole f) (Torn f)
 formFrom Invalid closed empty = cond empty Empty Spoilt
 

@@ -9,6 +9,7 @@
 --   Commits       a commit's payloads: an entry has one spelling, letters and entries read back
 --   Pages         the bytes of a page: length, what reads back, what a cut program leaves
 --   FormLaws      page forms: the form of a page that was programmed whole or in part
+--   HeaderTests   headers and pages held against fields that they must have, byte for byte
 pub mod Slices
 pub mod Column
 pub mod ColumnReading
@@ -19,3 +20,4 @@ pub mod Positions
 pub mod Commits
 pub mod Pages
 pub mod FormLaws
+pub mod HeaderTests

@@ -1,13 +1,14 @@
 -- Document 01, "Page forms": whole, torn (a header without its closing), empty, or spoilt.
 use Prim.Native.Nat.{ℕ}
-use mathlib.Core.Bool.{Bool, cond}
+use mathlib.Core.Bool.{Bool, false, cond}
 use mathlib.Core.List.{List}
 use Rattle.base.specs.Part.{part}
 use Rattle.base.specs.Each.{same, allAre}
 use Rattle.page.specs.Frame.{headerSize, closingAt, closingSize, closing, erased}
-use Rattle.page.specs.Header.{headerOf}
+use Rattle.page.specs.Header.{headerOf, headerWith, nodeWith}
 use Rattle.page.specs.declared.Header.{Header}
 use Rattle.page.specs.declared.Header.the-variants.{Is, Invalid}
+use Rattle.page.specs.declared.Frame.{Frame}
 use Rattle.page.specs.declared.Form.{Form}
 use Rattle.page.specs.declared.Form.the-variants.{Empty, Whole, Torn, Spoilt}
 
@@ -27,3 +28,18 @@ formBy Invalid page = cond (isEmpty page) Empty Spoilt
 -- the form of a page
 unfoldable pub formOf : List ℕ → Form
 formOf page = formBy (headerOf (part page 0 headerSize)) page
+
+-- ---- tests of a form
+-- a whole page with a given header
+abbrev pub wholeWith : Frame → Form → Bool
+wholeWith h Empty = false
+wholeWith h (Whole f) = headerWith h (Is f)
+wholeWith h (Torn f) = false
+wholeWith h Spoilt = false
+
+-- a whole node of a file, an offset and a key position, of any sequence
+abbrev pub wholeNode : ℕ → ℕ → ℕ → Form → Bool
+wholeNode file offset p Empty = false
+wholeNode file offset p (Whole f) = nodeWith file offset p (Is f)
+wholeNode file offset p (Torn f) = false
+wholeNode file offset p Spoilt = false

@@ -154,3 +154,19 @@ headerOf xs =
     numberThen (numberIn (part xs secondAt secondWidth)) Invalid λ second.
     let f : Frame = record { kind = getD xs kindAt 0; number = number; unit = unit; part = part'; key = key; second = second } in
     cond (same (part xs colonAt (length colonSpace)) colonSpace && inRange f) (Is f) Invalid
+
+-- ---- tests of a header
+-- the same header, field by field
+abbrev pub sameFrame : Frame → Frame → Bool
+sameFrame f h =
+    eqb (f .kind) (h .kind) && eqb (f .number) (h .number) && eqb (f .unit) (h .unit) && eqb (f .part) (h .part) && eqb (f .key) (h .key) && eqb (f .second) (h .second)
+
+-- a given header
+abbrev pub headerWith : Frame → Header → Bool
+headerWith h (Is f) = sameFrame f h
+headerWith h Invalid = false
+
+-- the header of a node of a file, an offset and a key position, of any sequence
+abbrev pub nodeWith : ℕ → ℕ → ℕ → Header → Bool
+nodeWith file offset p (Is f) = eqb (f .kind) nodeLetter && eqb (f .unit) file && eqb (f .part) offset && eqb (f .key) p
+nodeWith file offset p Invalid = false

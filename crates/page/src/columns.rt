@@ -1,13 +1,14 @@
 // Decimal columns: a number right-justified with spaces, without leading zeros.
 use crate::Number;
 ghost use mathlib.Core.Path.{_≡_};
-ghost use mathlib.Core.Bool.{_&&_};
+ghost use mathlib.Core.Bool.{false, _&&_};
 ghost use Prim.Native.Nat.{suc, _+_, _≤_, _<_};
 ghost use lib.ListN.{length, getD, drop};
+ghost use lib.Dec.{leb};
 ghost use Rattle.base.specs.Lent.{old, new};
 ghost use Rattle.base.specs.Part.{part, splice};
 ghost use Rattle.page.specs.Frame.{space};
-ghost use Rattle.page.specs.Column.{zeroDigit, column, columns, spell, digit, isDigit, numberIn};
+ghost use Rattle.page.specs.Column.{zeroDigit, column, columns, spell, digit, isDigit, numberIn, numberThen};
 
 const SPACE: u8 = 0x20;
 
@@ -122,4 +123,15 @@ pub fn get_at(src: &[u8], at: usize, w: usize) -> Number
     ensures { λ r. ⌜ r ≡ numberIn (part (old src) at w) ⌝ }
 {
     get(&src[at..at + w])
+}
+
+// Whether the columns of src hold a number from 1 on.
+pub fn is_from_one(src: &[u8]) -> bool
+    requires { ⌜ (1 ≤ length (now src)) × (length (now src) ≤ 8) ⌝ }
+    ensures { λ r. ⌜ r ≡ numberThen (numberIn (old src)) false (leb 1) ⌝ }
+{
+    match get(src) {
+        Number::Is(n) => 1 <= n,
+        Number::Misspelt => false,
+    }
 }

@@ -5,10 +5,12 @@ use crate::Header;
 use crate::bytes;
 use crate::headers;
 ghost use mathlib.Core.Path.{_≡_};
+ghost use mathlib.Core.Bool.{true};
 ghost use lib.ListN.{length};
 ghost use Rattle.base.specs.Lent.{old};
 ghost use Rattle.page.specs.Frame.{pageSize};
-ghost use Rattle.page.specs.Form.{isEmpty, closed, formOf};
+ghost use Rattle.page.specs.Header.{nodeFrame, inRange};
+ghost use Rattle.page.specs.Form.{isEmpty, closed, formOf, wholeWith, wholeNode};
 
 // Whether all bytes are FFh. The loop has no other way out, so that it goes over many bytes at once.
 fn all_erased(bytes: &[u8]) -> bool
@@ -65,4 +67,20 @@ pub fn form(page: &[u8]) -> Form
             }
         }
     }
+}
+
+// Whether a page is whole, with the header of f.
+pub fn is_whole_with(page: &[u8], f: Frame) -> bool
+    requires { ⌜ (length (now page) ≡ pageSize) × (inRange f ≡ true) ⌝ }
+    ensures { λ r. ⌜ r ≡ wholeWith f (formOf (old page)) ⌝ }
+{
+    headers::is_header_of(&page[0..Frame::HEADER], f) & is_closed(page)
+}
+
+// Whether a page is a whole node with these fields, of any sequence.
+pub fn is_whole_node(page: &[u8], file: u32, offset: u32, position: u32) -> bool
+    requires { ⌜ (length (now page) ≡ pageSize) × (inRange (nodeFrame 1 file offset position) ≡ true) ⌝ }
+    ensures { λ r. ⌜ r ≡ wholeNode file offset position (formOf (old page)) ⌝ }
+{
+    headers::is_node_of(&page[0..Frame::HEADER], file, offset, position) & is_closed(page)
 }

@@ -13,7 +13,7 @@ ghost use Rattle.base.specs.Lent.{old, new};
 ghost use Rattle.base.specs.Part.{part};
 ghost use Rattle.base.specs.Each.{same};
 ghost use Rattle.page.specs.Frame.{headerSize, colonSpace};
-ghost use Rattle.page.specs.Header.{lastNumber, isKind, within, inPlan, nodeRanges, cutOffRanges, keysRanges, commitRanges, inRange, headerBytes, headerOf};
+ghost use Rattle.page.specs.Header.{lastNumber, isKind, within, inPlan, nodeRanges, cutOffRanges, keysRanges, commitRanges, inRange, nodeFrame, headerBytes, headerOf, headerWith, nodeWith};
 
 // Where each number's columns start and how many there are; the kind letter is before them, colon and space after them.
 const NUMBER_AT: usize = 1;
@@ -188,4 +188,26 @@ pub fn read_header(src: &[u8]) -> Header
         return Header::Invalid;
     }
     read_fields(src)
+}
+
+// Whether 30 bytes are the header of f: they are compared with its spelling.
+pub fn is_header_of(src: &[u8], f: Frame) -> bool
+    requires { ⌜ (length (now src) ≡ headerSize) × (inRange f ≡ true) ⌝ }
+    ensures { λ r. ⌜ r ≡ headerWith f (headerOf (old src)) ⌝ }
+{
+    let mut expected = [0u8; Frame::HEADER];
+    write_header(&mut expected, f);
+    bytes::same(src, &expected)
+}
+
+// Whether 30 bytes are the header of a node with these fields: only the sequence is read.
+pub fn is_node_of(src: &[u8], file: u32, offset: u32, position: u32) -> bool
+    requires { ⌜ (length (now src) ≡ headerSize) × (inRange (nodeFrame 1 file offset position) ≡ true) ⌝ }
+    ensures { λ r. ⌜ r ≡ nodeWith file offset position (headerOf (old src)) ⌝ }
+{
+    let mut expected = [0u8; Frame::HEADER];
+    write_header(&mut expected, Frame::node(1, file, offset, position));
+    (src[0] == Frame::NODE_LETTER)
+        & bytes::same(&src[UNIT_AT..Frame::HEADER], &expected[UNIT_AT..Frame::HEADER])
+        & columns::is_from_one(&src[NUMBER_AT..UNIT_AT])
 }

@@ -2,7 +2,7 @@
 use crate::Place;
 ghost use mathlib.Core.Path.{_≡_};
 ghost use Prim.Native.Nat.{_≤_, _<_, _+_};
-ghost use Rattle.page.specs.Plan.{filePlan, lastFile, countOf, startOf, placeOf};
+ghost use Rattle.page.specs.Plan.{filePlan, lastFile, places, countOf, startOf, placeOf};
 
 // The counts of files 0 to 13, and for each file the sum of the counts before it.
 const COUNTS: [u32; 14] = [32, 32, 24, 24, 16, 16, 16, 16, 8, 8, 8, 8, 8, 8];
@@ -59,4 +59,19 @@ pub fn place(file: u32, offset: u32) -> Place
     } else {
         Place::Outside
     }
+}
+
+// The file of a place.
+pub fn file_at(x: usize) -> u32
+    requires { ⌜ x < places ⌝ }
+    ensures { λ r. ⌜ (r ≤ lastFile) × (startOf filePlan r ≤ x) × (x < startOf filePlan r + countOf filePlan r) ⌝ }
+{
+    let mut file: u32 = 0;
+    while file < LAST_FILE {
+        if x < start(file + 1) as usize {
+            return file;
+        }
+        file += 1;
+    }
+    file
 }

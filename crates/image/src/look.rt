@@ -8,7 +8,7 @@ ghost use lib.ListN.{length};
 ghost use Rattle.base.specs.Lent.{old};
 ghost use Rattle.page.specs.Frame.{pageSize, payloadSize};
 ghost use Rattle.page.specs.Page.{payloadOf};
-ghost use Rattle.image.specs.Size.{blockSize, blocks, sizeRight};
+ghost use Rattle.image.specs.Size.{blockSize, blocks, pages as pagesIn, sizeRight};
 ghost use Rattle.image.specs.Look.{pageAt, formAt, pageEmpty, blockEmpty, lowestEmpty, emptyBlocks};
 
 // A block has 4,096 bytes, 16 pages.
@@ -42,6 +42,22 @@ pub fn form_at(image: &[u8], g: usize) -> Form
 {
     let at = g * Frame::PAGE;
     forms::form(&image[at..at + Frame::PAGE])
+}
+
+// The bytes of page g.
+pub fn page_at<'a>(image: &'a [u8], g: usize) -> &'a [u8]
+    requires { ⌜ g * pageSize + pageSize ≤ length (now image) ⌝ }
+    ensures { λ r. ⌜ (now r ≡ pageAt (old image) g) × (length (now r) ≡ pageSize) ⌝ }
+{
+    let at = g * Frame::PAGE;
+    &image[at..at + Frame::PAGE]
+}
+
+// How many pages the image has.
+pub fn pages(image: &[u8]) -> usize
+    ensures { λ r. ⌜ r ≡ pagesIn (old image) ⌝ }
+{
+    image.len() / Frame::PAGE
 }
 
 // The payload of page g.

@@ -2,6 +2,7 @@
 use Prim.Native.Nat.{ℕ, _*_}
 use mathlib.Core.Bool.{Bool}
 use mathlib.Core.List.{List}
+use lib.ListN.{getD}
 use Rattle.base.specs.Part.{part}
 use Rattle.base.specs.Search.{firstFrom, countFrom}
 use Rattle.page.specs.Frame.{pageSize}
@@ -15,6 +16,10 @@ pageAt img g = part img (g * pageSize) pageSize
 
 unfoldable pub blockAt : List ℕ → ℕ → List ℕ
 blockAt img b = part img (b * blockSize) blockSize
+
+-- the byte of page g where its kind letter stands
+abbrev pub letterAt : List ℕ → ℕ → ℕ
+letterAt img g = getD img (g * pageSize) 0
 
 unfoldable pub formAt : List ℕ → ℕ → Form
 formAt img g = formOf (pageAt img g)

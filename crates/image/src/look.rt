@@ -9,7 +9,7 @@ ghost use Rattle.base.specs.Lent.{old};
 ghost use Rattle.page.specs.Frame.{pageSize, payloadSize};
 ghost use Rattle.page.specs.Page.{payloadOf};
 ghost use Rattle.image.specs.Size.{blockSize, blocks, pages as pagesIn, sizeRight};
-ghost use Rattle.image.specs.Look.{pageAt, formAt, pageEmpty, blockEmpty, lowestEmpty, emptyBlocks};
+ghost use Rattle.image.specs.Look.{pageAt, letterAt, formAt, pageEmpty, blockEmpty, lowestEmpty, emptyBlocks};
 
 // A block has 4,096 bytes, 16 pages.
 pub const BLOCK_SIZE: usize = 4096;
@@ -51,6 +51,14 @@ pub fn page_at<'a>(image: &'a [u8], g: usize) -> &'a [u8]
 {
     let at = g * Frame::PAGE;
     &image[at..at + Frame::PAGE]
+}
+
+// The byte of page g where its kind letter stands.
+pub fn letter_at(image: &[u8], g: usize) -> u8
+    requires { ⌜ g * pageSize + pageSize ≤ length (now image) ⌝ }
+    ensures { λ r. ⌜ r ≡ letterAt (old image) g ⌝ }
+{
+    image[g * Frame::PAGE]
 }
 
 // How many pages the image has.

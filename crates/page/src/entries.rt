@@ -11,11 +11,12 @@ ghost use Prim.Native.Nat.{_≤_, _<_, _+_, _*_};
 ghost use lib.ListN.{length, getD};
 ghost use Rattle.base.specs.Lent.{old, new};
 ghost use Rattle.base.specs.Part.{part};
+ghost use Rattle.base.specs.Each.{same};
 ghost use Rattle.base.specs.Search.{allFrom};
 ghost use Rattle.page.specs.Frame.{payloadSize};
 ghost use Rattle.page.specs.Plan.{places};
 ghost use Rattle.page.specs.Key.{positions};
-ghost use Rattle.page.specs.Entry.{isLetter, entrySize, entriesInPart, parts, entryBytes, entryOf, isEntry, entryPart, entryAt, entriesFrom, commitPayload, validPayload};
+ghost use Rattle.page.specs.Entry.{isLetter, vacantEntry, entrySize, entriesInPart, parts, entryBytes, entryOf, isEntry, entryPart, entryAt, entriesFrom, commitPayload, validPayload};
 
 // The letters of a key position: free, used, deleted.
 pub const FREE: u8 = b'f';
@@ -60,12 +61,20 @@ pub fn write_entry(dst: &mut [u8], page: u16, key: u16)
     }
 }
 
+// Whether 8 bytes are the vacant entry.
+fn is_vacant(src: &[u8]) -> bool
+    requires { ⌜ length (now src) ≡ entrySize ⌝ }
+    ensures { λ r. ⌜ r ≡ same (old src) vacantEntry ⌝ }
+{
+    bytes::same(src, b"   -   -")
+}
+
 // The entry that 8 bytes are.
 pub fn read_entry(src: &[u8]) -> Entry
     requires { ⌜ length (now src) ≡ entrySize ⌝ }
     ensures { λ r. ⌜ r ≡ entryOf (old src) ⌝ }
 {
-    if bytes::same(src, b"   -   -") {
+    if is_vacant(src) {
         return Entry::Vacant;
     }
     let Number::Is(page) = columns::get(&src[0..4]) else {
@@ -143,11 +152,14 @@ fn all_letters(payload: &[u8]) -> bool
     all
 }
 
-// Whether 8 bytes are an entry.
+// Whether 8 bytes are an entry. Most are vacant.
 fn is_entry(src: &[u8]) -> bool
     requires { ⌜ length (now src) ≡ entrySize ⌝ }
     ensures { λ r. ⌜ r ≡ isEntry (entryOf (old src)) ⌝ }
 {
+    if is_vacant(src) {
+        return true;
+    }
     match read_entry(src) {
         Entry::At(_, _) => true,
         Entry::Vacant => true,

@@ -8,12 +8,12 @@ use crate::keys;
 use crate::plan;
 ghost use mathlib.Core.Path.{_≡_};
 ghost use mathlib.Core.Bool.{true, _||_};
-ghost use lib.ListN.{length, getD};
+ghost use lib.ListN.{length};
 ghost use Rattle.base.specs.Lent.{old, new};
 ghost use Rattle.base.specs.Part.{part};
 ghost use Rattle.base.specs.Each.{same};
-ghost use Rattle.page.specs.Frame.{pageSize, headerSize, colonSpace};
-ghost use Rattle.page.specs.Header.{lastNumber, kindAt, isKind, within, inPlan, nodeRanges, cutOffRanges, keysRanges, commitRanges, inRange, nodeFrame, headerBytes, headerOf, headerWith, nodeWith};
+ghost use Rattle.page.specs.Frame.{headerSize, colonSpace};
+ghost use Rattle.page.specs.Header.{lastNumber, isKind, within, inPlan, nodeRanges, cutOffRanges, keysRanges, commitRanges, inRange, nodeFrame, headerBytes, headerOf, headerWith, nodeWith};
 
 // Where each number's columns start and how many there are; the kind letter is before them, colon and space after them.
 const NUMBER_AT: usize = 1;
@@ -210,12 +210,4 @@ pub fn is_node_of(src: &[u8], file: u32, offset: u32, position: u32) -> bool
     (src[0] == Frame::NODE_LETTER)
         & bytes::same(&src[UNIT_AT..Frame::HEADER], &expected[UNIT_AT..Frame::HEADER])
         & columns::is_from_one(&src[NUMBER_AT..UNIT_AT])
-}
-
-// The byte of a page where its kind letter stands.
-pub fn letter(page: &[u8]) -> u8
-    requires { ⌜ length (now page) ≡ pageSize ⌝ }
-    ensures { λ r. ⌜ r ≡ getD (old page) kindAt 0 ⌝ }
-{
-    page[0]
 }

@@ -27,7 +27,9 @@ use Rattle.page.specs.declared.Header.{Header}
 use Rattle.page.specs.declared.Header.the-variants.{Is, Invalid}
 use Rattle.page.specs.declared.Form.{Form}
 use Rattle.page.specs.declared.Form.the-variants.{Empty, Whole, Torn, Spoilt}
+use Rattle.page.proofs.Ranges.{keys-range as keys-fields, commit-range as commit-fields}
 use Rattle.page.proofs.HeaderLaws.{header-spelt}
+pub use Rattle.page.proofs.HeaderTests.{same-frame, frame-same, whole-with, with-whole}
 use Rattle.image.specs.Size.{blockSize, pagesInBlock, blocks}
 use Rattle.image.specs.Look.{pageAt, formAt, pageEmpty}
 use Rattle.store.specs.Kind.{pageIn, sameFrame, wholeWith, keyBlockWhole, commitBlockWhole, isBlockLetter, kindOfFirst, kindOf, isEventLetter, headed, isChosen, isData, hasEvents}
@@ -178,39 +180,16 @@ form-empty img g e = go (headerOf (part (pageAt img g) 0 headerSize)) e
     go (Is f) e = absurd (let q = header-in (Is f) (pageAt img g) in let z : _≡_ {A = ℕ} 0 1 = cc (ap headerIn e) in omega arith)
     go Invalid e = by-test (isEmpty (pageAt img g)) e
 
--- ---- headers field by field
-frame-is : (f h : Frame) → f .kind ≡ h .kind → f .number ≡ h .number → f .unit ≡ h .unit → f .part ≡ h .part → f .key ≡ h .key → f .second ≡ h .second → f ≡ h
-frame-is f h a b c d k l = λ i. record { kind = a i; number = b i; unit = c i; part = d i; key = k i; second = l i }
+-- ---- the headers that a block's pages must have, by that of its page 0
+pub keys-ranged : (img : List ℕ) (g e q i : ℕ) → wholeWith (keysFrame e q 0) (formAt img g) ≡ true → i < pagesInBlock → inRange (keysFrame e q i) ≡ true
+keys-ranged img g e q i w h =
+    let r = keys-fields (keysFrame e q 0) refl .0 (whole-in-range img g (keysFrame e q 0) (whole-with (keysFrame e q 0) (formAt img g) w)) in
+    keys-fields (keysFrame e q i) refl .1 (record { from-one = r .from-one; number = r .number; block = r .block; page = omega arith; key = refl; second = refl })
 
-pub same-frame : (f h : Frame) → sameFrame f h ≡ true → f ≡ h
-same-frame f h e =
-    let a = and-true _ (eqb (f .second) (h .second)) e in
-    let b = and-true _ (eqb (f .key) (h .key)) (a .0) in
-    let c = and-true _ (eqb (f .part) (h .part)) (b .0) in
-    let d = and-true _ (eqb (f .unit) (h .unit)) (c .0) in
-    let g = and-true (eqb (f .kind) (h .kind)) (eqb (f .number) (h .number)) (d .0) in
-    frame-is f h (eqb-true _ _ (g .0)) (eqb-true _ _ (g .1)) (eqb-true _ _ (d .1)) (eqb-true _ _ (c .1)) (eqb-true _ _ (b .1)) (eqb-true _ _ (a .1))
-
-pub frame-same : (f h : Frame) → f ≡ h → sameFrame f h ≡ true
-frame-same f h e =
-    rw e
-    (rw (
-      eq-eqb (h .kind) (h .kind) refl,
-      eq-eqb (h .number) (h .number) refl,
-      eq-eqb (h .unit) (h .unit) refl,
-      eq-eqb (h .part) (h .part) refl,
-      eq-eqb (h .key) (h .key) refl,
-      eq-eqb (h .second) (h .second) refl,
-    ))
-
-pub whole-with : (h : Frame) (m : Form) → wholeWith h m ≡ true → m ≡ Whole h
-whole-with h Empty e = absurd (true-false e refl)
-whole-with h (Whole f) e = ap Whole (same-frame f h e)
-whole-with h (Torn f) e = absurd (true-false e refl)
-whole-with h Spoilt e = absurd (true-false e refl)
-
-pub with-whole : (h : Frame) (m : Form) → m ≡ Whole h → wholeWith h m ≡ true
-with-whole h m e = rw e (frame-same h h refl)
+pub commit-ranged : (img : List ℕ) (g e s i : ℕ) → wholeWith (commitFrame e 0 s) (formAt img g) ≡ true → i < parts → inRange (commitFrame e i s) ≡ true
+commit-ranged img g e s i w h =
+    let r = commit-fields (commitFrame e 0 s) refl .0 (whole-in-range img g (commitFrame e 0 s) (whole-with (commitFrame e 0 s) (formAt img g) w)) in
+    commit-fields (commitFrame e i s) refl .1 (record { from-one = r .from-one; number = r .number; unit = refl; part = omega arith; key = refl; covered = r .covered })
 
 -- ---- whole key blocks and whole commit blocks
 -- every page is whole, and the one that its number says, of one key block and epoch

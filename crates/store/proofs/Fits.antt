@@ -9,7 +9,7 @@ use lib.Dec.{eqb, leb, ltb}
 use lib.ListN.{length, getD}
 use borrow.Author.Tests.{ltb-true, lt-ltb, leb-true, le-leb, eqb-true, eq-eqb}
 use Rattle.base.specs.Search.{allFrom}
-use Rattle.base.proofs.Choice.{cond-same, and-true, and-intro, true-false}
+use Rattle.base.proofs.Choice.{cond-same, and-true, and-intro, and-assoc, true-false, both-ways}
 use Rattle.base.proofs.Searches.{all-agree, all-holds, all-intro, any-holds, count-any, count-some, count-unique, unique-count}
 use Rattle.page.specs.Plan.{filePlan, places, placeOf}
 use Rattle.page.specs.Header.{nodeLetter, lastNumber, lastPosition, within, inPlan, nodeRanges, inRange}
@@ -20,6 +20,8 @@ use Rattle.page.specs.declared.Form.{Form}
 use Rattle.page.specs.declared.Form.the-variants.{Empty, Whole, Torn, Spoilt}
 use Rattle.page.specs.declared.Place.{Place}
 use Rattle.page.specs.declared.Place.the-variants.{At, Outside}
+use Rattle.page.specs.Form.{wholeNode}
+use Rattle.page.proofs.Plans.{place-unique}
 use Rattle.page.proofs.Ranges.{within-true, within-intro}
 use Rattle.image.proofs.Looks.{sized}
 use Rattle.image.specs.Size.{blockSize, blocks, pages, sizeRight}
@@ -55,6 +57,36 @@ node-key f k r =
     let n : nodeRanges f ≡ true = rw k at r in
     let a = and-true (within 1 lastNumber (f .number) && inPlan f && leb (f .key) lastPosition) (eqb (f .second) 0) n in
     leb-true _ _ (and-true (within 1 lastNumber (f .number) && inPlan f) (leb (f .key) lastPosition) (a .0) .1)
+
+-- a whole node with the file and the offset of place x is one of place x
+pub fields-node : (x p file offset : ℕ) → placeOf filePlan file offset ≡ At x → (m : Form) → wholeNode file offset p m ≡ nodeAt x p m
+fields-node x p file offset e Empty = refl
+fields-node x p file offset e (Whole f) =
+    let place = isAt x (placeOf filePlan (f .unit) (f .part)) in
+    let q : eqb (f .unit) file && eqb (f .part) offset ≡ place = both-ways _ _
+    (λ t. let a = and-true (eqb (f .unit) file) (eqb (f .part) offset) t in rw (eqb-true (f .unit) file (a .0), eqb-true (f .part) offset (a .1), e) (eq-eqb x x refl))
+    (λ t. let u = place-unique filePlan (f .unit) (f .part) file offset x (is-at x _ t) e in and-intro _ _ (eq-eqb _ _ (u .0)) (eq-eqb _ _ (u .1))) in
+    ap (λ (b : Bool). b && eqb (f .key) p)
+    (sym (and-assoc (eqb (f .kind) nodeLetter) (eqb (f .unit) file) (eqb (f .part) offset)) ∙ ap (λ (b : Bool). eqb (f .kind) nodeLetter && b) q)
+fields-node x p file offset e (Torn f) = refl
+fields-node x p file offset e Spoilt = refl
+
+-- no node names a position past the last
+pub key-beyond : (img : List ℕ) (g x p : ℕ) → lastPosition < p → nodeAt x p (formAt img g) ≡ false
+key-beyond img g x p h = go (formAt img g) refl
+  where
+    none-named : (f : Frame) (t : Bool) → formAt img g ≡ Whole f → nodeAt x p (Whole f) ≡ t → t ≡ false
+    none-named f false e q = refl
+    none-named f true e q =
+        let a = and-true (eqb (f .kind) nodeLetter && isAt x (placeOf filePlan (f .unit) (f .part))) (eqb (f .key) p) q in
+        let b = and-true (eqb (f .kind) nodeLetter) (isAt x (placeOf filePlan (f .unit) (f .part))) (a .0) in
+        absurd (omega (arith, node-key f (eqb-true (f .kind) nodeLetter (b .0)) (whole-in-range img g f e), eqb-true (f .key) p (a .1)))
+
+    go : (m : Form) → formAt img g ≡ m → nodeAt x p m ≡ false
+    go Empty e = refl
+    go (Whole f) e = none-named f _ e refl
+    go (Torn f) e = refl
+    go Spoilt e = refl
 
 module _ (img map : List ℕ) (x : ℕ) where
   node-at : (m : Form) → formAt img (pageOf map x) ≡ m → nodeAt x (keyOf map x) m ≡ true → Named img map x

@@ -2,18 +2,14 @@
 use Prim.Native.Nat.{ℕ, _+_, _-_, _*_, _<_, _≤_}
 use native.Mathlib.Omega.{arith}
 use native.Mathlib.Decide.{decLt}
-use mathlib.Core.Path.{_≡_, refl, sym, ap, _∙_}
+use mathlib.Core.Path.{_≡_, refl}
 use mathlib.Core.Bool.{Bool, true, false, cond, _&&_, and-false}
 use mathlib.Core.List.{List}
-use lib.ListN.{length, getD, getD-replicate}
 use Rattle.base.specs.Search.{firstFrom, allFrom, anyFrom}
 use Rattle.base.proofs.Choice.{true-false}
 use Rattle.base.proofs.Searches.{first-all, first-agree, all-holds, all-intro, first-is, two-pass}
-use Rattle.base.proofs.Parts.{part-at}
-use Rattle.page.specs.Frame.{pageSize, erased}
-use Rattle.image.specs.Size.{blockSize, pagesInBlock, blocks}
-use Rattle.image.specs.Look.{pageAt, pageEmpty, blockEmpty, lowestEmpty, emptyBlocks}
-use Rattle.image.proofs.Empties.{empty-page}
+use Rattle.image.specs.Size.{pagesInBlock, blocks}
+use Rattle.image.specs.Look.{pageEmpty, blockEmpty, lowestEmpty, emptyBlocks}
 use Rattle.store.specs.Kind.{pageIn, isData}
 use Rattle.store.specs.Find.{isOpen, freshPage}
 use Rattle.store.specs.declared.Numbers.{Numbers}
@@ -21,14 +17,6 @@ use Rattle.store.specs.declared.Found.the-variants.{At, Nothing}
 use Rattle.store.proofs.BlockKinds.{page-block}
 
 -- ---- the open pages of a block
--- the first byte of an empty page
-first-erased : (img : List ℕ) (g : ℕ) → g * pageSize + pageSize ≤ length img → pageEmpty img g ≡ true → getD img (g * pageSize) 0 ≡ erased
-unfolding pageAt
-first-erased img g h e =
-    let z : g * pageSize + 0 ≡ g * pageSize = omega arith in
-    ap (λ (a : ℕ). getD img a 0) (sym z) ∙ sym (part-at img (g * pageSize) pageSize 0 0 (omega arith))
-    ∙ ap (λ (page : List ℕ). getD page 0 0) (empty-page img g h e) ∙ getD-replicate pageSize 0 erased 0 (omega arith)
-
 -- page i of block b is empty, and so is each after it
 abbrev pub emptyFrom : List ℕ → ℕ → ℕ → Bool
 emptyFrom img b i = allFrom (pageEmpty img) (pagesInBlock - i) (pageIn b i)
@@ -69,13 +57,13 @@ module _ (img : List ℕ) (b : ℕ) where
     pub open-other : isData img r b ≡ false → firstFrom (λ i. isOpen img r (pageIn b i)) pagesInBlock 0 ≡ pagesInBlock
     open-other d = first-all _ pagesInBlock 0 (λ i h k. rw (open-in i (omega arith), d))
 
-  -- nor has one whose last page is not empty, as its first byte may tell
-  pub last-full : (r : Numbers) → b * blockSize + blockSize ≤ length img → (getD img (pageIn b (pagesInBlock - 1) * pageSize) 0 ≡ erased → ⊥)
-      → firstFrom (λ i. isOpen img r (pageIn b i)) pagesInBlock 0 ≡ pagesInBlock
-  last-full r h n = first-all _ pagesInBlock 0 (λ i l m. rw (open-in r i (omega arith)) (go (emptyFrom img b i) i refl (omega arith)))
+  -- nor has one whose last page is not empty
+  pub last-full : (r : Numbers) → pageEmpty img (pageIn b (pagesInBlock - 1)) ≡ false → firstFrom (λ i. isOpen img r (pageIn b i)) pagesInBlock 0 ≡ pagesInBlock
+  last-full r n = first-all _ pagesInBlock 0 (λ i l m. rw (open-in r i (omega arith)) (go (emptyFrom img b i) i refl (omega arith)))
     where
       go : (t : Bool) (i : ℕ) → emptyFrom img b i ≡ t → i < pagesInBlock → isData img r b && t ≡ false
-      go true i e k = absurd (n (first-erased img (pageIn b (pagesInBlock - 1)) (omega arith) (all-holds (pageEmpty img) (pagesInBlock - i) (pageIn b i) (pageIn b (pagesInBlock - 1)) e (omega arith) (omega arith))))
+      go true i e k =
+          absurd (true-false (all-holds (pageEmpty img) (pagesInBlock - i) (pageIn b i) (pageIn b (pagesInBlock - 1)) e (omega arith) (omega arith)) n)
       go false i e k = and-false (isData img r b)
 
 -- ---- two empty blocks

@@ -5,6 +5,8 @@ use mathlib.Core.List.{List}
 use lib.Dec.{eqb}
 use Rattle.base.specs.Search.{allFrom, anyFrom}
 use Rattle.page.specs.Header.{nodeLetter, cutOffLetter, keysLetter, commitLetter, keysFrame, commitFrame}
+pub use Rattle.page.specs.Header.{sameFrame}
+pub use Rattle.page.specs.Form.{wholeWith}
 use Rattle.page.specs.Entry.{parts, validPayload}
 use Rattle.page.specs.Page.{payloadOf}
 use Rattle.page.specs.declared.Frame.{Frame}
@@ -19,18 +21,6 @@ use Rattle.store.specs.declared.Kind.the-variants.{Keys, Commit, Other}
 -- page i of block b, as a page of the image
 abbrev pub pageIn : ℕ → ℕ → ℕ
 pageIn b i = b * pagesInBlock + i
-
--- the same header, field by field
-abbrev pub sameFrame : Frame → Frame → Bool
-sameFrame f h =
-    eqb (f .kind) (h .kind) && eqb (f .number) (h .number) && eqb (f .unit) (h .unit) && eqb (f .part) (h .part) && eqb (f .key) (h .key) && eqb (f .second) (h .second)
-
--- a whole page with a given header
-abbrev pub wholeWith : Frame → Form → Bool
-wholeWith h Empty = false
-wholeWith h (Whole f) = sameFrame f h
-wholeWith h (Torn f) = false
-wholeWith h Spoilt = false
 
 -- a whole key block: every page is whole and the one that its number says, of one key block and epoch
 unfoldable pub keyBlockWhole : List ℕ → ℕ → ℕ → ℕ → Bool

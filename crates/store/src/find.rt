@@ -5,7 +5,6 @@ use crate::kinds;
 use image::look;
 use image::look::BLOCK_SIZE;
 use image::look::PAGES_IN_BLOCK;
-use page::Frame;
 use page::entries;
 use page::keys::POSITIONS;
 ghost use mathlib.Core.Path.{_≡_};
@@ -52,15 +51,14 @@ fn empty_from(image: &[u8], b: usize) -> usize
     0
 }
 
-// The lowest open page of block b, counted in the block; its number of pages where there is none. A block whose last page is taken has none, and
-// most blocks are told by that page's first byte.
+// The lowest open page of block b, counted in the block; its number of pages where there is none. A block whose last page is taken has none.
 fn open_from(image: &[u8], numbers: Numbers, b: usize) -> usize
     requires { ⌜ b * blockSize + blockSize ≤ length (now image) ⌝ }
     ensures { λ r. ⌜ (r
         ≡ firstFrom (λ i. isOpen (old image) numbers (pageIn b i)) pagesInBlock 0) × (r ≤ pagesInBlock) ⌝ }
 {
     let last = b * PAGES_IN_BLOCK + (PAGES_IN_BLOCK - 1);
-    if image[last * Frame::PAGE] != Frame::ERASED {
+    if !look::page_empty(image, last) {
         return PAGES_IN_BLOCK;
     }
     if !kinds::is_data(image, numbers, b) {

@@ -2,28 +2,28 @@
 use crate::Numbers;
 use crate::kinds;
 use image::look;
-use page::Form;
-use page::Frame;
-use page::Place;
 use page::entries;
+use page::forms;
+use page::keys;
 use page::keys::POSITIONS;
 use page::plan;
 use page::plan::PLACES;
 ghost use mathlib.Core.Path.{_≡_};
 ghost use mathlib.Core.Bool.{true, cond, Bool·beq, _&&_};
-ghost use Prim.Native.Nat.{ℕ, _<_, _+_, _%_};
+ghost use Prim.Native.Nat.{ℕ, _≤_, _<_, _+_, _*_, _%_};
 ghost use lib.ListN.{length, getD, set, replicate};
 ghost use lib.Dec.{eqb, leb, ltb};
 ghost use Rattle.base.specs.Lent.{old, new};
 ghost use Rattle.base.specs.Search.{allFrom};
 ghost use Rattle.page.specs.Plan.{places};
-ghost use Rattle.page.specs.Header.{lastNumber, within};
+ghost use Rattle.page.specs.Frame.{pageSize};
+ghost use Rattle.page.specs.Header.{lastNumber, lastPosition, within};
 ghost use Rattle.page.specs.Key.{positions};
 ghost use Rattle.page.specs.Entry.{none, isLetter, usedLetter};
 ghost use Rattle.image.specs.Size.{blockSize, sizeRight};
 ghost use Rattle.image.specs.Look.{formAt};
 ghost use Rattle.store.specs.Kind.{kindOf, keysEpoch, commitEpoch};
-ghost use Rattle.store.specs.Record.{recordOf, mapSize, isAt, nodeAt, placeFits, namedTimes, keysApart, lettersFit, numbersFit, blocksFit, fits as recordFits};
+ghost use Rattle.store.specs.Record.{recordOf, mapSize, nodeAt, placeFits, namedTimes, keysApart, lettersFit, numbersFit, blocksFit, fits as recordFits};
 
 // One above the last sequence and the last epoch.
 const LAST_NEXT: u32 = 100_000_000;
@@ -72,51 +72,41 @@ fn blocks_fit(image: &[u8], numbers: Numbers) -> bool
     is_commit(image, numbers.commit)
 }
 
-// Whether a place is x.
-fn is_at(place: Place, x: usize) -> bool
-    ensures { λ r. ⌜ r ≡ isAt x place ⌝ }
+// Whether page g is a whole N page of place x and key position p.
+fn node_at(image: &[u8], g: usize, x: usize, p: u32) -> bool
+    requires { ⌜ (g * pageSize + pageSize ≤ length (now image)) × (x < places) × (p ≤ lastPosition) ⌝ }
+    ensures { λ r. ⌜ r ≡ nodeAt x p (formAt (old image) g) ⌝ }
 {
-    match place {
-        Place::At(y) => y == x,
-        Place::Outside => false,
-    }
+    let file = plan::file_at(x);
+    let offset = x as u32 - plan::start(file);
+    forms::is_whole_node(look::page_at(image, g), file, offset, p)
 }
 
-// Whether a page is a whole N page of place x and key position p.
-fn node_at(form: Form, x: usize, p: u32) -> bool
-    ensures { λ r. ⌜ r ≡ nodeAt x p form ⌝ }
-{
-    match form {
-        Form::Empty => false,
-        Form::Whole(f) => (f.kind == Frame::NODE_LETTER)
-            & is_at(plan::place(f.unit, f.part), x)
-            & (f.key == p),
-        Form::Torn(_) => false,
-        Form::Spoilt => false,
-    }
-}
-
-// Whether place x may have this page and key: none, or a whole N page of its file, offset and key.
+// Whether a page is one of the image and a whole N page of place x and this key.
 fn node_fits(image: &[u8], x: usize, page: u16, key: u16) -> bool
-    requires { ⌜ length (now image) % blockSize ≡ 0 ⌝ }
-    ensures { λ r. ⌜ r ≡ cond (eqb page none && eqb key none) true (nodeAt x key (formAt (old image) page)) ⌝ }
+    requires { ⌜ (length (now image) % blockSize ≡ 0) × (x < places) ⌝ }
+    ensures { λ r. ⌜ r ≡ nodeAt x key (formAt (old image) page) ⌝ }
 {
-    if (page == entries::NONE) & (key == entries::NONE) {
-        return true;
-    }
-    let g = page as usize;
-    if image.len() / Frame::PAGE <= g {
+    if look::pages(image) <= page as usize {
         return false;
     }
-    node_at(look::form_at(image, g), x, key as u32)
+    if keys::LAST_POSITION < key as u32 {
+        return false;
+    }
+    node_at(image, page as usize, x, key as u32)
 }
 
-// Whether place x fits.
+// Whether place x fits: none, or a whole N page of its file, offset and key.
 pub fn place_fits(image: &[u8], map: &[u16], x: usize) -> bool
     requires { ⌜ (length (now image) % blockSize ≡ 0) × (length (now map) ≡ mapSize) × (x < places) ⌝ }
     ensures { λ r. ⌜ r ≡ placeFits (old image) (old map) x ⌝ }
 {
-    node_fits(image, x, map[x], map[PLACES + x])
+    let page = map[x];
+    let key = map[PLACES + x];
+    if (page == entries::NONE) & (key == entries::NONE) {
+        return true;
+    }
+    node_fits(image, x, page, key)
 }
 
 // Whether every place fits.
@@ -179,14 +169,13 @@ fn letters_fit(letters: &[u8], named: &[u8]) -> bool
     ensures { λ r. ⌜ r ≡ allFrom (λ p. isLetter (getD (old letters) p 0) && Bool·beq
         (eqb (getD (old letters) p 0) usedLetter) (leb 1 (getD (old named) p 0))) positions 0 ⌝ }
 {
+    let mut all = true;
     let mut p: usize = 0;
     while p < POSITIONS {
-        if !letter_fits(letters[p], named[p]) {
-            return false;
-        }
+        all = all & letter_fits(letters[p], named[p]);
         p += 1;
     }
-    true
+    all
 }
 
 // Whether map and letters agree: no key is named twice, every letter is one, and u stands at exactly the named positions.

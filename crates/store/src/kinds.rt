@@ -8,13 +8,15 @@ use page::Form;
 use page::Frame;
 use page::entries;
 use page::entries::PARTS;
+use page::forms;
 ghost use mathlib.Core.Path.{_≡_};
-ghost use mathlib.Core.Bool.{cond};
+ghost use mathlib.Core.Bool.{true, cond};
 ghost use Prim.Native.Nat.{_≤_, _<_, _+_, _*_, _-_, _%_};
 ghost use lib.ListN.{length};
 ghost use Rattle.base.specs.Lent.{old};
 ghost use Rattle.base.specs.Search.{allFrom};
 ghost use Rattle.page.specs.Frame.{pageSize};
+ghost use Rattle.page.specs.Header.{commitFrame, inRange};
 ghost use Rattle.page.specs.Entry.{parts, validPayload};
 ghost use Rattle.page.specs.Page.{payloadOf};
 ghost use Rattle.image.specs.Size.{blockSize, pagesInBlock};
@@ -33,24 +35,12 @@ fn same_frame(f: Frame, h: Frame) -> bool
         & (f.second == h.second)
 }
 
-// Whether a page is whole, with this header.
-fn whole_with(form: Form, h: Frame) -> bool
-    ensures { λ r. ⌜ r ≡ wholeWith h form ⌝ }
-{
-    match form {
-        Form::Empty => false,
-        Form::Whole(f) => same_frame(f, h),
-        Form::Torn(_) => false,
-        Form::Spoilt => false,
-    }
-}
-
 // Whether page g is whole, with this header.
 fn page_whole(image: &[u8], g: usize, h: Frame) -> bool
-    requires { ⌜ g * pageSize + pageSize ≤ length (now image) ⌝ }
+    requires { ⌜ (g * pageSize + pageSize ≤ length (now image)) × (inRange h ≡ true) ⌝ }
     ensures { λ r. ⌜ r ≡ wholeWith h (formAt (old image) g) ⌝ }
 {
-    whole_with(look::form_at(image, g), h)
+    forms::is_whole_with(look::page_at(image, g), h)
 }
 
 // Whether block b, whose page 0 is whole with header f, is a whole key block.
@@ -87,7 +77,8 @@ fn payload_valid(image: &[u8], g: usize, i: usize) -> bool
 
 // Whether page i of block b is a whole part i of a commit of epoch e that covers s, with a valid payload.
 fn part_whole(image: &[u8], b: usize, i: usize, e: u32, s: u32) -> bool
-    requires { ⌜ (b * blockSize + blockSize ≤ length (now image)) × (i < parts) ⌝ }
+    requires { ⌜ (b * blockSize + blockSize ≤ length (now image))
+        × (i < parts) × (inRange (commitFrame e i s) ≡ true) ⌝ }
     ensures { λ r. ⌜ r ≡ partWhole (old image) b e s i ⌝ }
 {
     let g = b * PAGES_IN_BLOCK + i;
@@ -182,7 +173,7 @@ pub fn kind_of(image: &[u8], b: usize) -> Kind
     if image.len() / BLOCK_SIZE <= b {
         return Kind::Other;
     }
-    if !is_block_letter(image[b * BLOCK_SIZE]) {
+    if !is_block_letter(look::letter_at(image, b * PAGES_IN_BLOCK)) {
         return Kind::Other;
     }
     match look::form_at(image, b * PAGES_IN_BLOCK) {
@@ -267,7 +258,7 @@ fn event_at(image: &[u8], g: usize) -> bool
     requires { ⌜ g * pageSize + pageSize ≤ length (now image) ⌝ }
     ensures { λ r. ⌜ r ≡ headed (formAt (old image) g) ⌝ }
 {
-    if !is_event_letter(image[g * Frame::PAGE]) {
+    if !is_event_letter(look::letter_at(image, g)) {
         return false;
     }
     is_headed(look::form_at(image, g))

@@ -4,7 +4,7 @@ use crate::Reply;
 use crate::record;
 use crate::replies;
 use crate::tests;
-use page::Frame;
+use image::look;
 use page::entries;
 use page::plan::PLACES;
 use page::writers;
@@ -56,8 +56,7 @@ fn read_node(image: &[u8], numbers: Numbers, g: usize, p: usize, output: &mut [u
     ensures { λ _. ⌜ new output ≡ enciphered (keyHeld (old image) numbers p) (payloadOf (pageAt (old image) g)) ⌝ }
 {
     let key = record::key_held(image, numbers, p);
-    let start = g * Frame::PAGE;
-    writers::read_payload(&image[start..start + Frame::PAGE], key, output);
+    writers::read_payload(look::page_at(image, g), key, output);
 }
 
 // Reads the content of place x.

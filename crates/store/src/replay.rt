@@ -263,7 +263,7 @@ fn replay_page(
         (pass (old map) (old letters) (old scratch) (old events) highest)
         (pass (new map) (new letters) (new scratch) (new events) r) ⌝ }
 {
-    if !kinds::is_event_letter(image[g * Frame::PAGE]) {
+    if !kinds::is_event_letter(look::letter_at(image, g)) {
         return highest;
     }
     let form = look::form_at(image, g);

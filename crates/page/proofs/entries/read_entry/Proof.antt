@@ -6,15 +6,12 @@ use Rattle.page.specs.Entry.{entryOf}
 use Rattle.page.proofs.entries.read_entry.Statement.{statement}
 use Rattle.page.proofs.entries.read_entry.Tie as tie
 
-slice-aggregate-same : tie.Need-slice-aggregate-same
-slice-aggregate-same c = search needs
-
-same-requires : tie.Need-same-requires
-same-requires c κs = search needs
+is-vacant-requires : tie.Need-is-vacant-requires
+is-vacant-requires c κs = search needs
 
 returns : tie.Need-returns
 unfolding entryOf part
-returns c = rw (← c .before .same .ensures, c .if1 .taken)
+returns c = rw (← c .before .is-vacant .ensures, c .if1 .taken)
 
 sub-get : tie.Need-sub-get
 sub-get c = search needs
@@ -37,7 +34,7 @@ enum-told c = search needs
 returns-2 : tie.Need-returns-2
 unfolding entryOf part
 returns-2 c =
-    rw (← c .before .before .before .before .before .same .ensures, c .before .before .before .before .if1 .left, ← c .before .before .get .ensures, c .enum-told .given .1)
+    rw (← c .before .before .before .before .before .is-vacant .ensures, c .before .before .before .before .if1 .left, ← c .before .before .get .ensures, c .enum-told .given .1)
 
 sub-get-2 : tie.Need-sub-get-2
 sub-get-2 c = search needs
@@ -61,7 +58,7 @@ returns-3 : tie.Need-returns-3
 unfolding entryOf part
 returns-3 c =
     rw (
-      ← c .before .before .before .before .before .before .before .before .before .before .same .ensures,
+      ← c .before .before .before .before .before .before .before .before .before .before .is-vacant .ensures,
       c .before .before .before .before .before .before .before .before .before .if1 .left,
       ← c .before .before .before .before .before .before .before .get .ensures,
       c .before .before .before .before .before .page .given .1,
@@ -73,7 +70,7 @@ returns-4 : tie.Need-returns-4
 unfolding entryOf part
 returns-4 c =
     rw (
-      ← c .before .before .before .before .before .before .before .before .before .before .before .before .same .ensures,
+      ← c .before .before .before .before .before .before .before .before .before .before .before .before .is-vacant .ensures,
       c .before .before .before .before .before .before .before .before .before .before .before .if1 .left,
       ← c .before .before .before .before .before .before .before .before .before .get .ensures,
       c .before .before .before .before .before .before .before .page .given .1,
@@ -86,7 +83,7 @@ returns-5 : tie.Need-returns-5
 unfolding entryOf part
 returns-5 c =
     rw (
-      ← c .before .before .before .before .before .before .before .before .before .before .before .before .before .same .ensures,
+      ← c .before .before .before .before .before .before .before .before .before .before .before .before .before .is-vacant .ensures,
       c .before .before .before .before .before .before .before .before .before .before .before .before .if1 .left,
       ← c .before .before .before .before .before .before .before .before .before .before .get .ensures,
       c .before .before .before .before .before .before .before .before .page .given .1,
@@ -100,7 +97,7 @@ returns-6 : tie.Need-returns-6
 unfolding entryOf part
 returns-6 c =
     rw (
-      ← c .before .before .before .before .before .before .before .before .before .before .before .before .before .same .ensures,
+      ← c .before .before .before .before .before .before .before .before .before .before .before .before .before .is-vacant .ensures,
       c .before .before .before .before .before .before .before .before .before .before .before .before .if1 .left,
       ← c .before .before .before .before .before .before .before .before .before .before .get .ensures,
       c .before .before .before .before .before .before .before .before .page .given .1,
@@ -114,8 +111,7 @@ pub read-entry-spec : {M : Type 1} → statement M
 read-entry-spec =
     tie.close
     (tie.spec
-    slice-aggregate-same
-    same-requires
+    is-vacant-requires
     returns
     sub-get
     part-get-start

@@ -1,4 +1,4 @@
--- A block whose last page begins with another byte than FFh has none, nor has one that is no data block; in a data block they are the empty ones at its end.
+-- A block whose last page is not empty has none, nor has one that is no data block; in a data block they are the empty ones at its end.
 use native.Mathlib.Omega.{arith}
 use mathlib.Core.Path.{sym, _∙_}
 use borrow.Author.Needs.{needs}
@@ -16,17 +16,13 @@ sub-last c = search needs
 add-last : tie.Need-add-last
 add-last c = search needs
 
-mul-if1 : tie.Need-mul-if1
-mul-if1 c = search needs
-
-shared-slice-read-if1 : tie.Need-shared-slice-read-if1
-shared-slice-read-if1 c = search needs
+page-empty-requires : tie.Need-page-empty-requires
+page-empty-requires c κs = search needs
 
 returns : tie.Need-returns
 returns c =
-    let s = c .before .before .before in
-    let a = s .args in
-    (sym (last-full (a .image .now) (a .b) (a .numbers) (s .pre) (c .if1 .taken)), omega arith)
+    let a = c .before .before .before .args in
+    (sym (last-full (a .image .now) (a .b) (a .numbers) (failed (c .before .page-empty .ensures) (c .if1 .taken))), omega arith)
 
 is-data-requires : tie.Need-is-data-requires
 is-data-requires c κs = search needs
@@ -52,8 +48,7 @@ open-from-spec =
     mul-last
     sub-last
     add-last
-    mul-if1
-    shared-slice-read-if1
+    page-empty-requires
     returns
     is-data-requires
     returns-2

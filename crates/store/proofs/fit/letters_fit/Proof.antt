@@ -1,15 +1,16 @@
--- `store::fit::letters_fit` meets its contract: all fit where those left do.
+-- `store::fit::letters_fit` meets its contract: all fit where those passed do and those from p on.
 use borrow.Author.Needs.{needs}
 use Prim.Native.Nat.{ℕ, _≤_, _-_}
 use native.Mathlib.Omega.{arith}
 use mathlib.Core.Path.{_≡_, refl, sym, _∙_}
 use mathlib.Core.Bool.{Bool, Bool·beq, _&&_}
 use mathlib.Core.List.{List}
+use denote.Ref.{now}
 use lib.Dec.{eqb, leb}
 use lib.ListN.{getD}
-use borrow.Author.Tests.{not-true, not-false}
 use Rattle.base.specs.Search.{allFrom}
-use Rattle.base.proofs.Searches.{all-next, all-fails, all-none}
+use Rattle.base.proofs.Choice.{and-assoc, and-passed}
+use Rattle.base.proofs.Searches.{all-step, all-none}
 use Rattle.page.specs.Key.{positions}
 use Rattle.page.specs.Entry.{isLetter, usedLetter}
 use Rattle.store.proofs.fit.letters_fit.Statement.{statement}
@@ -20,10 +21,11 @@ abbrev letterAt : List ℕ → List ℕ → ℕ → Bool
 letterAt letters named p = isLetter (getD letters p 0) && Bool·beq (eqb (getD letters p 0) usedLetter) (leb 1 (getD named p 0))
 
 abbrev Inv-loop : tie.InvT-loop
-Inv-loop letters named p₀ p = (p ≤ positions) × (allFrom (letterAt letters named) positions 0 ≡ allFrom (letterAt letters named) (positions - p) p)
+Inv-loop letters named all₀ p₀ all p =
+    (p ≤ positions) × (allFrom (letterAt letters named) positions 0 ≡ all && allFrom (letterAt letters named) (positions - p) p)
 
 abbrev μ-loop : tie.MeasureT-loop
-μ-loop letters named p₀ p = positions - p
+μ-loop letters named all₀ p₀ all p = positions - p
 
 loop-holds : tie.Need-loop-holds Inv-loop μ-loop
 loop-holds c = (omega arith, refl)
@@ -37,11 +39,6 @@ shared-slice-read-letter-fits-2 c = search needs
 letter-fits-requires : tie.Need-letter-fits-requires Inv-loop μ-loop
 letter-fits-requires c κs = search needs
 
-returns : tie.Need-returns Inv-loop μ-loop
-returns c =
-    let l = c .before .before .before .before .before .loop in
-    sym (l .inv .1 ∙ all-fails _ positions (l .p) (omega arith) (sym (c .before .letter-fits .ensures) ∙ not-true _ (c .if1 .taken)))
-
 add-p : tie.Need-add-p Inv-loop μ-loop
 add-p c = search needs
 
@@ -50,11 +47,17 @@ loop-less c = search needs
 
 loop-again : tie.Need-loop-again Inv-loop μ-loop
 loop-again c =
-    let l = c .before .before .before .before .before .loop in
-    (omega arith, l .inv .1 ∙ all-next _ positions (l .p) (omega arith) (sym (c .before .letter-fits .ensures) ∙ not-false _ (c .if1 .left)))
+    let l = c .before .before .before .before .loop in
+    let a = c .before .before .before .before .before .before .before .args in (
+      omega arith,
+      l .inv .1 ∙ rw (all-step (letterAt (now (a .letters)) (now (a .named))) positions (l .p) (omega arith), c .letter-fits .ensures) (and-assoc (l .all) _ _),
+    )
 
-returns-2 : tie.Need-returns-2 Inv-loop μ-loop
-returns-2 c = sym (c .before .loop .inv .1 ∙ all-none _ positions (c .before .loop .p) (c .loop-test .left))
+returns : tie.Need-returns Inv-loop μ-loop
+returns c =
+    let l = c .before .loop in
+    let a = c .before .before .before .before .args in
+    sym (l .inv .1 ∙ rw (all-none (letterAt (now (a .letters)) (now (a .named))) positions (l .p) (c .loop-test .left)) (and-passed (l .all)))
 
 pub letters-fit-spec : {M : Type 1} → statement M
 letters-fit-spec =
@@ -66,8 +69,7 @@ letters-fit-spec =
     shared-slice-read-letter-fits
     shared-slice-read-letter-fits-2
     letter-fits-requires
-    returns
     add-p
     loop-less
     loop-again
-    returns-2)
+    returns)

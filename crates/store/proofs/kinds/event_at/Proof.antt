@@ -1,17 +1,14 @@
 -- A page whose first byte is no N and no D is none; of any other the form tells.
 use mathlib.Core.Path.{sym, ap, _∙_}
 use borrow.Author.Needs.{needs}
-use Rattle.store.specs.Kind.{headed}
+use Rattle.store.specs.Kind.{isEventLetter, headed}
 use Rattle.store.proofs.BlockKinds.{unheaded}
 use Rattle.store.proofs.Refusals.{failed}
 use Rattle.store.proofs.kinds.event_at.Statement.{statement}
 use Rattle.store.proofs.kinds.event_at.Tie as tie
 
-mul-is-event-letter : tie.Need-mul-is-event-letter
-mul-is-event-letter c = search needs
-
-shared-slice-read-is-event-letter : tie.Need-shared-slice-read-is-event-letter
-shared-slice-read-is-event-letter c = search needs
+letter-at-requires : tie.Need-letter-at-requires
+letter-at-requires c κs = search needs
 
 is-event-letter-requires : tie.Need-is-event-letter-requires
 is-event-letter-requires c κs = search needs
@@ -19,7 +16,7 @@ is-event-letter-requires c κs = search needs
 returns : tie.Need-returns
 returns c =
     let a = c .before .before .before .before .args in
-    sym (unheaded (a .image .now) (a .g) (failed (c .before .is-event-letter .ensures) (c .if1 .taken)))
+    sym (unheaded (a .image .now) (a .g) (ap isEventLetter (sym (c .before .before .letter-at .ensures)) ∙ failed (c .before .is-event-letter .ensures) (c .if1 .taken)))
 
 form-at-requires : tie.Need-form-at-requires
 form-at-requires c κs = search needs
@@ -34,8 +31,7 @@ pub event-at-spec : {M : Type 1} → statement M
 event-at-spec =
     tie.close
     (tie.spec
-    mul-is-event-letter
-    shared-slice-read-is-event-letter
+    letter-at-requires
     is-event-letter-requires
     returns
     form-at-requires

@@ -12,6 +12,7 @@ use Rattle.page.specs.Header.{keysFrame}
 use Rattle.image.specs.Size.{pagesInBlock}
 use Rattle.image.specs.Look.{formAt}
 use Rattle.store.specs.Kind.{pageIn, wholeWith, keyBlockWhole}
+use Rattle.store.proofs.BlockKinds.{keys-ranged}
 use Rattle.store.proofs.PageTests.{by-header, by-own-header}
 use Rattle.store.proofs.kinds.key_block_whole.Statement.{statement}
 use Rattle.store.proofs.kinds.key_block_whole.Tie as tie
@@ -59,7 +60,10 @@ keys-requires-2 : tie.Need-keys-requires-2 Inv-loop μ-loop
 keys-requires-2 c κs = search needs
 
 page-whole-requires : tie.Need-page-whole-requires Inv-loop μ-loop
-page-whole-requires c κs = search needs
+page-whole-requires c κs =
+    let s = c .before .before .before .before .before .before .before in
+    let w = by-own-header _ (s .args .f) _ _ _ (s .pre .1) (c .before .before .before .before .same-frame .ensures) (c .before .before .before .before .before .keys .ensures) in
+    (omega arith, rw (c .keys2 .ensures) (keys-ranged (s .args .image .now) (pageIn (s .args .b) 0) _ _ (c .before .before .loop .page) (sym w ∙ not-false _ (c .before .before .before .if1 .left)) (omega arith)))
 
 returns-2 : tie.Need-returns-2 Inv-loop μ-loop
 returns-2 c =

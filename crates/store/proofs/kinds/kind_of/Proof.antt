@@ -4,10 +4,12 @@ use native.Mathlib.Omega.{arith}
 use native.Mathlib.Nat.{add-zero}
 use mathlib.Core.Path.{_≡_, sym, ap, _∙_}
 use mathlib.Core.List.{List}
+use lib.ListN.{getD}
 use Rattle.page.specs.declared.Form.{Form}
-use Rattle.image.specs.Size.{pagesInBlock}
+use Rattle.page.specs.Frame.{pageSize}
+use Rattle.image.specs.Size.{blockSize, pagesInBlock}
 use Rattle.image.specs.Look.{formAt}
-use Rattle.store.specs.Kind.{pageIn, kindOfFirst, kindOf}
+use Rattle.store.specs.Kind.{pageIn, isBlockLetter, kindOfFirst, kindOf}
 use Rattle.store.proofs.BlockKinds.{kind-outside, kind-unlettered}
 use Rattle.store.proofs.Refusals.{failed}
 use borrow.Author.Needs.{needs}
@@ -22,11 +24,11 @@ by-first img b m n e q = let f : formAt img (pageIn b 0) ≡ n = rw add-zero (sy
 returns : tie.Need-returns
 returns c = sym (kind-outside (c .before .before .args .image .now) (c .before .before .args .b) (omega arith))
 
-mul-is-block-letter : tie.Need-mul-is-block-letter
-mul-is-block-letter c = search needs
+mul-letter-at : tie.Need-mul-letter-at
+mul-letter-at c = search needs
 
-shared-slice-read-is-block-letter : tie.Need-shared-slice-read-is-block-letter
-shared-slice-read-is-block-letter c = search needs
+letter-at-requires : tie.Need-letter-at-requires
+letter-at-requires c κs = search needs
 
 is-block-letter-requires : tie.Need-is-block-letter-requires
 is-block-letter-requires c κs = search needs
@@ -34,7 +36,9 @@ is-block-letter-requires c κs = search needs
 returns-2 : tie.Need-returns-2
 returns-2 c =
     let a = c .before .before .before .before .before .args in
-    sym (kind-unlettered (a .image .now) (a .b) (failed (c .before .is-block-letter .ensures) (c .if2 .taken)))
+    let at : a .b * pagesInBlock * pageSize ≡ a .b * blockSize = omega arith in
+    let letter = c .before .before .letter-at .ensures ∙ ap (λ (i : ℕ). getD (a .image .now) i 0) at in
+    sym (kind-unlettered (a .image .now) (a .b) (ap isBlockLetter (sym letter) ∙ failed (c .before .is-block-letter .ensures) (c .if2 .taken)))
 
 mul-form-at : tie.Need-mul-form-at
 mul-form-at c = search needs
@@ -82,8 +86,8 @@ kind-of-spec =
     tie.close
     (tie.spec
     returns
-    mul-is-block-letter
-    shared-slice-read-is-block-letter
+    mul-letter-at
+    letter-at-requires
     is-block-letter-requires
     returns-2
     mul-form-at

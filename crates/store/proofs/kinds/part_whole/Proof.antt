@@ -1,4 +1,5 @@
 -- `store::kinds::part_whole` meets its contract: the header, then the payload.
+use native.Mathlib.Omega.{arith}
 use mathlib.Core.Path.{_≡_, sym, _∙_}
 use mathlib.Core.Bool.{true, false}
 use borrow.Author.Tests.{not-true, not-false}
@@ -23,7 +24,7 @@ commit-requires : tie.Need-commit-requires
 commit-requires c κs = search needs
 
 page-whole-requires : tie.Need-page-whole-requires
-page-whole-requires c κs = search needs
+page-whole-requires c κs = (omega arith, rw (c .commit .ensures) (c .before .before .pre .2))
 
 returns : tie.Need-returns
 returns c =

@@ -7,7 +7,9 @@ use borrow.Author.Tests.{not-true, not-false}
 use Rattle.base.specs.Search.{allFrom}
 use Rattle.base.proofs.Searches.{all-next, all-fails, all-none}
 use Rattle.page.specs.Entry.{parts}
-use Rattle.store.specs.Kind.{partWhole}
+use Rattle.base.proofs.Choice.{and-true}
+use Rattle.store.specs.Kind.{pageIn, partWhole}
+use Rattle.store.proofs.BlockKinds.{commit-ranged}
 use Rattle.store.proofs.kinds.parts_whole.Statement.{statement}
 use Rattle.store.proofs.kinds.parts_whole.Tie as tie
 
@@ -27,7 +29,11 @@ loop-holds : tie.Need-loop-holds Inv-loop μ-loop
 loop-holds c = (omega arith, all-next _ parts 0 (omega arith) (sym (c .before .first-part-whole .ensures) ∙ not-false _ (c .if1 .left)))
 
 part-whole-requires : tie.Need-part-whole-requires Inv-loop μ-loop
-part-whole-requires c κs = search needs
+part-whole-requires c κs =
+    let f = c .before .before .before in
+    let w = and-true _ _ (sym (f .first-part-whole .ensures) ∙ not-false _ (c .before .before .if1 .left)) in
+    let s = f .before .before in
+    (omega arith, omega arith, commit-ranged (s .args .image .now) (pageIn (s .args .b) 0) _ _ (c .before .loop .part) (w .0) (omega arith))
 
 returns-2 : tie.Need-returns-2 Inv-loop μ-loop
 returns-2 c =

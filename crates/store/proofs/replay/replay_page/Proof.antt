@@ -1,7 +1,8 @@
 -- `store::replay::replay_page` meets its contract: a page that begins with another byte than N and D changes nothing; any other does by its form.
 use Prim.Native.Nat.{max}
-use mathlib.Core.Path.{ap, _∙_}
+use mathlib.Core.Path.{sym, ap, _∙_}
 use native.Mathlib.Omega.{arith}
+use Rattle.store.specs.Kind.{isEventLetter}
 use Rattle.store.specs.Replay.{pass}
 use Rattle.store.proofs.BlockKinds.{unheaded}
 use Rattle.store.proofs.Refusals.{failed}
@@ -10,11 +11,8 @@ use borrow.Author.Needs.{needs}
 use Rattle.store.proofs.replay.replay_page.Statement.{statement}
 use Rattle.store.proofs.replay.replay_page.Tie as tie
 
-mul-is-event-letter : tie.Need-mul-is-event-letter
-mul-is-event-letter c = search needs
-
-shared-slice-read-is-event-letter : tie.Need-shared-slice-read-is-event-letter
-shared-slice-read-is-event-letter c = search needs
+letter-at-requires : tie.Need-letter-at-requires
+letter-at-requires c κs = search needs
 
 is-event-letter-requires : tie.Need-is-event-letter-requires
 is-event-letter-requires c κs = search needs
@@ -25,7 +23,7 @@ returns c =
     let a = s .args in
     let most = page-most (a .image .now) (a .g) (s .pre .0 .0) (s .pre .0 .1) in
     page-idle (a .image .now) (a .covered) (a .g) (pass (a .map .now) (a .letters .now) (a .scratch .now) (a .events .now) (a .highest)) (omega (arith, s .pre .1 .3, most .0))
-    (unheaded (a .image .now) (a .g) (failed (c .before .is-event-letter .ensures) (c .if1 .taken)))
+    (unheaded (a .image .now) (a .g) (ap isEventLetter (sym (c .before .before .letter-at .ensures)) ∙ failed (c .before .is-event-letter .ensures) (c .if1 .taken)))
 
 form-at-requires : tie.Need-form-at-requires
 form-at-requires c κs = search needs
@@ -82,8 +80,7 @@ pub replay-page-spec : {M : Type 1} → statement M
 replay-page-spec =
     tie.close
     (tie.spec
-    mul-is-event-letter
-    shared-slice-read-is-event-letter
+    letter-at-requires
     is-event-letter-requires
     returns
     form-at-requires

@@ -245,7 +245,32 @@ fn higher(a: u32, b: u32) -> u32
     a
 }
 
-// What page g makes of the lists; returns the highest sequence. What is no event is mostly told by its first byte.
+// What page g makes of the lists, by its form; returns the highest sequence.
+fn replay_form(
+    image: &[u8],
+    g: usize,
+    covered: u32,
+    highest: u32,
+    map: &mut [u16],
+    letters: &mut [u8],
+    scratch: &mut [u32],
+    events: &mut [u8],
+) -> u32
+    requires { ⌜ (sizeRight (now image) ≡ true) × (g < pages (now image)) ⌝ }
+    requires { ⌜ (length (now map) ≡ mapSize)
+        × (length (now letters) ≡ positions) × (length (now scratch) ≡ places) × (length (now events) ≡ mostBlocks) ⌝ }
+    ensures { λ r. ⌜ Passed (old image) covered 1 g
+        (pass (old map) (old letters) (old scratch) (old events) highest)
+        (pass (new map) (new letters) (new scratch) (new events) r) ⌝ }
+{
+    let form = look::form_at(image, g);
+    apply(map, scratch, g, form, covered);
+    spend(letters, form, covered);
+    note(events, g, form);
+    higher(highest, sequence_of(form))
+}
+
+// The same; what is no event is mostly told by its first byte.
 fn replay_page(
     image: &[u8],
     g: usize,
@@ -266,11 +291,7 @@ fn replay_page(
     if !kinds::is_event_letter(look::letter_at(image, g)) {
         return highest;
     }
-    let form = look::form_at(image, g);
-    apply(map, scratch, g, form, covered);
-    spend(letters, form, covered);
-    note(events, g, form);
-    higher(highest, sequence_of(form))
+    replay_form(image, g, covered, highest, map, letters, scratch, events)
 }
 
 // What all pages make of the lists, in order; returns the highest sequence.

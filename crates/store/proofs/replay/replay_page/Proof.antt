@@ -1,12 +1,11 @@
 -- `store::replay::replay_page` meets its contract: a page that begins with another byte than N and D changes nothing; any other does by its form.
-use Prim.Native.Nat.{max}
 use mathlib.Core.Path.{sym, ap, _∙_}
 use native.Mathlib.Omega.{arith}
 use Rattle.store.specs.Kind.{isEventLetter}
 use Rattle.store.specs.Replay.{pass}
 use Rattle.store.proofs.BlockKinds.{unheaded}
 use Rattle.store.proofs.Refusals.{failed}
-use Rattle.store.proofs.Replays.{page-passed, page-idle, range-right, page-most}
+use Rattle.store.proofs.Replays.{page-idle, page-most}
 use borrow.Author.Needs.{needs}
 use Rattle.store.proofs.replay.replay_page.Statement.{statement}
 use Rattle.store.proofs.replay.replay_page.Tie as tie
@@ -25,30 +24,8 @@ returns c =
     page-idle (a .image .now) (a .covered) (a .g) (pass (a .map .now) (a .letters .now) (a .scratch .now) (a .events .now) (a .highest)) (omega (arith, s .pre .1 .3, most .0))
     (unheaded (a .image .now) (a .g) (ap isEventLetter (sym (c .before .before .letter-at .ensures)) ∙ failed (c .before .is-event-letter .ensures) (c .if1 .taken)))
 
-form-at-requires : tie.Need-form-at-requires
-form-at-requires c κs = search needs
-
-apply-requires : tie.Need-apply-requires
-apply-requires c κs =
-    let s = c .before .before .before .before .before .before .before .before .before .before .before in
-    let a = s .args in
-    (s .pre .1 .0, s .pre .1 .2, page-most (a .image .now) (a .g) (s .pre .0 .0) (s .pre .0 .1) .1, rw (c .before .before .form-at .ensures) (range-right (a .image .now) (a .g)))
-
-spend-requires : tie.Need-spend-requires
-spend-requires c κs =
-    let s = c .before .before .before .before .before .before .before .before .before .before .before .before .before .before .before .before .before in
-    (s .pre .1 .1, rw (c .before .before .before .before .before .before .before .before .form-at .ensures) (range-right (s .args .image .now) (s .args .g)))
-
-note-requires : tie.Need-note-requires
-note-requires c κs =
-    let s = c .before .before .before .before .before .before .before .before .before .before .before .before .before .before .before .before .before .before .before .before .before in
-    (s .pre .1 .3, page-most (s .args .image .now) (s .args .g) (s .pre .0 .0) (s .pre .0 .1) .0)
-
-sequence-of-requires : tie.Need-sequence-of-requires
-sequence-of-requires c κs = search needs
-
-higher-requires : tie.Need-higher-requires
-higher-requires c κs = search needs
+replay-form-requires : tie.Need-replay-form-requires
+replay-form-requires c κs = search needs
 
 same-length : tie.Need-same-length
 same-length c = search needs
@@ -63,18 +40,7 @@ same-length-4 : tie.Need-same-length-4
 same-length-4 c = search needs
 
 returns-2 : tie.Need-returns-2
-returns-2 c =
-    let s = c .before .before .before .before .before .before .before .before .before .before .before .before .before .before .before .before .before .before .before .before .before .before .before .before .before .before in
-    let a = s .args in
-    let places = c .before .before .before .before .before .before .before .before .before .before .before .before .before .before .apply in
-    let letters = c .before .before .before .before .before .before .before .before .spend in
-    let events = c .before .before .before .before .note in
-    let form = c .before .before .before .before .before .before .before .before .before .before .before .before .before .before .before .before .before .form-at in
-    let most = page-most (a .image .now) (a .g) (s .pre .0 .0) (s .pre .0 .1) in
-    page-passed (a .image .now) (a .covered) (a .g) (pass (a .map .now) (a .letters .now) (a .scratch .now) (a .events .now) (a .highest))
-    (pass (places .last .0) (letters .last .0) (places .last .1 .0) (events .last .0) (c .higher .result))
-    (form .result) (form .ensures) (omega (arith, s .pre .1 .3, most .0)) (places .ensures) (letters .ensures) (events .ensures)
-    (c .higher .ensures ∙ ap (max (a .highest)) (c .before .sequence-of .ensures))
+returns-2 c = search needs
 
 pub replay-page-spec : {M : Type 1} → statement M
 replay-page-spec =
@@ -83,12 +49,7 @@ replay-page-spec =
     letter-at-requires
     is-event-letter-requires
     returns
-    form-at-requires
-    apply-requires
-    spend-requires
-    note-requires
-    sequence-of-requires
-    higher-requires
+    replay-form-requires
     same-length
     same-length-2
     same-length-3

@@ -190,6 +190,17 @@ pub fn read_header(src: &[u8]) -> Header
     read_fields(src)
 }
 
+// Writes the header of a node of sequence 1: only file, offset and position are spelt.
+fn write_first_node(dst: &mut [u8], file: u32, offset: u32, position: u32)
+    requires { ⌜ length (now dst) ≡ headerSize ⌝ }
+    ensures { λ _. ⌜ new dst ≡ headerBytes (nodeFrame 1 file offset position) ⌝ }
+{
+    bytes::copy(dst, b"N       1  0   0   0       0: ");
+    columns::put_at(dst, UNIT_AT, UNIT_COLUMNS, file);
+    columns::put_at(dst, PART_AT, PART_COLUMNS, offset);
+    columns::put_at(dst, KEY_AT, KEY_COLUMNS, position);
+}
+
 // Whether 30 bytes are the header of f: they are compared with its spelling.
 pub fn is_header_of(src: &[u8], f: Frame) -> bool
     requires { ⌜ (length (now src) ≡ headerSize) × (inRange f ≡ true) ⌝ }
@@ -206,8 +217,11 @@ pub fn is_node_of(src: &[u8], file: u32, offset: u32, position: u32) -> bool
     ensures { λ r. ⌜ r ≡ nodeWith file offset position (headerOf (old src)) ⌝ }
 {
     let mut expected = [0u8; Frame::HEADER];
-    write_header(&mut expected, Frame::node(1, file, offset, position));
+    write_first_node(&mut expected, file, offset, position);
     (src[0] == Frame::NODE_LETTER)
-        & bytes::same(&src[UNIT_AT..Frame::HEADER], &expected[UNIT_AT..Frame::HEADER])
+        & bytes::same(
+            &src[UNIT_AT..Frame::HEADER],
+            &expected[UNIT_AT..Frame::HEADER],
+        )
         & columns::is_from_one(&src[NUMBER_AT..UNIT_AT])
 }

@@ -41,8 +41,8 @@ loop-again c =
     let r = c .before .before .before .before .args in (
       omega arith,
       l .inv .1
-      ∙ rw (drop-cons (now (r .a)) (l .i) 0 (omega arith), drop-cons (now (r .b)) (l .i) 0 (omega arith), add-one)
-      (and-assoc (l .all) _ _),
+          ∙ rw (drop-cons (now (r .a)) (l .i) 0 (omega arith), drop-cons (now (r .b)) (l .i) 0 (omega arith), add-one)
+          (and-assoc (l .all) _ _),
     )
 
 returns : tie.Need-returns Inv-loop μ-loop

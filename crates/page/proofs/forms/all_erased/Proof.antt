@@ -38,8 +38,8 @@ loop-again c =
     let l = c .before .before .loop in (
       omega arith,
       l .inv .1
-      ∙ rw (drop-cons (now (c .before .before .before .args .bytes)) (l .i) 0 (omega arith), add-one)
-      (and-assoc (l .all) _ _),
+          ∙ rw (drop-cons (now (c .before .before .before .args .bytes)) (l .i) 0 (omega arith), add-one)
+          (and-assoc (l .all) _ _),
     )
 
 returns : tie.Need-returns Inv-loop μ-loop

@@ -6,14 +6,11 @@ use Rattle.page.proofs.HeaderTests.{fields-decide}
 use Rattle.page.proofs.headers.is_node_of.Statement.{statement}
 use Rattle.page.proofs.headers.is_node_of.Tie as tie
 
-slice-aggregate-write-header : tie.Need-slice-aggregate-write-header
-slice-aggregate-write-header c = search needs
+slice-aggregate-write-first-node : tie.Need-slice-aggregate-write-first-node
+slice-aggregate-write-first-node c = search needs
 
-node-requires : tie.Need-node-requires
-node-requires c κs = search needs
-
-write-header-requires : tie.Need-write-header-requires
-write-header-requires c κs = search needs
+write-first-node-requires : tie.Need-write-first-node-requires
+write-first-node-requires c κs = search needs
 
 shared-slice-read-result : tie.Need-shared-slice-read-result
 shared-slice-read-result c = search needs
@@ -54,18 +51,17 @@ is-from-one-requires c κs = search needs
 returns : tie.Need-returns
 unfolding part
 returns c =
-    let s = c .before .before .before .before .before .before .before .before .before .before .before .before in
+    let s = c .before .before .before .before .before .before .before .before .before .before .before in
     let w = c .before .before .before .before .before .before .before .before in
-    rw (c .before .before .same .ensures, c .is-from-one .ensures, w .write-header .ensures, w .before .node .ensures)
+    rw (c .before .before .same .ensures, c .is-from-one .ensures, w .write-first-node .ensures)
     (fields-decide (now (s .args .src)) (s .args .file) (s .args .offset) (s .args .position) (s .pre .0) (s .pre .1))
 
 pub is-node-of-spec : {M : Type 1} → statement M
 is-node-of-spec =
     tie.close
     (tie.spec
-    slice-aggregate-write-header
-    node-requires
-    write-header-requires
+    slice-aggregate-write-first-node
+    write-first-node-requires
     shared-slice-read-result
     sub-same
     part-same-start

@@ -9,14 +9,15 @@ use Rattle.cipher.specs.SBox.{sBox}
 use Rattle.cipher.specs.Words.{four, littleEndian, xorBytes}
 use Rattle.cipher.specs.Table.{sBoxTable, roundTable}
 use Rattle.cipher.specs.Cipher.{subBytes, shiftRows, mixBytes, mixColumns, addRoundKey, rounds}
-use Rattle.cipher.proofs.TableRules.{s-box-rule, tableColumn, round-table-rule}
+use Rattle.cipher.specs.Caching.{row0, row1, row2, row3}
+use Rattle.cipher.proofs.TableRules.{s-box-rule, round-table-rule}
 use Rattle.cipher.proofs.WordLaws.{word-xor}
 
 -- ---- what stands in a table that was passed on
 pub s-box-entry : {t : List ℕ} → t ≡ sBoxTable → (k : ℕ) → k < 256 → getD t k 0 ≡ sBox k
 s-box-entry e k h = ap (λ (l : List ℕ). getD l k 0) e ∙ s-box-rule k h
 
-pub round-entry : {t : List ℕ} → t ≡ roundTable → (k : ℕ) → k < 256 → littleEndian (getD t k 0) ≡ tableColumn (sBox k)
+pub round-entry : {t : List ℕ} → t ≡ roundTable → (k : ℕ) → k < 256 → littleEndian (getD t k 0) ≡ row0 (sBox k)
 round-entry e k h = ap (λ (l : List ℕ). littleEndian (getD l k 0)) e ∙ round-table-rule k h
 
 -- ---- a word rotated left by one, two and three bytes
@@ -31,7 +32,7 @@ rotated3 l = four (getD l 1 0) (getD l 2 0) (getD l 3 0) (getD l 0 0)
 
 -- the entries of four bytes, rotated into their rows and added, are what MixColumns makes of the column
 pub mixed : {a b c d : ℕ} (t0 t1 t2 t3 : ℕ)
-    → littleEndian t0 ≡ tableColumn a → littleEndian t1 ≡ rotated1 (tableColumn b) → littleEndian t2 ≡ rotated2 (tableColumn c) → littleEndian t3 ≡ rotated3 (tableColumn d)
+    → littleEndian t0 ≡ row0 a → littleEndian t1 ≡ row1 b → littleEndian t2 ≡ row2 c → littleEndian t3 ≡ row3 d
     → littleEndian (t0 ⊕ t1 ⊕ t2 ⊕ t3) ≡ mixBytes a b c d
 unfolding mixBytes
 mixed t0 t1 t2 t3 e0 e1 e2 e3 =

@@ -11,8 +11,9 @@ use Rattle.base.proofs.Choice.{and-true}
 use Rattle.base.proofs.Eachs.{table-rule, same-true}
 use Rattle.cipher.specs.Field.{_•_, inverse}
 use Rattle.cipher.specs.SBox.{affine, sBox}
-use Rattle.cipher.specs.Words.{four, littleEndian}
+use Rattle.cipher.specs.Words.{littleEndian}
 use Rattle.cipher.specs.Table.{sBoxTable, roundTable}
+use Rattle.cipher.specs.Caching.{row0}
 
 is-true : (b : Bool) → T b → b ≡ true
 is-true true t = refl
@@ -38,15 +39,12 @@ module _ (k : ℕ) (h : k < 256) where
   inverse-rule = tested .1
 
 -- ---- the round table is the column {02} s, s, s, {03} s of the S-box byte s
-abbrev pub tableColumn : ℕ → List ℕ
-tableColumn s = four (2 • s) s s (3 • s)
-
 roundTest : ℕ → ℕ → Bool
 unfolding _•_ same sBoxTable
-roundTest k x = same (littleEndian x) (tableColumn (getD sBoxTable k 0))
+roundTest k x = same (littleEndian x) (row0 (getD sBoxTable k 0))
 
-pub round-table-rule : (k : ℕ) → k < 256 → littleEndian (getD roundTable k 0) ≡ tableColumn (sBox k)
+pub round-table-rule : (k : ℕ) → k < 256 → littleEndian (getD roundTable k 0) ≡ row0 (sBox k)
 unfolding roundTable roundTest
 round-table-rule k h =
-    same-true (littleEndian (getD roundTable k 0)) (tableColumn (getD sBoxTable k 0)) (is-true _ (table-rule roundTest roundTable tt k h))
-    ∙ ap tableColumn (s-box-rule k h)
+    same-true (littleEndian (getD roundTable k 0)) (row0 (getD sBoxTable k 0)) (is-true _ (table-rule roundTest roundTable tt k h))
+    ∙ ap row0 (s-box-rule k h)

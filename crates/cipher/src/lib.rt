@@ -5,6 +5,7 @@ ghost use Rattle.cipher.specs.Cipher.{cipher};
 ghost use Rattle.cipher.specs.KeyExpansion.{keyExpansion};
 ghost use Rattle.cipher.specs.CounterMode.{counterMode};
 
+mod caching; // the first two rounds of the counter mode
 mod columns; // a state as four columns
 mod expansion; // the key expansion
 mod rounds; // the rounds of the cipher

@@ -1,4 +1,4 @@
--- Laws of words: the bytes of a 32-bit number, its sums and its rotations, and the words of a list of bytes.
+-- Laws of words: the bytes of a 32-bit number, its sums and its rotation, and the words of a list of bytes.
 use mathlib.Core.Path.{_≡_, refl, ap, sym, _∙_}
 use mathlib.Core.List.{List, [], _∷_, _++_}
 use Prim.Native.Nat.{ℕ, zero, suc, _+_, _*_, _/_, _%_, _^_, _<_, _≤_}
@@ -28,16 +28,10 @@ module _ {a b c d : ℕ} (ha : a < 256) (hb : b < 256) (hc : c < 256) (hd : d < 
   pub number-bytes : littleEndian (number a b c d) ≡ four a b c d
   number-bytes = four-eq (omega arith) (omega arith) (omega arith) (omega arith)
 
-  number-8 : (x : ℕ) → x ≡ number a b c d → x % 0x1000000 * 0x100 + x / 0x1000000 ≡ number d a b c
-  number-8 x e = omega arith
-
-  number-16 : (x : ℕ) → x ≡ number a b c d → x % 0x10000 * 0x10000 + x / 0x10000 ≡ number c d a b
-  number-16 x e = omega arith
-
   number-24 : (x : ℕ) → x ≡ number a b c d → x % 0x100 * 0x1000000 + x / 0x100 ≡ number b c d a
   number-24 x e = omega arith
 
--- ---- rotations
+-- ---- a rotation
 module _ (x : ℕ) (h : x < 2 ^ 32) where
   nested : x ≡ number (x % 0x100) (x / 0x100 % 0x100) (x / 0x100 / 0x100 % 0x100) (x / 0x100 / 0x100 / 0x100 % 0x100)
   nested = omega arith
@@ -56,12 +50,6 @@ module _ (x : ℕ) (h : x < 2 ^ 32) where
 
   low3 : byte3 x < 256
   low3 = omega arith
-
-  pub rotated-8 : littleEndian (x % 0x1000000 * 0x100 + x / 0x1000000) ≡ four (byte3 x) (byte0 x) (byte1 x) (byte2 x)
-  rotated-8 = ap littleEndian (number-8 low0 low1 low2 low3 x by-bytes) ∙ number-bytes low3 low0 low1 low2
-
-  pub rotated-16 : littleEndian (x % 0x10000 * 0x10000 + x / 0x10000) ≡ four (byte2 x) (byte3 x) (byte0 x) (byte1 x)
-  rotated-16 = ap littleEndian (number-16 low0 low1 low2 low3 x by-bytes) ∙ number-bytes low2 low3 low0 low1
 
   pub rotated-24 : littleEndian (x % 0x100 * 0x1000000 + x / 0x100) ≡ four (byte1 x) (byte2 x) (byte3 x) (byte0 x)
   rotated-24 = ap littleEndian (number-24 low0 low1 low2 low3 x by-bytes) ∙ number-bytes low1 low2 low3 low0

@@ -35,7 +35,7 @@ pub fn encrypt(keys: RoundKeys, block: [u8; 16]) -> [u8; 16]
 {
     let w = keys.bytes;
     let input = columns::from_block(block);
-    columns::to_block(rounds::encrypt_columns(&S_BOX, &ROUND_TABLE, &w, input))
+    columns::to_block(rounds::encrypt_columns(&ROUND_TABLE, &w, input))
 }
 
 // Enciphers text in place, or deciphers it: adds the key stream.
@@ -43,5 +43,5 @@ pub fn apply_stream(keys: RoundKeys, text: &mut [u8])
     ensures { λ _. ⌜ new text ≡ counterMode (keys .bytes) (old text) ⌝ }
 {
     let w = keys.bytes;
-    stream::add_key_stream(&S_BOX, &ROUND_TABLE, &w, text)
+    stream::add_key_stream(&ROUND_TABLE, &w, text)
 }

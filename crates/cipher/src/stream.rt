@@ -1,7 +1,7 @@
 // The counter mode: SP 800-38A, 6.5, from counter 0.
 ghost use mathlib.Core.Path.{_≡_};
 ghost use Rattle.base.specs.Lent.{old, new};
-ghost use Rattle.cipher.specs.Table.{sBoxTable, roundTable};
+ghost use Rattle.cipher.specs.Table.{roundTable};
 ghost use Rattle.cipher.specs.Words.{xorBytes};
 ghost use Rattle.cipher.specs.Cipher.{cipher};
 ghost use Rattle.cipher.specs.CounterMode.{counterBlock, counterMode};
@@ -15,20 +15,13 @@ use crate::columns::to_block;
 use crate::rounds::finish;
 
 // The output block of counter n: its encipherment.
-fn output_block(
-    sbox: &[u8; 256],
-    table: &[u32; 256],
-    w: &[u8; 176],
-    cache: Cache,
-    n: u64,
-) -> [u8; 16]
-    requires { ⌜ now sbox ≡ sBoxTable ⌝ }
+fn output_block(table: &[u64; 256], w: &[u8; 176], cache: Cache, n: u64) -> [u8; 16]
     requires { ⌜ now table ≡ roundTable ⌝ }
     requires { ⌜ Serves (now w) n cache ⌝ }
     ensures { λ r. ⌜ r ≡ cipher (old w) (counterBlock n) ⌝ }
 {
     let s = two_rounds(table, w, cache, n);
-    to_block(finish(sbox, table, w, s, 2))
+    to_block(finish(table, w, s, 2))
 }
 
 // Adds to q as much of a block as q is long.
@@ -43,8 +36,7 @@ fn add_block(q: &mut [u8], block: [u8; 16])
 }
 
 // Adds the key stream to text, block by block.
-pub(crate) fn add_key_stream(sbox: &[u8; 256], table: &[u32; 256], w: &[u8; 176], text: &mut [u8])
-    requires { ⌜ now sbox ≡ sBoxTable ⌝ }
+pub(crate) fn add_key_stream(table: &[u64; 256], w: &[u8; 176], text: &mut [u8])
     requires { ⌜ now table ≡ roundTable ⌝ }
     ensures { λ _. ⌜ new text ≡ counterMode (old w) (old text) ⌝ }
 {
@@ -52,7 +44,7 @@ pub(crate) fn add_key_stream(sbox: &[u8; 256], table: &[u32; 256], w: &[u8; 176]
     let mut n: u64 = 0;
     let mut cache = new_cache(table, w, n);
     while at < text.len() {
-        let output = output_block(sbox, table, w, cache, n);
+        let output = output_block(table, w, cache, n);
         add_block(&mut text[at..], output);
         cache = next_cache(table, w, cache, n);
         at += BLOCK;

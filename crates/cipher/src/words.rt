@@ -11,20 +11,6 @@ pub(crate) fn from_le_bytes(a: u8, b: u8, c: u8, d: u8) -> u32
     (a as u32) + (b as u32) * 0x100 + (c as u32) * 0x10000 + (d as u32) * 0x1000000
 }
 
-// x rotated left by 8 bits.
-pub(crate) fn rotate_left_8(x: u32) -> u32
-    ensures { λ r. ⌜ littleEndian r ≡ four (byte3 x) (byte0 x) (byte1 x) (byte2 x) ⌝ }
-{
-    x % 0x1000000 * 0x100 + x / 0x1000000
-}
-
-// x rotated left by 16 bits.
-pub(crate) fn rotate_left_16(x: u32) -> u32
-    ensures { λ r. ⌜ littleEndian r ≡ four (byte2 x) (byte3 x) (byte0 x) (byte1 x) ⌝ }
-{
-    x % 0x10000 * 0x10000 + x / 0x10000
-}
-
 // x rotated left by 24 bits.
 pub(crate) fn rotate_left_24(x: u32) -> u32
     ensures { λ r. ⌜ littleEndian r ≡ four (byte1 x) (byte2 x) (byte3 x) (byte0 x) ⌝ }

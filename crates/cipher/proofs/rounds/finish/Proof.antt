@@ -13,11 +13,11 @@ use Rattle.cipher.proofs.rounds.finish.Statement.{statement}
 use Rattle.cipher.proofs.rounds.finish.Tie as tie
 
 abbrev Inv-loop : tie.InvT-loop
-Inv-loop sbox table w done s₀ round₀ s round =
+Inv-loop table w done s₀ round₀ s round =
     (round ≤ 9) × ((input : List ℕ) → state s₀ ≡ rounds w round₀ (addRoundKey w 0 input) → state s ≡ rounds w round (addRoundKey w 0 input))
 
 abbrev μ-loop : tie.MeasureT-loop
-μ-loop sbox table w done s₀ round₀ s round = 9 - round
+μ-loop table w done s₀ round₀ s round = 9 - round
 
 loop-holds : tie.Need-loop-holds Inv-loop μ-loop
 loop-holds c = (omega arith, λ input e. e)

@@ -1,35 +1,29 @@
--- `mix_row_2` reads an entry of the round table and rotates it.
-use mathlib.Core.Path.{_∙_, ap}
+-- `mix_row_2` reads four bytes of an entry of the round table, from byte 2 on.
+use mathlib.Core.Path.{ap}
+use mathlib.Core.List.{List}
+use Prim.Native.Nat.{ℕ}
 use native.Mathlib.Omega.{arith}
-use Rattle.cipher.specs.Words.{byte2}
-use Rattle.cipher.proofs.RoundLaws.{round-entry, rotated2}
+use Rattle.cipher.specs.Words.{word, byte2}
+use Rattle.cipher.proofs.RoundLaws.{round-entry}
 use borrow.Author.Needs.{needs}
 use Rattle.cipher.proofs.rounds.mix_row_2.Statement.{statement}
 use Rattle.cipher.proofs.rounds.mix_row_2.Tie as tie
 
-cast-rotate-left-16 : tie.Need-cast-rotate-left-16
-cast-rotate-left-16 c = search needs
+cast-result : tie.Need-cast-result
+cast-result c = search needs
 
-mul-rotate-left-16 : tie.Need-mul-rotate-left-16
-mul-rotate-left-16 c = search needs
+mul-result : tie.Need-mul-result
+mul-result c = search needs
 
-element-copy-out-rotate-left-16 : tie.Need-element-copy-out-rotate-left-16
-element-copy-out-rotate-left-16 c = search needs
+element-copy-out-result : tie.Need-element-copy-out-result
+element-copy-out-result c = search needs
 
-rotate-left-16-requires : tie.Need-rotate-left-16-requires
-rotate-left-16-requires c κs = search needs
+cast-result-2 : tie.Need-cast-result-2
+cast-result-2 c = search needs
 
 returns : tie.Need-returns
-returns c =
-    let s = c .before .before in
-    c .rotate-left-16 .ensures ∙ ap rotated2 (round-entry (s .pre) (byte2 (s .args .x)) (omega arith))
+returns c = ap (λ (l : List ℕ). word l 2) (round-entry (c .before .pre) (byte2 (c .before .args .x)) (omega arith))
 
 pub mix-row-2-spec : {M : Type 1} → statement M
 mix-row-2-spec =
-    tie.close
-    (tie.spec
-    cast-rotate-left-16
-    mul-rotate-left-16
-    element-copy-out-rotate-left-16
-    rotate-left-16-requires
-    returns)
+    tie.close (tie.spec cast-result mul-result element-copy-out-result cast-result-2 returns)

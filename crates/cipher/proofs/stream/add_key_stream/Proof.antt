@@ -15,11 +15,11 @@ use Rattle.cipher.proofs.stream.add_key_stream.Statement.{statement}
 use Rattle.cipher.proofs.stream.add_key_stream.Tie as tie
 
 abbrev Inv-loop : tie.InvT-loop
-Inv-loop sbox table w text₀ at₀ n₀ cache₀ text at n cache =
+Inv-loop table w text₀ at₀ n₀ cache₀ text at n cache =
     (at ≡ 16 * n) × (at < length text₀ + 16) × (length text ≡ length text₀) × (text ≡ xorBytes text₀ (keyStream w n)) × Serves w n cache
 
 abbrev μ-loop : tie.MeasureT-loop
-μ-loop sbox table w text₀ at₀ n₀ cache₀ text at n cache = length text₀ + 16 - at
+μ-loop table w text₀ at₀ n₀ cache₀ text at n cache = length text₀ + 16 - at
 
 new-cache-requires : tie.Need-new-cache-requires Inv-loop μ-loop
 new-cache-requires c κs = search needs
@@ -47,7 +47,7 @@ next-cache-requires : tie.Need-next-cache-requires Inv-loop μ-loop
 next-cache-requires c κs =
     let l = c .before .before .before .before .before .before .loop in
     let s = c .before .before .before .before .before .before .before .before .before in
-    (s .pre .1, (omega arith, l .inv .4))
+    (s .pre, (omega arith, l .inv .4))
 
 add-at : tie.Need-add-at Inv-loop μ-loop
 add-at c = omega arith

@@ -11,9 +11,10 @@ use Rattle.cipher.specs.SBox.{sBox}
 use Rattle.cipher.specs.Words.{word, xorBytes, byte3, littleEndian, bigEndian}
 use Rattle.cipher.specs.Cipher.{subBytes, shiftRows, mixBytes, mixColumns, addRoundKey, rounds}
 use Rattle.cipher.specs.CounterMode.{counterBlock}
+use Rattle.cipher.specs.Table.{row0, row1, row2, row3}
 use Rattle.cipher.specs.State.{state}
 use Rattle.cipher.specs.declared.columns.Columns.{Columns}
-use Rattle.cipher.specs.Caching.{row0, row1, row2, row3, lastShare, columnShare, cachedColumn, cachedState}
+use Rattle.cipher.specs.Caching.{lastShare, columnShare, cachedColumn, cachedState}
 use Rattle.cipher.proofs.Sums.{xor-bytes-swap, xor-bytes-twice}
 use Rattle.cipher.proofs.WordLaws.{four-eq, words-eq}
 

@@ -8,9 +8,8 @@ use lib.ListN.{getD}
 use Rattle.cipher.specs.Field.{_⊕_}
 use Rattle.cipher.specs.SBox.{sBox}
 use Rattle.cipher.specs.Words.{littleEndian, xorBytes}
-use Rattle.cipher.specs.Table.{sBoxTable, roundTable}
+use Rattle.cipher.specs.Table.{row0, row1, row2, row3, sBoxTable, roundTable}
 use Rattle.cipher.specs.Cipher.{subBytes, shiftRows, mixBytes, mixColumns, addRoundKey, rounds}
-use Rattle.cipher.specs.Caching.{row0, row1, row2, row3}
 use Rattle.cipher.proofs.TableRules.{s-box-rule, reads, rows, round-table-rule}
 use Rattle.cipher.proofs.WordLaws.{word-xor}
 

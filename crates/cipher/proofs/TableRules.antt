@@ -12,8 +12,7 @@ use Rattle.base.proofs.Eachs.{table-rule, same-true}
 use Rattle.cipher.specs.Field.{_•_, inverse}
 use Rattle.cipher.specs.SBox.{affine, sBox}
 use Rattle.cipher.specs.Words.{littleEndian}
-use Rattle.cipher.specs.Table.{sBoxTable, roundTable}
-use Rattle.cipher.specs.Caching.{row0, row1, row2, row3}
+use Rattle.cipher.specs.Table.{row0, row1, row2, row3, sBoxTable, roundTable}
 
 is-true : (b : Bool) → T b → b ≡ true
 is-true true t = refl

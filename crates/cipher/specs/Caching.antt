@@ -1,6 +1,5 @@
 -- Counter-mode caching: what the first two rounds make of counters that differ in the last byte alone. Byte 15 reaches only
 -- column 0 in round 1, and column 0 reaches each column by one byte in round 2; the rest is the same for all of them.
---   row0 s .. row3 s     what MixColumns makes of a column with the byte s in that row and 0 in the others
 --   lastShare s          what SubBytes, ShiftRows and MixColumns make of byte 15 of a state, in column 0
 --   columnShare c        what they make of column 0, in all four columns
 --   counterState w r n   the state of counter n after r rounds
@@ -11,26 +10,13 @@ use mathlib.Core.Path.{_≡_}
 use mathlib.Core.List.{List, _++_}
 use Prim.Native.Nat.{ℕ}
 use lib.ListN.{getD}
-use Rattle.cipher.specs.Field.{_•_}
 use Rattle.cipher.specs.SBox.{sBox}
-use Rattle.cipher.specs.Words.{four, word, xorBytes, littleEndian}
+use Rattle.cipher.specs.Words.{word, xorBytes, littleEndian}
 use Rattle.cipher.specs.Cipher.{addRoundKey, rounds}
 use Rattle.cipher.specs.CounterMode.{counterBlock}
+use Rattle.cipher.specs.Table.{row0, row1, row2, row3}
 use Rattle.cipher.specs.State.{state}
 use Rattle.cipher.specs.declared.caching.Cache.{Cache}
-
--- FIPS 197, 5.1.3, (5.6): the columns of the matrix of MixColumns, times s
-abbrev pub row0 : ℕ → List ℕ
-row0 s = four (2 • s) s s (3 • s)
-
-abbrev pub row1 : ℕ → List ℕ
-row1 s = four (3 • s) (2 • s) s s
-
-abbrev pub row2 : ℕ → List ℕ
-row2 s = four s (3 • s) (2 • s) s
-
-abbrev pub row3 : ℕ → List ℕ
-row3 s = four s s (3 • s) (2 • s)
 
 abbrev pub lastShare : List ℕ → List ℕ
 lastShare s = row3 (sBox (getD s 15 0))

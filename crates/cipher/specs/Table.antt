@@ -1,9 +1,25 @@
 -- The tables that the code has, as lists. Their rules are proved in proofs/TableRules.antt.
---   sBoxTable    the S-box, FIPS 197, figure 7
---   roundTable   SubBytes and MixColumns of a byte in row 0: the column of four bytes twice in one number, the first byte the
---                lowest
+--   row0 s .. row3 s   what MixColumns makes of a column with the byte s in that row and 0 in the others
+--   sBoxTable          the S-box, FIPS 197, figure 7
+--   roundTable         SubBytes and MixColumns of a byte in row 0: the column of four bytes twice in one number, the first
+--                      byte the lowest
 use mathlib.Core.List.{List, [], _∷_}
 use Prim.Native.Nat.{ℕ}
+use Rattle.cipher.specs.Field.{_•_}
+use Rattle.cipher.specs.Words.{four}
+
+-- FIPS 197, 5.1.3, (5.6): the columns of the matrix of MixColumns, times s
+abbrev pub row0 : ℕ → List ℕ
+row0 s = four (2 • s) s s (3 • s)
+
+abbrev pub row1 : ℕ → List ℕ
+row1 s = four (3 • s) (2 • s) s s
+
+abbrev pub row2 : ℕ → List ℕ
+row2 s = four s (3 • s) (2 • s) s
+
+abbrev pub row3 : ℕ → List ℕ
+row3 s = four s s (3 • s) (2 • s)
 
 -- 5.1.1, figure 7: row x, column y is the byte that takes the place of {xy}
 unfoldable pub sBoxTable : List ℕ

@@ -4,10 +4,9 @@ ghost use mathlib.Core.List.{List};
 ghost use Prim.Native.Nat.{ℕ, _+_, _*_, _<_, _≤_};
 ghost use Rattle.base.specs.Lent.{old};
 ghost use Rattle.cipher.specs.SBox.{sBox};
-ghost use Rattle.cipher.specs.Table.{roundTable};
+ghost use Rattle.cipher.specs.Table.{roundTable, row0, row1, row2, row3};
 ghost use Rattle.cipher.specs.Words.{four, word, byte0, byte1, byte2, byte3, littleEndian};
 ghost use Rattle.cipher.specs.Cipher.{Nb, Nr, subBytes, shiftRows, mixBytes, mixColumns, roundKey, addRoundKey, rounds, cipher};
-ghost use Rattle.cipher.specs.Caching.{row0, row1, row2, row3};
 ghost use Rattle.cipher.specs.State.{state};
 use crate::columns::Columns;
 use crate::columns::add;
@@ -126,7 +125,7 @@ pub(crate) fn full_round(table: &[u64; 256], w: &[u8; 176], s: Columns, round: u
     add(sub_shift_mix(table, s), round_key(w, round))
 }
 
-// The encipherment of a block whose state after so many rounds is s.
+// The encipherment of a block whose state after done rounds is start.
 pub(crate) fn finish(table: &[u64; 256], w: &[u8; 176], start: Columns, done: usize) -> Columns
     requires { ⌜ now table ≡ roundTable ⌝ }
     requires { ⌜ done < Nr ⌝ }

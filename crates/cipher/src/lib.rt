@@ -42,6 +42,5 @@ pub fn encrypt(keys: RoundKeys, block: [u8; 16]) -> [u8; 16]
 pub fn apply_stream(keys: RoundKeys, text: &mut [u8])
     ensures { λ _. ⌜ new text ≡ counterMode (keys .bytes) (old text) ⌝ }
 {
-    let w = keys.bytes;
-    stream::add_key_stream(&ROUND_TABLE, &w, text)
+    stream::add_key_stream(&ROUND_TABLE, &keys.bytes, text)
 }

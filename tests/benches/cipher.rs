@@ -20,10 +20,11 @@ const ROUNDS: usize = 1500;
 
 const OURS: &str = "Johvimaru";
 const TOMCRYPT: &str = "libtomcrypt";
+const NETTLE: &str = "nettle, assembly";
 const BEARSSL_SMALL: &str = "BearSSL, S-box only";
 
 /// The limits to keep: our time for a page over that of a peer.
-const LIMITS: [(&str, f64); 2] = [(TOMCRYPT, 1.10), (BEARSSL_SMALL, 0.35)];
+const LIMITS: [(&str, f64); 3] = [(TOMCRYPT, 0.85), (NETTLE, 1.00), (BEARSSL_SMALL, 0.35)];
 
 /// The first counter.
 static ZERO: [u8; aes::BLOCK] = [0; aes::BLOCK];
@@ -249,7 +250,7 @@ fn nettle(library: SharedLibrary) -> Vec<Peer> {
     };
     let state = room();
     vec![Peer {
-        name: "nettle, assembly",
+        name: NETTLE,
         // SAFETY: 16 bytes of key, and room for what is made of it.
         expand: Box::new(move |key| unsafe { set_key(state, key.as_ptr()) }),
         // SAFETY: 16 bytes of key and of counter, room for the state, and a page in place.

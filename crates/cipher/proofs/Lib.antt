@@ -3,6 +3,7 @@ pub mod TableRules
 pub mod Sums
 pub mod WordLaws
 pub mod RoundLaws
+pub mod CachingLaws
 pub mod Schedule
 pub mod KeyStream
 pub mod Laws

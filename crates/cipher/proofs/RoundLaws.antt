@@ -1,37 +1,38 @@
--- Laws of a round: the table's entries, rotated and added, are a mixed column; one round more.
+-- Laws of a round: the entries of the tables; a mixed column, row by row; one round more.
 use mathlib.Core.Path.{_≡_, ap, ap₂, _∙_}
 use mathlib.Core.List.{List}
-use Prim.Native.Nat.{ℕ, _+_, _<_}
+use Prim.Native.Nat.{ℕ, _+_, _/_, _%_, _<_}
 use native.Mathlib.Numerals.{add-one}
+use native.Mathlib.Omega.{arith}
 use lib.ListN.{getD}
 use Rattle.cipher.specs.Field.{_⊕_}
 use Rattle.cipher.specs.SBox.{sBox}
-use Rattle.cipher.specs.Words.{four, littleEndian, xorBytes}
-use Rattle.cipher.specs.Table.{sBoxTable, roundTable}
+use Rattle.cipher.specs.Words.{littleEndian, xorBytes}
+use Rattle.cipher.specs.Table.{row0, row1, row2, row3, sBoxTable, roundTable}
 use Rattle.cipher.specs.Cipher.{subBytes, shiftRows, mixBytes, mixColumns, addRoundKey, rounds}
-use Rattle.cipher.proofs.TableRules.{s-box-rule, tableColumn, round-table-rule}
+use Rattle.cipher.proofs.TableRules.{s-box-rule, reads, rows, round-table-rule}
 use Rattle.cipher.proofs.WordLaws.{word-xor}
 
 -- ---- what stands in a table that was passed on
 pub s-box-entry : {t : List ℕ} → t ≡ sBoxTable → (k : ℕ) → k < 256 → getD t k 0 ≡ sBox k
 s-box-entry e k h = ap (λ (l : List ℕ). getD l k 0) e ∙ s-box-rule k h
 
-pub round-entry : {t : List ℕ} → t ≡ roundTable → (k : ℕ) → k < 256 → littleEndian (getD t k 0) ≡ tableColumn (sBox k)
-round-entry e k h = ap (λ (l : List ℕ). littleEndian (getD l k 0)) e ∙ round-table-rule k h
+pub round-entry : {t : List ℕ} → t ≡ roundTable → (k : ℕ) → k < 256 → reads (getD t k 0) ≡ rows (sBox k)
+round-entry e k h = ap (λ (l : List ℕ). reads (getD l k 0)) e ∙ round-table-rule k h
 
--- ---- a word rotated left by one, two and three bytes
-abbrev pub rotated1 : List ℕ → List ℕ
-rotated1 l = four (getD l 3 0) (getD l 0 0) (getD l 1 0) (getD l 2 0)
+-- byte 1 of an entry is the S-box byte
+byte-1 : (x s : ℕ) → reads x ≡ rows s → x / 0x100 % 0x100 ≡ s
+byte-1 x s e =
+    let f : x / 0x100 % 0x100 ≡ x % 0x100000000 / 0x100 % 0x100 = omega arith in
+    f ∙ ap (λ (l : List ℕ). getD l 1 0) e
 
-abbrev pub rotated2 : List ℕ → List ℕ
-rotated2 l = four (getD l 2 0) (getD l 3 0) (getD l 0 0) (getD l 1 0)
+pub s-box-byte : {t : List ℕ} → t ≡ roundTable → (k : ℕ) → k < 256 → getD t k 0 / 0x100 % 0x100 ≡ sBox k
+s-box-byte {t} e k h = byte-1 (getD t k 0) (sBox k) (round-entry e k h)
 
-abbrev pub rotated3 : List ℕ → List ℕ
-rotated3 l = four (getD l 1 0) (getD l 2 0) (getD l 3 0) (getD l 0 0)
-
--- the entries of four bytes, rotated into their rows and added, are what MixColumns makes of the column
+-- ---- a mixed column
+-- what MixColumns makes of the bytes of four rows, added, is what it makes of the column
 pub mixed : {a b c d : ℕ} (t0 t1 t2 t3 : ℕ)
-    → littleEndian t0 ≡ tableColumn a → littleEndian t1 ≡ rotated1 (tableColumn b) → littleEndian t2 ≡ rotated2 (tableColumn c) → littleEndian t3 ≡ rotated3 (tableColumn d)
+    → littleEndian t0 ≡ row0 a → littleEndian t1 ≡ row1 b → littleEndian t2 ≡ row2 c → littleEndian t3 ≡ row3 d
     → littleEndian (t0 ⊕ t1 ⊕ t2 ⊕ t3) ≡ mixBytes a b c d
 unfolding mixBytes
 mixed t0 t1 t2 t3 e0 e1 e2 e3 =

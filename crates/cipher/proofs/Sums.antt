@@ -5,7 +5,7 @@ use Prim.Native.Nat.{ℕ, zero, suc, _+_, _*_, _/_, _%_, _≤_, _<_}
 use native.Mathlib.Nat.{not-suc-le-zero, le-of-suc-le-suc, div-add-mod'}
 use native.Mathlib.Omega.{arith}
 use lib.Arith.{bin-ind}
-use lib.Bits.{differ, xor-step, xor-shr, xor-mod, xor-self}
+use lib.Bits.{differ, xor-step, xor-shr, xor-mod, xor-self, xor-comm}
 use lib.ListN.{length, getD, take, drop, set}
 use Rattle.cipher.specs.Field.{_⊕_}
 use Rattle.cipher.specs.Words.{xorBytes}
@@ -30,6 +30,36 @@ xor-twice =
     (ap (λ (x : ℕ). differ x (b % 2)) (xor-mod n b 1) ∙ differ-twice (n % 2) (b % 2) (omega arith) (omega arith))
     ∙ div-add-mod' n 2)
 
+-- ---- numbers: the last two of a sum change places
+differ-swap : (x y z : ℕ) → x < 2 → y < 2 → z < 2 → differ (x ⊕ y) z ≡ differ (x ⊕ z) y
+differ-swap zero zero zero h k l = refl
+differ-swap zero zero (suc zero) h k l = refl
+differ-swap zero zero (suc (suc z)) h k l = absurd (omega arith)
+differ-swap zero (suc zero) zero h k l = refl
+differ-swap zero (suc zero) (suc zero) h k l = refl
+differ-swap zero (suc zero) (suc (suc z)) h k l = absurd (omega arith)
+differ-swap zero (suc (suc y)) z h k l = absurd (omega arith)
+differ-swap (suc zero) zero zero h k l = refl
+differ-swap (suc zero) zero (suc zero) h k l = refl
+differ-swap (suc zero) zero (suc (suc z)) h k l = absurd (omega arith)
+differ-swap (suc zero) (suc zero) zero h k l = refl
+differ-swap (suc zero) (suc zero) (suc zero) h k l = refl
+differ-swap (suc zero) (suc zero) (suc (suc z)) h k l = absurd (omega arith)
+differ-swap (suc zero) (suc (suc y)) z h k l = absurd (omega arith)
+differ-swap (suc (suc x)) y z h k l = absurd (omega arith)
+
+pub xor-swap : (a b c : ℕ) → a ⊕ b ⊕ c ≡ a ⊕ c ⊕ b
+xor-swap =
+    bin-ind (λ (n : ℕ). (b c : ℕ) → n ⊕ b ⊕ c ≡ n ⊕ c ⊕ b) xor-comm
+    (λ n ih b c.
+    xor-step (n ⊕ b) c
+    ∙ ap₂ (λ (x y : ℕ). x * 2 + y)
+    (ap (λ (x : ℕ). x ⊕ (c / 2)) (xor-shr n b 1) ∙ ih (b / 2) (c / 2) ∙ ap (λ (x : ℕ). x ⊕ (b / 2)) (sym (xor-shr n c 1)))
+    (ap (λ (x : ℕ). differ x (c % 2)) (xor-mod n b 1)
+    ∙ differ-swap (n % 2) (b % 2) (c % 2) (omega arith) (omega arith) (omega arith)
+    ∙ ap (λ (x : ℕ). differ x (b % 2)) (sym (xor-mod n c 1)))
+    ∙ sym (xor-step (n ⊕ c) b))
+
 -- ---- lists
 pub xor-nil : (q : List ℕ) → xorBytes q [] ≡ q
 xor-nil [] = refl
@@ -52,6 +82,13 @@ pub xor-bytes-twice : (q k : List ℕ) → xorBytes (xorBytes q k) k ≡ q
 xor-bytes-twice [] k = refl
 xor-bytes-twice (a ∷ q) [] = refl
 xor-bytes-twice (a ∷ q) (b ∷ k) = ap₂ (λ (x : ℕ) (l : List ℕ). x ∷ l) (xor-twice a b) (xor-bytes-twice q k)
+
+-- the last two of a sum change places
+pub xor-bytes-swap : (p q r : List ℕ) → xorBytes (xorBytes p q) r ≡ xorBytes (xorBytes p r) q
+xor-bytes-swap [] q r = refl
+xor-bytes-swap (a ∷ p) [] r = sym (xor-nil (xorBytes (a ∷ p) r))
+xor-bytes-swap (a ∷ p) (b ∷ q) [] = refl
+xor-bytes-swap (a ∷ p) (b ∷ q) (c ∷ r) = ap₂ (λ (x : ℕ) (l : List ℕ). x ∷ l) (xor-swap a b c) (xor-bytes-swap p q r)
 
 -- one more byte added
 pub xor-more : (q k : List ℕ) (j : ℕ) → j < length q → j < length k

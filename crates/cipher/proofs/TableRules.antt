@@ -1,8 +1,8 @@
 -- The rules of the tables: each is one test, computed over all 256 entries, and lifted to every entry by `table-rule`.
 use mathlib.Core.Path.{_≡_, refl, _∙_, ap}
 use mathlib.Core.Bool.{Bool, true, false, _&&_}
-use mathlib.Core.List.{List}
-use Prim.Native.Nat.{ℕ, _<_, min}
+use mathlib.Core.List.{List, _++_}
+use Prim.Native.Nat.{ℕ, _/_, _%_, _<_, min}
 use borrow.Author.Tests.{eqb-true}
 use lib.Dec.{T, eqb}
 use lib.ListN.{getD}
@@ -11,8 +11,8 @@ use Rattle.base.proofs.Choice.{and-true}
 use Rattle.base.proofs.Eachs.{table-rule, same-true}
 use Rattle.cipher.specs.Field.{_•_, inverse}
 use Rattle.cipher.specs.SBox.{affine, sBox}
-use Rattle.cipher.specs.Words.{four, littleEndian}
-use Rattle.cipher.specs.Table.{sBoxTable, roundTable}
+use Rattle.cipher.specs.Words.{littleEndian}
+use Rattle.cipher.specs.Table.{row0, row1, row2, row3, sBoxTable, roundTable}
 
 is-true : (b : Bool) → T b → b ≡ true
 is-true true t = refl
@@ -37,16 +37,24 @@ module _ (k : ℕ) (h : k < 256) where
   pub inverse-rule : k • inverse k ≡ min k 1
   inverse-rule = tested .1
 
--- ---- the round table is the column {02} s, s, s, {03} s of the S-box byte s
-abbrev pub tableColumn : ℕ → List ℕ
-tableColumn s = four (2 • s) s s (3 • s)
+-- ---- the round table: four bytes of an entry, from byte 0, 3, 2 and 1 on, are what MixColumns makes of the S-box byte in row
+-- 0, 1, 2 and 3
+abbrev pub reads : ℕ → List ℕ
+reads x =
+    littleEndian (x % 0x100000000)
+    ++ littleEndian (x / 0x1000000 % 0x100000000)
+    ++ littleEndian (x / 0x10000 % 0x100000000)
+    ++ littleEndian (x / 0x100 % 0x100000000)
+
+abbrev pub rows : ℕ → List ℕ
+rows s = row0 s ++ row1 s ++ row2 s ++ row3 s
 
 roundTest : ℕ → ℕ → Bool
 unfolding _•_ same sBoxTable
-roundTest k x = same (littleEndian x) (tableColumn (getD sBoxTable k 0))
+roundTest k x = same (reads x) (rows (getD sBoxTable k 0))
 
-pub round-table-rule : (k : ℕ) → k < 256 → littleEndian (getD roundTable k 0) ≡ tableColumn (sBox k)
+pub round-table-rule : (k : ℕ) → k < 256 → reads (getD roundTable k 0) ≡ rows (sBox k)
 unfolding roundTable roundTest
 round-table-rule k h =
-    same-true (littleEndian (getD roundTable k 0)) (tableColumn (getD sBoxTable k 0)) (is-true _ (table-rule roundTest roundTable tt k h))
-    ∙ ap tableColumn (s-box-rule k h)
+    same-true (reads (getD roundTable k 0)) (rows (getD sBoxTable k 0)) (is-true _ (table-rule roundTest roundTable tt k h))
+    ∙ ap rows (s-box-rule k h)

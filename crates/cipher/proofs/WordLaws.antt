@@ -1,14 +1,13 @@
--- Laws of words: the bytes of a 32-bit number, its sums and its rotations, and the words of a list of bytes.
+-- Laws of words: the bytes of a 32-bit number, its sums, and the words of a list of bytes.
 use mathlib.Core.Path.{_≡_, refl, ap, sym, _∙_}
 use mathlib.Core.List.{List, [], _∷_, _++_}
 use Prim.Native.Nat.{ℕ, zero, suc, _+_, _*_, _/_, _%_, _^_, _<_, _≤_}
 use native.Mathlib.Omega.{arith}
-use native.Mathlib.Nat.{div-div-eq-div-mul}
 use lib.Bits.{xor-shr, xor-mod}
 use lib.ListN.{length, getD, drop, drop-of-length-le, List·getD-append}
 use lib.Seq.{drop-cons, getD-append-add}
 use Rattle.cipher.specs.Field.{_⊕_}
-use Rattle.cipher.specs.Words.{four, word, xorBytes, byte0, byte1, byte2, byte3, littleEndian}
+use Rattle.cipher.specs.Words.{four, word, xorBytes, littleEndian}
 
 pub four-eq : {a b c d a' b' c' d' : ℕ} → a ≡ a' → b ≡ b' → c ≡ c' → d ≡ d' → four a b c d ≡ four a' b' c' d'
 four-eq p q r s = λ i. four (p i) (q i) (r i) (s i)
@@ -24,47 +23,8 @@ word-xor x y = four-eq (xor-mod x y 8) (xor-at 8 x y) (xor-at 16 x y) (xor-at 24
 abbrev number : ℕ → ℕ → ℕ → ℕ → ℕ
 number a b c d = a + b * 0x100 + c * 0x10000 + d * 0x1000000
 
-module _ {a b c d : ℕ} (ha : a < 256) (hb : b < 256) (hc : c < 256) (hd : d < 256) where
-  pub number-bytes : littleEndian (number a b c d) ≡ four a b c d
-  number-bytes = four-eq (omega arith) (omega arith) (omega arith) (omega arith)
-
-  number-8 : (x : ℕ) → x ≡ number a b c d → x % 0x1000000 * 0x100 + x / 0x1000000 ≡ number d a b c
-  number-8 x e = omega arith
-
-  number-16 : (x : ℕ) → x ≡ number a b c d → x % 0x10000 * 0x10000 + x / 0x10000 ≡ number c d a b
-  number-16 x e = omega arith
-
-  number-24 : (x : ℕ) → x ≡ number a b c d → x % 0x100 * 0x1000000 + x / 0x100 ≡ number b c d a
-  number-24 x e = omega arith
-
--- ---- rotations
-module _ (x : ℕ) (h : x < 2 ^ 32) where
-  nested : x ≡ number (x % 0x100) (x / 0x100 % 0x100) (x / 0x100 / 0x100 % 0x100) (x / 0x100 / 0x100 / 0x100 % 0x100)
-  nested = omega arith
-
-  by-bytes : x ≡ number (byte0 x) (byte1 x) (byte2 x) (byte3 x)
-  by-bytes = rw (div-div-eq-div-mul x 0x100 0x100, div-div-eq-div-mul x 0x10000 0x100) at nested
-
-  low0 : byte0 x < 256
-  low0 = omega arith
-
-  low1 : byte1 x < 256
-  low1 = omega arith
-
-  low2 : byte2 x < 256
-  low2 = omega arith
-
-  low3 : byte3 x < 256
-  low3 = omega arith
-
-  pub rotated-8 : littleEndian (x % 0x1000000 * 0x100 + x / 0x1000000) ≡ four (byte3 x) (byte0 x) (byte1 x) (byte2 x)
-  rotated-8 = ap littleEndian (number-8 low0 low1 low2 low3 x by-bytes) ∙ number-bytes low3 low0 low1 low2
-
-  pub rotated-16 : littleEndian (x % 0x10000 * 0x10000 + x / 0x10000) ≡ four (byte2 x) (byte3 x) (byte0 x) (byte1 x)
-  rotated-16 = ap littleEndian (number-16 low0 low1 low2 low3 x by-bytes) ∙ number-bytes low2 low3 low0 low1
-
-  pub rotated-24 : littleEndian (x % 0x100 * 0x1000000 + x / 0x100) ≡ four (byte1 x) (byte2 x) (byte3 x) (byte0 x)
-  rotated-24 = ap littleEndian (number-24 low0 low1 low2 low3 x by-bytes) ∙ number-bytes low1 low2 low3 low0
+pub number-bytes : {a b c d : ℕ} → a < 256 → b < 256 → c < 256 → d < 256 → littleEndian (number a b c d) ≡ four a b c d
+number-bytes ha hb hc hd = four-eq (omega arith) (omega arith) (omega arith) (omega arith)
 
 -- ---- words that are joined
 pub words-eq : {a b c d a' b' c' d' : List ℕ} → a ≡ a' → b ≡ b' → c ≡ c' → d ≡ d' → a ++ b ++ c ++ d ≡ a' ++ b' ++ c' ++ d'

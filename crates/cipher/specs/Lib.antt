@@ -7,6 +7,7 @@
 --   CounterMode    SP 800-38A, 6.5: the counter mode, from counter 0
 --   Table          the S-box and the round table as the code has them
 --   State          the 16 bytes of a state that the code keeps in four numbers
+--   Caching        what the first two rounds have in common for 256 counters
 -- The section numbers are those of FIPS 197 as published in 2001.
 pub mod Field
 pub mod SBox
@@ -16,3 +17,4 @@ pub mod KeyExpansion
 pub mod CounterMode
 pub mod Table
 pub mod State
+pub mod Caching

@@ -14,8 +14,7 @@ use crate::columns::Columns;
 use crate::columns::from_block;
 use crate::columns::to_block;
 use crate::rounds::ROUNDS;
-use crate::words::rotate_left_24;
-use crate::words::sub_bytes;
+use crate::words::from_le_bytes;
 
 // b times x in the field.
 fn times_x(b: u8) -> u8
@@ -24,13 +23,17 @@ fn times_x(b: u8) -> u8
     ((b >> 7) * 0x1b) ^ (b << 1)
 }
 
-// RotWord, then SubWord.
+// RotWord, then SubWord: the S-box bytes of byte 1, 2, 3 and 0.
 fn sub_rot_word(sbox: &[u8; 256], x: u32) -> u32
     requires { ⌜ now sbox ≡ sBoxTable ⌝ }
     ensures { λ r. ⌜ littleEndian r ≡ subWord (rotWord (littleEndian x)) ⌝ }
 {
-    let y = rotate_left_24(x);
-    sub_bytes(sbox, y, y, y, y)
+    from_le_bytes(
+        sbox[(x / 0x100 % 0x100) as usize],
+        sbox[(x / 0x10000 % 0x100) as usize],
+        sbox[(x / 0x1000000 % 0x100) as usize],
+        sbox[(x % 0x100) as usize],
+    )
 }
 
 // The round key after k, where constant is the first byte of its round constant. Each word is the sum of the word four

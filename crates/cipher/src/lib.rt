@@ -5,6 +5,7 @@ ghost use Rattle.cipher.specs.Cipher.{cipher};
 ghost use Rattle.cipher.specs.KeyExpansion.{keyExpansion};
 ghost use Rattle.cipher.specs.CounterMode.{counterMode};
 
+mod caching; // the first two rounds of the counter mode
 mod columns; // a state as four columns
 mod expansion; // the key expansion
 mod rounds; // the rounds of the cipher
@@ -34,13 +35,12 @@ pub fn encrypt(keys: RoundKeys, block: [u8; 16]) -> [u8; 16]
 {
     let w = keys.bytes;
     let input = columns::from_block(block);
-    columns::to_block(rounds::encrypt_columns(&S_BOX, &ROUND_TABLE, &w, input))
+    columns::to_block(rounds::encrypt_columns(&ROUND_TABLE, &w, input))
 }
 
 // Enciphers text in place, or deciphers it: adds the key stream.
 pub fn apply_stream(keys: RoundKeys, text: &mut [u8])
     ensures { λ _. ⌜ new text ≡ counterMode (keys .bytes) (old text) ⌝ }
 {
-    let w = keys.bytes;
-    stream::add_key_stream(&S_BOX, &ROUND_TABLE, &w, text)
+    stream::add_key_stream(&ROUND_TABLE, &keys.bytes, text)
 }

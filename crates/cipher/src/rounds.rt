@@ -1,39 +1,64 @@
 // The cipher on columns: FIPS 197, 5.1.
 ghost use mathlib.Core.Path.{_≡_};
-ghost use Prim.Native.Nat.{_+_, _*_, _<_, _≤_};
+ghost use mathlib.Core.List.{List};
+ghost use Prim.Native.Nat.{ℕ, _+_, _*_, _<_, _≤_};
 ghost use Rattle.base.specs.Lent.{old};
 ghost use Rattle.cipher.specs.SBox.{sBox};
-ghost use Rattle.cipher.specs.Table.{sBoxTable, roundTable};
-ghost use Rattle.cipher.specs.Words.{word, byte0, byte1, byte2, byte3, littleEndian};
-ghost use Rattle.cipher.specs.Cipher.{Nb, Nr, subBytes, shiftRows, mixBytes, mixColumns, roundKey, cipher};
+ghost use Rattle.cipher.specs.Table.{roundTable, row0, row1, row2, row3};
+ghost use Rattle.cipher.specs.Words.{four, word, byte0, byte1, byte2, byte3, littleEndian};
+ghost use Rattle.cipher.specs.Cipher.{Nb, Nr, subBytes, shiftRows, mixBytes, mixColumns, roundKey, addRoundKey, rounds, cipher};
 ghost use Rattle.cipher.specs.State.{state};
 use crate::columns::Columns;
 use crate::columns::add;
 use crate::words::from_le_bytes;
-use crate::words::rotate_left_8;
-use crate::words::rotate_left_16;
-use crate::words::rotate_left_24;
-use crate::words::sub_bytes;
 
 // The rounds. All but the last are alike; the last has no MixColumns.
 pub(crate) const ROUNDS: usize = 10;
 
 const FULL_ROUNDS: usize = ROUNDS - 1;
 
-// SubBytes and MixColumns of row 0 of a, row 1 of b, row 2 of c and row 3 of d, by the round table.
-fn sub_mix(table: &[u32; 256], a: u32, b: u32, c: u32, d: u32) -> u32
+// SubBytes and MixColumns of row 0 of x alone, by the round table.
+pub(crate) fn mix_row_0(table: &[u64; 256], x: u32) -> u32
+    requires { ⌜ now table ≡ roundTable ⌝ }
+    ensures { λ r. ⌜ littleEndian r ≡ row0 (sBox (byte0 x)) ⌝ }
+{
+    (table[(x % 0x100) as usize] % 0x100000000) as u32
+}
+
+// The same of row 1 alone.
+pub(crate) fn mix_row_1(table: &[u64; 256], x: u32) -> u32
+    requires { ⌜ now table ≡ roundTable ⌝ }
+    ensures { λ r. ⌜ littleEndian r ≡ row1 (sBox (byte1 x)) ⌝ }
+{
+    (table[(x / 0x100 % 0x100) as usize] / 0x1000000 % 0x100000000) as u32
+}
+
+// The same of row 2 alone.
+pub(crate) fn mix_row_2(table: &[u64; 256], x: u32) -> u32
+    requires { ⌜ now table ≡ roundTable ⌝ }
+    ensures { λ r. ⌜ littleEndian r ≡ row2 (sBox (byte2 x)) ⌝ }
+{
+    (table[(x / 0x10000 % 0x100) as usize] / 0x10000 % 0x100000000) as u32
+}
+
+// The same of row 3 alone.
+pub(crate) fn mix_row_3(table: &[u64; 256], x: u32) -> u32
+    requires { ⌜ now table ≡ roundTable ⌝ }
+    ensures { λ r. ⌜ littleEndian r ≡ row3 (sBox (byte3 x)) ⌝ }
+{
+    (table[(x / 0x1000000 % 0x100) as usize] / 0x100 % 0x100000000) as u32
+}
+
+// SubBytes and MixColumns of row 0 of a, row 1 of b, row 2 of c and row 3 of d.
+fn sub_mix(table: &[u64; 256], a: u32, b: u32, c: u32, d: u32) -> u32
     requires { ⌜ now table ≡ roundTable ⌝ }
     ensures { λ r. ⌜ littleEndian r ≡ mixBytes (sBox (byte0 a)) (sBox (byte1 b)) (sBox (byte2 c)) (sBox (byte3 d)) ⌝ }
 {
-    let t0 = table[(a % 0x100) as usize];
-    let t1 = rotate_left_8(table[(b / 0x100 % 0x100) as usize]);
-    let t2 = rotate_left_16(table[(c / 0x10000 % 0x100) as usize]);
-    let t3 = rotate_left_24(table[(d / 0x1000000 % 0x100) as usize]);
-    t0 ^ t1 ^ t2 ^ t3
+    mix_row_0(table, a) ^ mix_row_1(table, b) ^ mix_row_2(table, c) ^ mix_row_3(table, d)
 }
 
 // SubBytes, ShiftRows and MixColumns: ShiftRows brings the rows of a column from that column and the next three.
-fn sub_shift_mix(table: &[u32; 256], s: Columns) -> Columns
+fn sub_shift_mix(table: &[u64; 256], s: Columns) -> Columns
     requires { ⌜ now table ≡ roundTable ⌝ }
     ensures { λ r. ⌜ state r ≡ mixColumns (shiftRows (subBytes (state s))) ⌝ }
 {
@@ -44,15 +69,28 @@ fn sub_shift_mix(table: &[u32; 256], s: Columns) -> Columns
     Columns { c0, c1, c2, c3 }
 }
 
+// SubBytes of row 0 of a, row 1 of b, row 2 of c and row 3 of d: byte 1 of an entry is the S-box byte.
+fn sub_rows(table: &[u64; 256], a: u32, b: u32, c: u32, d: u32) -> u32
+    requires { ⌜ now table ≡ roundTable ⌝ }
+    ensures { λ r. ⌜ littleEndian r ≡ four (sBox (byte0 a)) (sBox (byte1 b)) (sBox (byte2 c)) (sBox (byte3 d)) ⌝ }
+{
+    from_le_bytes(
+        (table[(a % 0x100) as usize] / 0x100 % 0x100) as u8,
+        (table[(b / 0x100 % 0x100) as usize] / 0x100 % 0x100) as u8,
+        (table[(c / 0x10000 % 0x100) as usize] / 0x100 % 0x100) as u8,
+        (table[(d / 0x1000000 % 0x100) as usize] / 0x100 % 0x100) as u8,
+    )
+}
+
 // SubBytes and ShiftRows.
-fn sub_shift(sbox: &[u8; 256], s: Columns) -> Columns
-    requires { ⌜ now sbox ≡ sBoxTable ⌝ }
+fn sub_shift(table: &[u64; 256], s: Columns) -> Columns
+    requires { ⌜ now table ≡ roundTable ⌝ }
     ensures { λ r. ⌜ state r ≡ shiftRows (subBytes (state s)) ⌝ }
 {
-    let c0 = sub_bytes(sbox, s.c0, s.c1, s.c2, s.c3);
-    let c1 = sub_bytes(sbox, s.c1, s.c2, s.c3, s.c0);
-    let c2 = sub_bytes(sbox, s.c2, s.c3, s.c0, s.c1);
-    let c3 = sub_bytes(sbox, s.c3, s.c0, s.c1, s.c2);
+    let c0 = sub_rows(table, s.c0, s.c1, s.c2, s.c3);
+    let c1 = sub_rows(table, s.c1, s.c2, s.c3, s.c0);
+    let c2 = sub_rows(table, s.c2, s.c3, s.c0, s.c1);
+    let c3 = sub_rows(table, s.c3, s.c0, s.c1, s.c2);
     Columns { c0, c1, c2, c3 }
 }
 
@@ -66,7 +104,7 @@ fn key_word(w: &[u8; 176], i: usize) -> u32
 }
 
 // The key of a round.
-fn round_key(w: &[u8; 176], round: usize) -> Columns
+pub(crate) fn round_key(w: &[u8; 176], round: usize) -> Columns
     requires { ⌜ round ≤ Nr ⌝ }
     ensures { λ r. ⌜ state r ≡ roundKey (old w) round ⌝ }
 {
@@ -78,22 +116,34 @@ fn round_key(w: &[u8; 176], round: usize) -> Columns
     Columns { c0, c1, c2, c3 }
 }
 
+// A round that is not the last.
+pub(crate) fn full_round(table: &[u64; 256], w: &[u8; 176], s: Columns, round: usize) -> Columns
+    requires { ⌜ now table ≡ roundTable ⌝ }
+    requires { ⌜ round ≤ Nr ⌝ }
+    ensures { λ r. ⌜ state r ≡ addRoundKey (old w) round (mixColumns (shiftRows (subBytes (state s)))) ⌝ }
+{
+    add(sub_shift_mix(table, s), round_key(w, round))
+}
+
+// The encipherment of a block whose state after done rounds is start.
+pub(crate) fn finish(table: &[u64; 256], w: &[u8; 176], start: Columns, done: usize) -> Columns
+    requires { ⌜ now table ≡ roundTable ⌝ }
+    requires { ⌜ done < Nr ⌝ }
+    ensures { λ r. ⌜ ((input : List ℕ) → state start ≡ rounds (old w) done (addRoundKey (old w) 0 input) → state r ≡ cipher (old w) input) ⌝ }
+{
+    let mut s = start;
+    let mut round = done;
+    while round < FULL_ROUNDS {
+        round += 1;
+        s = full_round(table, w, s, round);
+    }
+    add(sub_shift(table, s), round_key(w, ROUNDS))
+}
+
 // The encipherment of a block.
-pub(crate) fn encrypt_columns(
-    sbox: &[u8; 256],
-    table: &[u32; 256],
-    w: &[u8; 176],
-    input: Columns,
-) -> Columns
-    requires { ⌜ now sbox ≡ sBoxTable ⌝ }
+pub(crate) fn encrypt_columns(table: &[u64; 256], w: &[u8; 176], input: Columns) -> Columns
     requires { ⌜ now table ≡ roundTable ⌝ }
     ensures { λ r. ⌜ state r ≡ cipher (old w) (state input) ⌝ }
 {
-    let mut s = add(input, round_key(w, 0));
-    let mut round: usize = 0;
-    while round < FULL_ROUNDS {
-        round += 1;
-        s = add(sub_shift_mix(table, s), round_key(w, round));
-    }
-    add(sub_shift(sbox, s), round_key(w, ROUNDS))
+    finish(table, w, add(input, round_key(w, 0)), 0)
 }

@@ -7,32 +7,29 @@ use denote.Ref.{now}
 use lib.ListN.{length}
 use borrow.Author.Needs.{needs}
 use Rattle.cipher.specs.Words.{xorBytes}
-use Rattle.cipher.specs.Cipher.{cipher}
 use Rattle.cipher.specs.CounterMode.{streamBlocks, keyStream, counterMode}
+use Rattle.cipher.specs.Caching.{Serves}
 use Rattle.cipher.proofs.Sums.{xor-nil}
 use Rattle.cipher.proofs.KeyStream.{key-stream-more}
 use Rattle.cipher.proofs.stream.add_key_stream.Statement.{statement}
 use Rattle.cipher.proofs.stream.add_key_stream.Tie as tie
 
 abbrev Inv-loop : tie.InvT-loop
-Inv-loop sbox table w text₀ at₀ n₀ text at n =
-    (at ≡ 16 * n) × (at < length text₀ + 16) × (length text ≡ length text₀) × (text ≡ xorBytes text₀ (keyStream w n))
+Inv-loop table w text₀ at₀ n₀ cache₀ text at n cache =
+    (at ≡ 16 * n) × (at < length text₀ + 16) × (length text ≡ length text₀) × (text ≡ xorBytes text₀ (keyStream w n)) × Serves w n cache
 
 abbrev μ-loop : tie.MeasureT-loop
-μ-loop sbox table w text₀ at₀ n₀ text at n = length text₀ + 16 - at
+μ-loop table w text₀ at₀ n₀ cache₀ text at n cache = length text₀ + 16 - at
+
+new-cache-requires : tie.Need-new-cache-requires Inv-loop μ-loop
+new-cache-requires c κs = search needs
 
 loop-holds : tie.Need-loop-holds Inv-loop μ-loop
 unfolding keyStream
-loop-holds c = (refl, omega arith, refl, sym (xor-nil _))
+loop-holds c = (refl, omega arith, refl, sym (xor-nil _), c .new-cache .ensures)
 
-counter-block-requires : tie.Need-counter-block-requires Inv-loop μ-loop
-counter-block-requires c κs = search needs
-
-encrypt-columns-requires : tie.Need-encrypt-columns-requires Inv-loop μ-loop
-encrypt-columns-requires c κs = search needs
-
-to-block-requires : tie.Need-to-block-requires Inv-loop μ-loop
-to-block-requires c κs = search needs
+output-block-requires : tie.Need-output-block-requires Inv-loop μ-loop
+output-block-requires c κs = search needs
 
 sub-add-block : tie.Need-sub-add-block Inv-loop μ-loop
 sub-add-block c = omega arith
@@ -46,6 +43,12 @@ part-add-block-end c = omega arith
 add-block-requires : tie.Need-add-block-requires Inv-loop μ-loop
 add-block-requires c κs = search needs
 
+next-cache-requires : tie.Need-next-cache-requires Inv-loop μ-loop
+next-cache-requires c κs =
+    let l = c .before .before .before .before .before .before .loop in
+    let s = c .before .before .before .before .before .before .before .before .before in
+    (s .pre, (omega arith, l .inv .4))
+
 add-at : tie.Need-add-at Inv-loop μ-loop
 add-at c = omega arith
 
@@ -58,14 +61,14 @@ loop-less c = omega arith
 loop-again : tie.Need-loop-again Inv-loop μ-loop
 loop-again c =
     let a = c .before .before .before .before .before .before .before .before .before .before .args in
-    let l = c .before .before .before .before .before .before .before .before .loop in
-    let o = c .before .before .before .before in
-    let d = c .before .before .add-block in (
+    let l = c .before .before .before .before .before .before .before .loop in
+    let o = c .before .before .before .before .before .output-block in
+    let d = c .before .before .before .add-block in (
       omega arith,
       omega arith,
       same-len-mid (l .at) (length (l .text) - l .at) (l .text) (d .last .0) (d .kept .0) ∙ l .inv .2,
-      key-stream-more (now (a .w)) (now (a .text)) (l .text) (l .n) (l .at) (o .to-block .result) (d .last .0) (omega arith) (l .inv .2) (l .inv .0) (l .inv .3) (d .ensures)
-          (o .to-block .ensures ∙ o .before .encrypt-columns .ensures ∙ ap (cipher (now (a .w))) (o .before .before .counter-block .ensures)),
+      key-stream-more (now (a .w)) (now (a .text)) (l .text) (l .n) (l .at) (o .result) (d .last .0) (omega arith) (l .inv .2) (l .inv .0) (l .inv .3) (d .ensures) (o .ensures),
+      c .next-cache .ensures,
     )
 
 same-length : tie.Need-same-length Inv-loop μ-loop
@@ -74,7 +77,7 @@ same-length c = c .before .loop .inv .2
 returns : tie.Need-returns Inv-loop μ-loop
 unfolding counterMode
 returns c =
-    let a = c .before .before .before .args in
+    let a = c .before .before .before .before .args in
     let l = c .before .loop in
     let n : l .n ≡ streamBlocks (length (now (a .text))) = omega arith in
     l .inv .3 ∙ ap (λ (m : ℕ). xorBytes (now (a .text)) (keyStream (now (a .w)) m)) n
@@ -85,14 +88,14 @@ add-key-stream-spec =
     (tie.spec
     Inv-loop
     μ-loop
+    new-cache-requires
     loop-holds
-    counter-block-requires
-    encrypt-columns-requires
-    to-block-requires
+    output-block-requires
     sub-add-block
     part-add-block-start
     part-add-block-end
     add-block-requires
+    next-cache-requires
     add-at
     add-n
     loop-less

@@ -5,8 +5,8 @@ use Rattle.cipher.specs.Words.{bigEndian}
 use Rattle.cipher.specs.State.{state}
 use Rattle.cipher.proofs.WordLaws.{four-eq, words-eq}
 use borrow.Author.Needs.{needs}
-use Rattle.cipher.proofs.stream.counter_block.Statement.{statement}
-use Rattle.cipher.proofs.stream.counter_block.Tie as tie
+use Rattle.cipher.proofs.caching.counter_block.Statement.{statement}
+use Rattle.cipher.proofs.caching.counter_block.Tie as tie
 
 cast-from-le-bytes : tie.Need-cast-from-le-bytes
 cast-from-le-bytes c = search needs

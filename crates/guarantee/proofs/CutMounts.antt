@@ -2,8 +2,8 @@
 -- empty: the next mount has to erase it, and a mount without power for a step is cut.
 use Prim.Native.Nat.{ℕ, _+_, _<_}
 use native.Mathlib.Omega.{arith}
-use mathlib.Core.Path.{_≡_, refl, sym, ap, _∙_}
-use mathlib.Core.Bool.{Bool, true, false, not, _&&_, _||_}
+use mathlib.Core.Path.{_≡_, sym, ap, _∙_}
+use mathlib.Core.Bool.{true, false, not, _&&_, _||_}
 use mathlib.Core.List.{List, map}
 use lib.Dec.{T, eqb, leb, ltb}
 use lib.ListN.{length}
@@ -41,6 +41,7 @@ use Rattle.guarantee.specs.Book.{Book, bookRenewed, keysDone, commitDone
 use Rattle.guarantee.specs.Origin.{copied}
 use Rattle.guarantee.specs.Machine.{Machine, step}
 use Rattle.guarantee.proofs.Sounds.{Loose, Settled}
+use Rattle.guarantee.proofs.StepBytes.{false-of}
 use Rattle.guarantee.proofs.Loosenings.{strays, strays-idle, loose-stray, which-each}
 use Rattle.guarantee.proofs.KeysCopy.{Replacing, row as keys-row}
 use Rattle.guarantee.proofs.KeysOnward.{Going, replacing, more-is}
@@ -144,11 +145,7 @@ module _ (m : Machine) (s : Settled m) (on : T (m .on)) (arg : List ℕ) (done :
       }
 
   begun-full : blockEmpty image copyBlock ≡ false
-  begun-full = go (blockEmpty image copyBlock) refl
-    where
-      go : (t : Bool) → blockEmpty image copyBlock ≡ t → t ≡ false
-      go true q = absurd (row-begun (m .image) copyBlock pagesInBlock (keyBlockPage epoch 0 key) (keysFrame epoch 0) row n k some (omega arith) q)
-      go false q = refl
+  begun-full = false-of (blockEmpty image copyBlock) (row-begun (m .image) copyBlock pagesInBlock (keyBlockPage epoch 0 key) (keysFrame epoch 0) row n k some (omega arith))
 
   -- so it is one that mount erases
   copy-stray : isStray (step m cutCommit .image) (mountNumbers (step m cutCommit .image)) copyBlock ≡ true

@@ -31,10 +31,10 @@ module _ (m : Machine) (call : Call) (g : ℕ) (page : List ℕ) (size : length 
   bookCut k = entered (m .calls) call (cut 0 k) (m .book)
 
   -- the page programmed up to byte k, and the origins then
-  abbrev pub flash : ℕ → List ℕ
+  abbrev flash : ℕ → List ℕ
   flash k = upTo k (program g page) (m .image)
 
-  abbrev pub origins : ℕ → ℕ → Origin
+  abbrev origins : ℕ → ℕ → Origin
   origins k = onFlash (upTo k (program g page) (m .image)) (traceUpTo (byteOrigin (m .book .bringer) (bringerIn (m .calls) call (m .book))) k (program g page) (m .origin))
 
   abbrev event : ℕ → ℕ → Event
@@ -78,7 +78,7 @@ module _ (m : Machine) (call : Call) (g : ℕ) (page : List ℕ) (size : length 
   cut-off k h = rw steps-are at h
 
   -- ---- what holds with the page whole, and with it cut at any byte, holds after the event
-  pub paged : (P : List ℕ → Book → (ℕ → Origin) → Type 0) → P (flash blockSize) bookWhole (origins blockSize) → ((k : ℕ) → P (flash k) (bookCut k) (origins k))
+  paged : (P : List ℕ → Book → (ℕ → Origin) → Type 0) → P (flash blockSize) bookWhole (origins blockSize) → ((k : ℕ) → P (flash k) (bookCut k) (origins k))
       → (n k : ℕ) → P (step m (event n k) .image) (step m (event n k) .book) (step m (event n k) .origin)
   paged P full torn zero k = rw (cut-image k, cut-book k, cut-origin k) (torn k)
   paged P full torn (suc n) k = rw (whole-image n k, whole-book n k, whole-origin n k) full

@@ -147,7 +147,7 @@ module _ (img map letters noise : List ℕ) (size : T (sizeRight img)) (lent : T
       let z = sized img right in
       rw (format-taken img map letters noise size lent long) (format-empty img noise right long b past (omega (arith, z .fewest)))
 
-  pub start-blocks : 8 ≤ blocks (m .image)
+  start-blocks : 8 ≤ blocks (m .image)
   unfolding start leftWhole
   start-blocks =
       let right = is-true (sizeRight img) size in

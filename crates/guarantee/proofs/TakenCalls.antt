@@ -31,8 +31,7 @@ use Rattle.guarantee.specs.Call.{Call, mount, write, commit, wipe, Event
 use Rattle.guarantee.specs.Machine.{Machine, start, step, outcomeAt}
 use Rattle.guarantee.specs.Replies.{anyFree, hasRoom, roomLeft, bookTests}
 use Rattle.guarantee.proofs.Sounds.{is-true}
-use Rattle.guarantee.proofs.FormatCall.{format-taken}
-use Rattle.guarantee.proofs.Room.{format-empty, format-length}
+use Rattle.guarantee.proofs.FormatCall.{format-empty, format-length, format-taken}
 use Rattle.guarantee.proofs.Histories.{History, history, while-on, at-end, at-call}
 use Rattle.guarantee.proofs.Slips.{copy-before-erase}
 

@@ -3,24 +3,29 @@
 use Prim.Native.Nat.{ℕ, zero, suc, _<_, _≤_}
 use native.Mathlib.Omega.{arith}
 use native.Mathlib.Decide.{decLt}
-use mathlib.Core.Path.{_≡_, refl}
+use mathlib.Core.Path.{_≡_, refl, sym, ap, subst}
 use mathlib.Core.Logic.{_⊎_, inl, inr}
-use mathlib.Core.Bool.{false}
+use mathlib.Core.Bool.{Bool, true, false, cond, _&&_, _||_}
 use mathlib.Core.List.{List, [], _∷_}
-use lib.Dec.{T}
-use borrow.Author.Tests.{eq-eqb, le-leb, lt-leb, lt-ltb, le-ltb}
+use mathlib.Core.Option.{some}
+use lib.Dec.{T, eqb}
+use borrow.Author.Tests.{eq-eqb, eqb-true, le-leb, lt-leb, lt-ltb, le-ltb}
+use Rattle.base.proofs.Choice.{and-true, true-false}
 use Rattle.page.specs.Frame.{headerSize, pageSize}
 use Rattle.page.specs.Key.{positions}
 use Rattle.page.specs.Entry.{usedLetter, deletedLetter}
 use Rattle.store.specs.Write.{writeOf}
-use Rattle.store.specs.Outcome.{left}
+use Rattle.store.specs.Reply.{isDone}
+use Rattle.store.specs.Outcome.{Outcome, left}
 use Rattle.store.specs.declared.Reply.the-variants.{Done}
 use Rattle.store.proofs.Counts.{write-steps}
-use Rattle.guarantee.specs.Call.{write, Event}
+use Rattle.store.proofs.Outcomes.{write-refused}
+use Rattle.store.proofs.Verdicts.{done-true}
+use Rattle.guarantee.specs.Call.{Call, mount, write, read, cutOff, commit, wipe, Event, outcomeOf, isMount, Fate}
 use Rattle.guarantee.specs.Book.{lowestMarked, bookWritten, bookSpent, entered}
-use Rattle.guarantee.specs.Machine.{Machine, step, Allowed, fateOf, outcomeAt, leftAt}
-use Rattle.guarantee.proofs.Events.{calls-next}
-use Rattle.guarantee.proofs.Histories.{endOf, History, while-on, next, along, standing}
+use Rattle.guarantee.specs.Machine.{Node, began, nodesAfter, Machine, step, Allowed, fateOf, outcomeAt, leftAt}
+use Rattle.guarantee.proofs.Events.{calls-next, or-on, fate-stepless}
+use Rattle.guarantee.proofs.Histories.{endOf, Permitted, History, while-on, next, along, standing}
 use Rattle.guarantee.proofs.Slips.{taken-free}
 use Rattle.guarantee.proofs.UsedKeys.{UsedUp, entered-used}
 
@@ -45,7 +50,7 @@ module _ (m : Machine) (h : History m) (on : T (m .on)) (file offset : ℕ) (pay
   -- a write that programmed its header, or more, leaves its position u or d
   marked : (n k : ℕ) → (0 < n) ⊎ (headerSize ≤ k) → (step m (writing n k) .book .mark p ≡ usedLetter) ⊎ (step m (writing n k) .book .mark p ≡ deletedLetter)
   unfolding step left entered bookWritten bookSpent
-  marked (suc n) k some = inl (rw (write-steps (m .image) (m .store) file offset payload taken, taken, le-ltb (suc n) 1 (omega arith), eq-eqb p p refl))
+  marked (suc n) k begun = inl (rw (write-steps (m .image) (m .store) file offset payload taken, taken, le-ltb (suc n) 1 (omega arith), eq-eqb p p refl))
   marked zero k (inl l) = absurd (omega arith)
   marked zero k (inr headed) = elim (decLt k pageSize) [
     | yes l ↦ inr (rw (write-steps (m .image) (m .store) file offset payload taken, lt-leb pageSize k l, le-leb headerSize k headed, lt-ltb k pageSize l, eq-eqb p p refl))
@@ -53,14 +58,14 @@ module _ (m : Machine) (h : History m) (on : T (m .on)) (file offset : ℕ) (pay
   ]
 
   marked-up : (n k : ℕ) → (0 < n) ⊎ (headerSize ≤ k) → UsedUp p (m .book .bringer p) (step m (writing n k) .book)
-  marked-up n k some e f = go (marked n k some)
+  marked-up n k begun e f = go (marked n k begun)
     where
       go : (step m (writing n k) .book .mark p ≡ usedLetter) ⊎ (step m (writing n k) .book .mark p ≡ deletedLetter) → ⊥
       go (inl u) = omega arith
       go (inr d) = omega arith
 
   -- a later write that is taken at the same position finds another key there
-  module _ (n k : ℕ) (some : (0 < n) ⊎ (headerSize ≤ k)) (es : List Event) (allowed : Allowed (step m (writing n k)) es) where
+  module _ (n k : ℕ) (begun : (0 < n) ⊎ (headerSize ≤ k)) (es : List Event) (allowed : Allowed (step m (writing n k)) es) where
     abbrev pub later : Machine
     later = endOf (step m (writing n k)) es
 
@@ -70,4 +75,45 @@ module _ (m : Machine) (h : History m) (on : T (m .on)) (file offset : ℕ) (pay
         let hist = along (step m (writing n k)) (next m h (writing n k) (while-on m on false, tt)) es allowed in
         let free = taken-free later hist on' file' offset' payload' taken' .1 in
         along-used p (m .book .bringer p) (taken-free m h on file offset payload taken .0) (step m (writing n k))
-        (omega (arith, calls-next m (writing n k), standing m h .settled .sound .begun p)) (marked-up n k some) es key (rw same at free)
+        (omega (arith, calls-next m (writing n k), standing m h .settled .sound .begun p)) (marked-up n k begun) es key (rw same at free)
+
+-- ---- the node of a key
+-- a write whose header was programmed was taken
+began-taken : (m : Machine) (file offset : ℕ) (payload : List ℕ) (n k : ℕ)
+    → began (fateOf (record { call = write file offset payload; n = n; k = k }) (writeOf (m .image) (m .store) file offset payload) (left n k (writeOf (m .image) (m .store) file offset payload) (m .image))) ≡ true
+    → writeOf (m .image) (m .store) file offset payload .reply ≡ Done
+began-taken m file offset payload n k h = go (isDone (writeOf (m .image) (m .store) file offset payload .reply)) refl
+  where
+    go : (t : Bool) → isDone (writeOf (m .image) (m .store) file offset payload .reply) ≡ t → writeOf (m .image) (m .store) file offset payload .reply ≡ Done
+    go true q = done-true (writeOf (m .image) (m .store) file offset payload .reply) q
+    go false q =
+        let none = ap (λ (o : Outcome). o .steps) (write-refused (m .image) (m .store) file offset payload q) in
+        let refused : isDone (writeOf (m .image) (m .store) file offset payload .reply) || false ≡ true =
+        subst (λ (f : Fate). began f ≡ true) (fate-stepless (record { call = write file offset payload; n = n; k = k }) (writeOf (m .image) (m .store) file offset payload) (m .image) none) h in
+        absurd (true-false (rw q at refused) refl)
+
+-- one key, one node: whatever is called, a key keeps the node that it has enciphered
+module _ (m : Machine) (h : History m) where
+  node-kept : (call : Call) (n k : ℕ) → T (m .on || isMount call) → (p c : ℕ) → p < positions → (v : Node) → m .nodes p c ≡ some v
+      → nodesAfter call (fateOf (record { call = call; n = n; k = k }) (outcomeOf call (m .image) (m .store)) (left n k (outcomeOf call (m .image) (m .store)) (m .image))) (m .book) (m .nodes) p c ≡ some v
+  unfolding nodesAfter
+  node-kept (mount map letters scratch) n k may p c below v q = q
+  node-kept (write file offset payload) n k may p c below v q = go _ refl
+    where
+      go : (t : Bool) → began (fateOf (record { call = write file offset payload; n = n; k = k }) (writeOf (m .image) (m .store) file offset payload) (left n k (writeOf (m .image) (m .store) file offset payload) (m .image)))
+          && (eqb p (lowestMarked (m .book)) && eqb c (m .book .bringer p)) ≡ t → cond t (some (record { file = file; offset = offset; payload = payload })) (m .nodes p c) ≡ some v
+      go true z =
+          let d = and-true _ _ z in
+          let s = and-true (eqb p (lowestMarked (m .book))) (eqb c (m .book .bringer p)) (d .1) in
+          let at : p ≡ lowestMarked (m .book) = eqb-true _ _ (s .0) in
+          let free = taken-free m h (or-on (m .on) may) file offset payload (began-taken m file offset payload n k (d .0)) .1 in
+          absurd (standing m h .once p c below v q .1 (sym (eqb-true _ _ (s .1))) (rw at free))
+      go false z = q
+  node-kept (read file offset output) n k may p c below v q = q
+  node-kept (cutOff file offset) n k may p c below v q = q
+  node-kept (commit noise) n k may p c below v q = q
+  node-kept (wipe noise file offset) n k may p c below v q = q
+
+  pub one-node-per-key : (e : Event) → Permitted m e → (p c : ℕ) → p < positions → (v : Node) → m .nodes p c ≡ some v → step m e .nodes p c ≡ some v
+  unfolding step
+  one-node-per-key e may = node-kept (e .call) (e .n) (e .k) (may .0)

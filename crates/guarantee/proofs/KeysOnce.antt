@@ -64,6 +64,17 @@ module _ (m : Machine) (h : History m) (on : T (m .on)) (file offset : ℕ) (pay
       go (inl u) = omega arith
       go (inr d) = omega arith
 
+  -- and its node is noted under its key
+  pub node-noted : (n k : ℕ) → (0 < n) ⊎ (headerSize ≤ k)
+      → step m (writing n k) .nodes (lowestMarked (m .book)) (m .book .bringer (lowestMarked (m .book))) ≡ some (record { file = file; offset = offset; payload = payload })
+  unfolding step left nodesAfter
+  node-noted (suc n) k begun = rw (write-steps (m .image) (m .store) file offset payload taken, taken, le-ltb (suc n) 1 (omega arith), eq-eqb p p refl, eq-eqb (m .book .bringer p) (m .book .bringer p) refl)
+  node-noted zero k (inl l) = absurd (omega arith)
+  node-noted zero k (inr headed) = elim (decLt k pageSize) [
+    | yes l ↦ rw (write-steps (m .image) (m .store) file offset payload taken, lt-leb pageSize k l, le-leb headerSize k headed, lt-ltb k pageSize l, eq-eqb p p refl, eq-eqb (m .book .bringer p) (m .book .bringer p) refl)
+    | no l ↦ rw (write-steps (m .image) (m .store) file offset payload taken, le-leb pageSize k (omega arith), eq-eqb p p refl, eq-eqb (m .book .bringer p) (m .book .bringer p) refl)
+  ]
+
   -- a later write that is taken at the same position finds another key there
   module _ (n k : ℕ) (begun : (0 < n) ⊎ (headerSize ≤ k)) (es : List Event) (allowed : Allowed (step m (writing n k)) es) where
     abbrev pub later : Machine

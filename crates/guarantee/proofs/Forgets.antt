@@ -27,7 +27,7 @@ use Rattle.guarantee.specs.Origin.{Origin, keyByte}
 use Rattle.guarantee.specs.Machine.{Machine, step, outcomeAt, leftAt}
 use Rattle.guarantee.specs.Statement.{OfDeadKey}
 use Rattle.guarantee.proofs.Histories.{History, while-on, next, at-end, at-call, standing}
-use Rattle.guarantee.proofs.KeysOnce.{committed-renewed}
+use Rattle.guarantee.proofs.UsedKeys.{committed-renewed}
 
 -- ---- a call that replied Done was not cut
 finished : (t : Bool) (r : Reply) → cond t PowerCut r ≡ Done → (t ≡ false) × (r ≡ Done)

@@ -2,131 +2,38 @@
 -- brought that position another key between them. This holds of the whole list, of pages too that have been erased since.
 use Prim.Native.Nat.{ℕ, zero, suc, _<_, _≤_}
 use native.Mathlib.Omega.{arith}
-use native.Mathlib.Decide.{decLt, ℕ-discrete}
-use mathlib.Core.Path.{_≡_, refl}
+use native.Mathlib.Decide.{decLt}
+use mathlib.Core.Path.{_≡_, refl, sym, ap, subst}
 use mathlib.Core.Logic.{_⊎_, inl, inr}
-use mathlib.Core.Bool.{Bool, true, false, cond, not, _&&_, _||_}
+use mathlib.Core.Bool.{Bool, true, false, cond, _&&_, _||_}
 use mathlib.Core.List.{List, [], _∷_}
-use lib.Dec.{T, eqb, ltb, leb}
-use borrow.Author.Tests.{eq-eqb, ne-eqb, eqb-true, eqb-false, ltb-true, le-leb, lt-leb, lt-ltb, le-ltb}
-use Rattle.base.proofs.Choice.{and-true, or-left}
+use mathlib.Core.Option.{some}
+use lib.Dec.{T, eqb}
+use borrow.Author.Tests.{eq-eqb, eqb-true, le-leb, lt-leb, lt-ltb, le-ltb}
+use Rattle.base.proofs.Choice.{and-true, true-false}
 use Rattle.page.specs.Frame.{headerSize, pageSize}
-use Rattle.page.specs.Key.{positions, keyBlock}
-use Rattle.page.specs.Entry.{freeLetter, usedLetter, deletedLetter}
-use Rattle.store.specs.Mount.{removes}
-use Rattle.store.specs.Write.{placeAt, writeOf}
-use Rattle.store.specs.Outcome.{left}
+use Rattle.page.specs.Key.{positions}
+use Rattle.page.specs.Entry.{usedLetter, deletedLetter}
+use Rattle.store.specs.Write.{writeOf}
+use Rattle.store.specs.Reply.{isDone}
+use Rattle.store.specs.Outcome.{Outcome, left}
 use Rattle.store.specs.declared.Reply.the-variants.{Done}
 use Rattle.store.proofs.Counts.{write-steps}
-use Rattle.guarantee.specs.Call.{Call, mount, write, read, cutOff, commit, wipe, Event, Fate, replied, cut, madeWhole, torn}
-use Rattle.guarantee.specs.Book.{Book, heldAmong, lowestMarked, bookWritten, bookSpent, bookRemoved, bookRenewed, bookFreed, onlyIf, keysDone, commitDone, removalDone, wipeCommitAt, bookCommitted, entered}
-use Rattle.guarantee.specs.Machine.{Machine, step, Allowed, fateOf, outcomeAt, leftAt}
-use Rattle.guarantee.proofs.Events.{calls-next}
-use Rattle.guarantee.proofs.Histories.{endOf, History, while-on, next, along, standing}
+use Rattle.store.proofs.Outcomes.{write-refused}
+use Rattle.store.proofs.Verdicts.{done-true}
+use Rattle.guarantee.specs.Call.{Call, mount, write, read, cutOff, commit, wipe, Event, outcomeOf, isMount, Fate}
+use Rattle.guarantee.specs.Book.{lowestMarked, bookWritten, bookSpent, entered}
+use Rattle.guarantee.specs.Machine.{Node, began, nodesAfter, Machine, step, Allowed, fateOf, outcomeAt, leftAt}
+use Rattle.guarantee.proofs.Events.{calls-next, or-on, fate-stepless}
+use Rattle.guarantee.proofs.Histories.{endOf, Permitted, History, while-on, next, along, standing}
 use Rattle.guarantee.proofs.Slips.{taken-free}
+use Rattle.guarantee.proofs.UsedKeys.{UsedUp, entered-used}
 
--- ---- what a purge renews
--- a position that is not u has a key of call now
-abbrev pub Renewed : ℕ → ℕ → Book → Type 0
-Renewed p now b = (b .mark p ≡ usedLetter → ⊥) → b .bringer p ≡ now
-
-renewed-both : (p now : ℕ) → p < positions → (b : Book) → Renewed p now (bookRenewed now 1 (bookRenewed now 0 b))
-unfolding bookRenewed
-renewed-both p now below b free =
-    let u = ne-eqb (b .mark p) usedLetter free in
-    rw u (go (eqb (keyBlock p) 1) refl (eqb (keyBlock p) 0) refl)
-  where
-    go : (s : Bool) → eqb (keyBlock p) 1 ≡ s → (t : Bool) → eqb (keyBlock p) 0 ≡ t → cond (s && true) now (cond (t && true) now (b .bringer p)) ≡ now
-    go true d t e = refl
-    go false d true e = refl
-    go false d false e = absurd (omega (arith, eqb-false (keyBlock p) 1 d, eqb-false (keyBlock p) 0 e))
-
--- a commit, or the commit in a wipe, that comes to its end
-pub committed-renewed : (p now i : ℕ) → p < positions → (b : Book) → (b .mark p ≡ usedLetter → ⊥) → bookCommitted now i (replied Done) b .bringer p ≡ now
-unfolding bookCommitted bookFreed bookRenewed
-committed-renewed p now i below b free = renewed-both p now below b free
-
--- ---- the book alone
--- the key that call c brought to position p is used up: as long as p has it, p is not marked f
-abbrev pub UsedUp : ℕ → ℕ → Book → Type 0
-UsedUp p c b = b .bringer p ≡ c → b .mark p ≡ freeLetter → ⊥
-
-not-free : (t : Bool) (l v : ℕ) → (l ≡ freeLetter → ⊥) → cond t l v ≡ freeLetter → v ≡ freeLetter
-not-free true l v h e = absurd (h e)
-not-free false l v h e = e
-
--- each change of the book leaves it used up
+-- ---- over a list of calls
 module _ (p c : ℕ) where
-  written-used : (x : ℕ) (payload : List ℕ) (b : Book) → UsedUp p c b → UsedUp p c (bookWritten x payload b)
-  unfolding bookWritten
-  written-used x payload b h e f =
-      h e (not-free (heldAmong (λ y. eqb y x) b p) deletedLetter (b .mark p) (omega arith) (not-free (eqb p (lowestMarked b)) usedLetter _ (omega arith) f))
-
-  spent-used : (b : Book) → UsedUp p c b → UsedUp p c (bookSpent b)
-  unfolding bookSpent
-  spent-used b h e f = h e (not-free (eqb p (lowestMarked b)) deletedLetter (b .mark p) (omega arith) f)
-
-  removed-used : (file offset : ℕ) (b : Book) → UsedUp p c b → UsedUp p c (bookRemoved file offset b)
-  unfolding bookRemoved
-  removed-used file offset b h e f = h e (not-free (heldAmong (removes file offset) b p) deletedLetter (b .mark p) (omega arith) f)
-
-  only-used : (t : Bool) (f : Book → Book) → ((b : Book) → UsedUp p c b → UsedUp p c (f b)) → (b : Book) → UsedUp p c b → UsedUp p c (onlyIf t f b)
-  only-used true f h b u = h b u
-  only-used false f h b u = u
-
-  -- a commit or wipe, call now: where it makes a mark f it has brought the position a key before, block by block
-  module _ (now : ℕ) (earlier : c < now) where
-    renewed-used : (q : ℕ) (b : Book) → UsedUp p c b → UsedUp p c (bookRenewed now q b)
-    unfolding bookRenewed
-    renewed-used q b h = go (eqb (keyBlock p) q && not (eqb (b .mark p) usedLetter))
-      where
-        go : (t : Bool) → cond t now (b .bringer p) ≡ c → b .mark p ≡ freeLetter → ⊥
-        go true e f = omega arith
-        go false e f = h e f
-
-    freed-used : (b : Book) → Renewed p now b → UsedUp p c (bookFreed b)
-    unfolding bookFreed
-    freed-used b renewed e f = go (ℕ-discrete (b .mark p) usedLetter)
-      where
-        go : Dec (b .mark p ≡ usedLetter) → ⊥
-        go (yes u) = let same : usedLetter ≡ freeLetter = rw u at f in omega arith
-        go (no u) = omega (arith, renewed u)
-
-    -- the last commit block is made whole after both copies
-    whole-before : (fate : Fate) (i q : ℕ) → q < 2 → madeWhole fate (commitDone i) ≡ true → madeWhole fate (keysDone i q) ≡ true
-    whole-before (replied r) i q l h = h
-    whole-before (cut n k) i q l h = or-left _ _ (lt-ltb (keysDone i q) n (omega (arith, reached (ltb (commitDone i) n) refl h)))
-      where
-        reached : (t : Bool) → ltb (commitDone i) n ≡ t → t || eqb (commitDone i) n && leb pageSize k ≡ true → commitDone i ≤ n
-        reached true e h = omega (arith, ltb-true (commitDone i) n e)
-        reached false e h = omega (arith, eqb-true (commitDone i) n (and-true (eqb (commitDone i) n) (leb pageSize k) h .0))
-
-    committed-used : p < positions → (i : ℕ) (fate : Fate) (b : Book) → UsedUp p c b → UsedUp p c (bookCommitted now i fate b)
-    unfolding bookCommitted
-    committed-used below i fate b h = go (madeWhole fate (commitDone i)) refl
-      where
-        go : (t : Bool) → madeWhole fate (commitDone i) ≡ t → UsedUp p c (onlyIf t bookFreed (onlyIf (madeWhole fate (keysDone i 1)) (bookRenewed now 1) (onlyIf (madeWhole fate (keysDone i 0)) (bookRenewed now 0) b)))
-        go true e = rw (whole-before fate i 0 (omega arith) e, whole-before fate i 1 (omega arith) e) (freed-used (bookRenewed now 1 (bookRenewed now 0 b)) (renewed-both p now below b))
-        go false e = only-used (madeWhole fate (keysDone i 1)) (bookRenewed now 1) (renewed-used 1) _ (only-used (madeWhole fate (keysDone i 0)) (bookRenewed now 0) (renewed-used 0) b h)
-
-    entered-used : p < positions → (call : Call) (fate : Fate) (b : Book) → UsedUp p c b → UsedUp p c (entered now call fate b)
-    unfolding entered
-    entered-used below (mount map letters scratch) fate b h = h
-    entered-used below (write file offset payload) fate b h = go (madeWhole fate 0)
-      where
-        go : (t : Bool) → UsedUp p c (cond t (bookWritten (placeAt file offset) payload b) (onlyIf (torn headerSize fate) bookSpent b))
-        go true = written-used (placeAt file offset) payload b h
-        go false = only-used (torn headerSize fate) bookSpent spent-used b h
-    entered-used below (read file offset output) fate b h = h
-    entered-used below (cutOff file offset) fate b h = only-used (madeWhole fate 0) (bookRemoved file offset) (removed-used file offset) b h
-    entered-used below (commit noise) fate b h = committed-used below 0 fate b h
-    entered-used below (wipe noise file offset) fate b h =
-        committed-used below wipeCommitAt fate _ (only-used (madeWhole fate removalDone) (bookRemoved file offset) (removed-used file offset) b h)
-
-  -- and so does a list of calls
   called-used : p < positions → (m : Machine) (e : Event) → c < m .calls → UsedUp p c (m .book) → UsedUp p c (step m e .book)
   unfolding step
-  called-used below m e earlier h = entered-used (m .calls) earlier below (e .call) (fateOf e (outcomeAt m e) (leftAt m e)) (m .book) h
+  called-used below m e earlier h = entered-used p c (m .calls) earlier below (e .call) (fateOf e (outcomeAt m e) (leftAt m e)) (m .book) h
 
   along-used : p < positions → (m : Machine) → c < m .calls → UsedUp p c (m .book) → (es : List Event) → UsedUp p c (endOf m es .book)
   along-used below m earlier h [] = h
@@ -143,7 +50,7 @@ module _ (m : Machine) (h : History m) (on : T (m .on)) (file offset : ℕ) (pay
   -- a write that programmed its header, or more, leaves its position u or d
   marked : (n k : ℕ) → (0 < n) ⊎ (headerSize ≤ k) → (step m (writing n k) .book .mark p ≡ usedLetter) ⊎ (step m (writing n k) .book .mark p ≡ deletedLetter)
   unfolding step left entered bookWritten bookSpent
-  marked (suc n) k some = inl (rw (write-steps (m .image) (m .store) file offset payload taken, taken, le-ltb (suc n) 1 (omega arith), eq-eqb p p refl))
+  marked (suc n) k begun = inl (rw (write-steps (m .image) (m .store) file offset payload taken, taken, le-ltb (suc n) 1 (omega arith), eq-eqb p p refl))
   marked zero k (inl l) = absurd (omega arith)
   marked zero k (inr headed) = elim (decLt k pageSize) [
     | yes l ↦ inr (rw (write-steps (m .image) (m .store) file offset payload taken, lt-leb pageSize k l, le-leb headerSize k headed, lt-ltb k pageSize l, eq-eqb p p refl))
@@ -151,14 +58,25 @@ module _ (m : Machine) (h : History m) (on : T (m .on)) (file offset : ℕ) (pay
   ]
 
   marked-up : (n k : ℕ) → (0 < n) ⊎ (headerSize ≤ k) → UsedUp p (m .book .bringer p) (step m (writing n k) .book)
-  marked-up n k some e f = go (marked n k some)
+  marked-up n k begun e f = go (marked n k begun)
     where
       go : (step m (writing n k) .book .mark p ≡ usedLetter) ⊎ (step m (writing n k) .book .mark p ≡ deletedLetter) → ⊥
       go (inl u) = omega arith
       go (inr d) = omega arith
 
+  -- and its node is noted under its key
+  pub node-noted : (n k : ℕ) → (0 < n) ⊎ (headerSize ≤ k)
+      → step m (writing n k) .nodes (lowestMarked (m .book)) (m .book .bringer (lowestMarked (m .book))) ≡ some (record { file = file; offset = offset; payload = payload })
+  unfolding step left nodesAfter
+  node-noted (suc n) k begun = rw (write-steps (m .image) (m .store) file offset payload taken, taken, le-ltb (suc n) 1 (omega arith), eq-eqb p p refl, eq-eqb (m .book .bringer p) (m .book .bringer p) refl)
+  node-noted zero k (inl l) = absurd (omega arith)
+  node-noted zero k (inr headed) = elim (decLt k pageSize) [
+    | yes l ↦ rw (write-steps (m .image) (m .store) file offset payload taken, lt-leb pageSize k l, le-leb headerSize k headed, lt-ltb k pageSize l, eq-eqb p p refl, eq-eqb (m .book .bringer p) (m .book .bringer p) refl)
+    | no l ↦ rw (write-steps (m .image) (m .store) file offset payload taken, le-leb pageSize k (omega arith), eq-eqb p p refl, eq-eqb (m .book .bringer p) (m .book .bringer p) refl)
+  ]
+
   -- a later write that is taken at the same position finds another key there
-  module _ (n k : ℕ) (some : (0 < n) ⊎ (headerSize ≤ k)) (es : List Event) (allowed : Allowed (step m (writing n k)) es) where
+  module _ (n k : ℕ) (begun : (0 < n) ⊎ (headerSize ≤ k)) (es : List Event) (allowed : Allowed (step m (writing n k)) es) where
     abbrev pub later : Machine
     later = endOf (step m (writing n k)) es
 
@@ -168,4 +86,45 @@ module _ (m : Machine) (h : History m) (on : T (m .on)) (file offset : ℕ) (pay
         let hist = along (step m (writing n k)) (next m h (writing n k) (while-on m on false, tt)) es allowed in
         let free = taken-free later hist on' file' offset' payload' taken' .1 in
         along-used p (m .book .bringer p) (taken-free m h on file offset payload taken .0) (step m (writing n k))
-        (omega (arith, calls-next m (writing n k), standing m h .settled .sound .begun p)) (marked-up n k some) es key (rw same at free)
+        (omega (arith, calls-next m (writing n k), standing m h .settled .sound .begun p)) (marked-up n k begun) es key (rw same at free)
+
+-- ---- the node of a key
+-- a write whose header was programmed was taken
+began-taken : (m : Machine) (file offset : ℕ) (payload : List ℕ) (n k : ℕ)
+    → began (fateOf (record { call = write file offset payload; n = n; k = k }) (writeOf (m .image) (m .store) file offset payload) (left n k (writeOf (m .image) (m .store) file offset payload) (m .image))) ≡ true
+    → writeOf (m .image) (m .store) file offset payload .reply ≡ Done
+began-taken m file offset payload n k h = go (isDone (writeOf (m .image) (m .store) file offset payload .reply)) refl
+  where
+    go : (t : Bool) → isDone (writeOf (m .image) (m .store) file offset payload .reply) ≡ t → writeOf (m .image) (m .store) file offset payload .reply ≡ Done
+    go true q = done-true (writeOf (m .image) (m .store) file offset payload .reply) q
+    go false q =
+        let none = ap (λ (o : Outcome). o .steps) (write-refused (m .image) (m .store) file offset payload q) in
+        let refused : isDone (writeOf (m .image) (m .store) file offset payload .reply) || false ≡ true =
+        subst (λ (f : Fate). began f ≡ true) (fate-stepless (record { call = write file offset payload; n = n; k = k }) (writeOf (m .image) (m .store) file offset payload) (m .image) none) h in
+        absurd (true-false (rw q at refused) refl)
+
+-- one key, one node: whatever is called, a key keeps the node that it has enciphered
+module _ (m : Machine) (h : History m) where
+  node-kept : (call : Call) (n k : ℕ) → T (m .on || isMount call) → (p c : ℕ) → p < positions → (v : Node) → m .nodes p c ≡ some v
+      → nodesAfter call (fateOf (record { call = call; n = n; k = k }) (outcomeOf call (m .image) (m .store)) (left n k (outcomeOf call (m .image) (m .store)) (m .image))) (m .book) (m .nodes) p c ≡ some v
+  unfolding nodesAfter
+  node-kept (mount map letters scratch) n k may p c below v q = q
+  node-kept (write file offset payload) n k may p c below v q = go _ refl
+    where
+      go : (t : Bool) → began (fateOf (record { call = write file offset payload; n = n; k = k }) (writeOf (m .image) (m .store) file offset payload) (left n k (writeOf (m .image) (m .store) file offset payload) (m .image)))
+          && (eqb p (lowestMarked (m .book)) && eqb c (m .book .bringer p)) ≡ t → cond t (some (record { file = file; offset = offset; payload = payload })) (m .nodes p c) ≡ some v
+      go true z =
+          let d = and-true _ _ z in
+          let s = and-true (eqb p (lowestMarked (m .book))) (eqb c (m .book .bringer p)) (d .1) in
+          let at : p ≡ lowestMarked (m .book) = eqb-true _ _ (s .0) in
+          let free = taken-free m h (or-on (m .on) may) file offset payload (began-taken m file offset payload n k (d .0)) .1 in
+          absurd (standing m h .once p c below v q .1 (sym (eqb-true _ _ (s .1))) (rw at free))
+      go false z = q
+  node-kept (read file offset output) n k may p c below v q = q
+  node-kept (cutOff file offset) n k may p c below v q = q
+  node-kept (commit noise) n k may p c below v q = q
+  node-kept (wipe noise file offset) n k may p c below v q = q
+
+  pub one-node-per-key : (e : Event) → Permitted m e → (p c : ℕ) → p < positions → (v : Node) → m .nodes p c ≡ some v → step m e .nodes p c ≡ some v
+  unfolding step
+  one-node-per-key e may = node-kept (e .call) (e .n) (e .k) (may .0)

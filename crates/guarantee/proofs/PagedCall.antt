@@ -15,7 +15,7 @@ use Rattle.guarantee.specs.Call.{Call, Event, outcomeOf, Fate, replied, 
 use Rattle.guarantee.specs.Book.{Book, entered}
 use Rattle.guarantee.specs.Origin.{Origin, bringerIn, byteOrigin, traceUpTo, trace, onFlash}
 use Rattle.guarantee.specs.Machine.{Machine, step}
-use Rattle.guarantee.proofs.Sounds.{Sound, Settled}
+use Rattle.guarantee.proofs.Sounds.{SomeEmpty, Sound, Settled}
 use Rattle.guarantee.proofs.Steps.{Written, sound-later, written-sound, written-tight}
 use Rattle.guarantee.proofs.Events.{later-noise, calls-next, fate-whole}
 
@@ -31,10 +31,10 @@ module _ (m : Machine) (call : Call) (g : ℕ) (page : List ℕ) (size : length 
   bookCut k = entered (m .calls) call (cut 0 k) (m .book)
 
   -- the page programmed up to byte k, and the origins then
-  abbrev pub flash : ℕ → List ℕ
+  abbrev flash : ℕ → List ℕ
   flash k = upTo k (program g page) (m .image)
 
-  abbrev pub origins : ℕ → ℕ → Origin
+  abbrev origins : ℕ → ℕ → Origin
   origins k = onFlash (upTo k (program g page) (m .image)) (traceUpTo (byteOrigin (m .book .bringer) (bringerIn (m .calls) call (m .book))) k (program g page) (m .origin))
 
   abbrev event : ℕ → ℕ → Event
@@ -78,12 +78,12 @@ module _ (m : Machine) (call : Call) (g : ℕ) (page : List ℕ) (size : length 
   cut-off k h = rw steps-are at h
 
   -- ---- what holds with the page whole, and with it cut at any byte, holds after the event
-  pub paged : (P : List ℕ → Book → (ℕ → Origin) → Type 0) → P (flash blockSize) bookWhole (origins blockSize) → ((k : ℕ) → P (flash k) (bookCut k) (origins k))
+  paged : (P : List ℕ → Book → (ℕ → Origin) → Type 0) → P (flash blockSize) bookWhole (origins blockSize) → ((k : ℕ) → P (flash k) (bookCut k) (origins k))
       → (n k : ℕ) → P (step m (event n k) .image) (step m (event n k) .book) (step m (event n k) .origin)
   paged P full torn zero k = rw (cut-image k, cut-book k, cut-origin k) (torn k)
   paged P full torn (suc n) k = rw (whole-image n k, whole-book n k, whole-origin n k) full
 
-  module _ (s : Settled m) (on : T (m .on)) (p : ℕ) (stored : out .after ≡ mounted (flash blockSize))
+  module _ (s : Settled m) (on : T (m .on)) (p : ℕ) (stored : out .after ≡ mounted (flash blockSize)) (some : SomeEmpty (flash blockSize))
       (written : Written (m .image) (flash blockSize) (m .book) bookWhole (m .origin) (origins blockSize) (m .noise) p)
       (torn : (k : ℕ) → Sound (flash k) (bookCut k) (origins k) (m .noise) (m .calls) (m .calls)) where
     paged-sound : (n k : ℕ) → Sound (step m (event n k) .image) (step m (event n k) .book) (step m (event n k) .origin) (step m (event n k) .noise) (m .calls + 1) (m .calls + 1)
@@ -92,10 +92,11 @@ module _ (m : Machine) (call : Call) (g : ℕ) (page : List ℕ) (size : length 
         (paged (λ img b o. Sound img b o (m .noise) (m .calls) (m .calls)) (written-sound _ _ _ _ _ _ (m .noise) _ (m .calls) (s .sound) (s .tight on) written) torn n k)
 
     pub paged-settled : (n k : ℕ) → Settled (step m (event n k))
-    paged-settled zero k = record { sound = rw (calls-next m (event 0 k)) (paged-sound 0 k); good = λ h. absurd (cut-off k h); tight = λ h. absurd (cut-off k h) }
+    paged-settled zero k = record { sound = rw (calls-next m (event 0 k)) (paged-sound 0 k); good = λ h. absurd (cut-off k h); tight = λ h. absurd (cut-off k h); someEmpty = λ h. absurd (cut-off k h) }
     paged-settled (suc n) k =
         record {
           sound = rw (calls-next m (event (suc n) k)) (paged-sound (suc n) k);
           good = λ h. whole-store n k ∙ stored ∙ ap mounted (sym (whole-image n k));
           tight = λ h. rw (whole-image n k, whole-book n k, whole-origin n k) (written-tight _ _ _ _ _ _ (m .noise) _ (m .calls) (s .sound) (s .tight on) written);
+          someEmpty = λ h. rw (whole-image n k) some;
         }

@@ -35,14 +35,12 @@ use Rattle.guarantee.specs.Machine.{Machine, start, step, outcomeAt, All
 use Rattle.guarantee.proofs.Sounds.{Sound, Tight, is-true}
 use Rattle.guarantee.proofs.Writes.{ranges as node-ranges, sealed-length}
 use Rattle.guarantee.proofs.CutOffCall.{ranges as cut-off-ranges, spaces-length}
-use Rattle.guarantee.proofs.AnchoredCalls.{or-on}
-use Rattle.guarantee.proofs.FormatCall.{format-taken}
-use Rattle.guarantee.proofs.Room.{format-empty, format-length}
+use Rattle.guarantee.proofs.FormatCall.{format-empty, format-length, format-taken}
 use Rattle.guarantee.proofs.Strays.{Neat, neat-stray, chosen-not, program-neat, mount-neat, Neatly, begin-neatly, commit-neatly, stages-neatly}
 use Rattle.guarantee.proofs.Histories.{endOf, Permitted, History, history, next, standing}
 use Rattle.guarantee.proofs.Slips.{copy-before-erase}
 use Rattle.store.proofs.Removals.{removed-numbers}
-use Rattle.guarantee.proofs.Events.{on-uncut}
+use Rattle.guarantee.proofs.Events.{on-uncut, or-on}
 
 -- ---- call by call
 abbrev NeatAfter : List ℕ → Outcome → Type 0

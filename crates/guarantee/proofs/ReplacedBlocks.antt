@@ -1,21 +1,23 @@
 -- A block replaced: a row of pages in a new block, then the old block erased. What holds at each cut of the row and of the erase holds at each cut of both.
-use Prim.Native.Nat.{ℕ, suc, _+_, _-_, _<_, _≤_}
+use Prim.Native.Nat.{ℕ, suc, _+_, _*_, _-_, _<_, _≤_}
 use native.Mathlib.Omega.{arith}
 use native.Mathlib.Decide.{decLt}
 use mathlib.Core.Path.{_≡_, sym, ap, subst, _∙_}
 use mathlib.Core.Bool.{cond}
 use mathlib.Core.List.{List, [], _∷_, _++_}
-use lib.ListN.{length}
+use lib.ListN.{length, length-append}
 use borrow.Author.Tests.{lt-ltb, le-ltb, eq-eqb, ne-eqb, le-leb, lt-leb}
 use Rattle.page.specs.Frame.{pageSize}
 use Rattle.base.proofs.Folds.{length-listFrom}
-use Rattle.image.specs.Step.{Step, erase, upTo, play, playAll}
-use Rattle.image.proofs.Plays.{play-append-first, play-append-second, play-zero, play-all}
+use Rattle.image.specs.Size.{blockSize}
+use Rattle.image.specs.Step.{Step, erase, upTo, whole, play, playAll}
+use Rattle.image.proofs.Plays.{play-append-first, play-append-second, play-zero, play-all, playAll-append, playAll-cons, playAll-nil}
+use Rattle.image.proofs.Step.{upTo-whole}
 use Rattle.image.proofs.Rows.{rowSteps}
 use Rattle.guarantee.specs.Call.{cut, madeWhole}
 use Rattle.guarantee.specs.Book.{Book}
 use Rattle.guarantee.specs.Origin.{Origin, traceUpTo, trace}
-use Rattle.guarantee.proofs.Origins.{trace-first, trace-second, trace-one}
+use Rattle.guarantee.proofs.Origins.{trace-first, trace-second, trace-one, trace-last}
 
 module _ (img : List ℕ) (o : ℕ → Origin) (of : List ℕ → ℕ → Origin) (nb count old : ℕ) (page : ℕ → List ℕ) where
   abbrev row : List Step
@@ -40,6 +42,25 @@ module _ (img : List ℕ) (o : ℕ → Origin) (of : List ℕ → ℕ → Origin
       play-append-second count k row (erase old ∷ []) img (omega (arith, row-length))
       ∙ rw d (play-zero k (erase old) [] (playAll row img))
       ∙ ap (upTo k (erase old)) (sym (play-all count 0 row img (omega (arith, row-length))))
+
+  -- ---- all steps
+  pub steps-length : length steps ≡ count + 1
+  steps-length = length-append row (erase old ∷ []) ∙ omega (arith, row-length)
+
+  pub replaced-image : old * blockSize + blockSize ≤ length img → playAll steps img ≡ upTo blockSize (erase old) (play count 0 row img)
+  replaced-image inside =
+      playAll-append row (erase old ∷ []) img
+      ∙ playAll-cons (erase old) [] (playAll row img)
+      ∙ playAll-nil (whole (erase old) (playAll row img))
+      ∙ sym (upTo-whole blockSize (length img) (erase old) (playAll row img) inside (omega arith))
+      ∙ ap (upTo blockSize (erase old)) (sym (play-all count 0 row img (omega (arith, row-length))))
+
+  pub replaced-trace : trace of (length steps) 0 steps o ≡ traceUpTo of blockSize (erase old) (trace of count 0 row o)
+  replaced-trace =
+      subst (λ (j : ℕ). trace of j 0 steps o ≡ traceUpTo of blockSize (erase old) (trace of count 0 row o)) (sym (length-append row (erase old ∷ [])))
+      (trace-second of 1 0 row (erase old ∷ []) o
+      ∙ trace-last of (erase old) (trace of (length row) 0 row o)
+      ∙ ap (λ (l : ℕ). traceUpTo of blockSize (erase old) (trace of l 0 row o)) row-length)
 
   -- ---- at each cut: b is the book until the row's last page is whole, b' from then on
   module _ (P : List ℕ → (ℕ → Origin) → Book → Type 0) (b b' : Book) (some : 0 < count)

@@ -1,18 +1,14 @@
 -- Document 01, "Slips to shut out": that none of the four can happen, in any list of calls after a format, whatever is cut.
 use Prim.Native.Nat.{ℕ, _<_, _≤_}
-use native.Mathlib.Omega.{arith}
-use native.Mathlib.Decide.{decLt}
 use mathlib.Core.Path.{_≡_, refl, sym, ap, subst, _∙_}
 use mathlib.Core.Logic.{_⊎_, inl, inr}
 use mathlib.Core.Bool.{Bool, true, false, cond}
 use mathlib.Core.List.{List}
 use mathlib.Core.Option.{Option, none}
-use lib.Dec.{T, eqb}
+use lib.Dec.{T}
 use lib.ListN.{length, getD}
-use borrow.Author.Tests.{eqb-true, eq-eqb, le-leb, lt-leb, lt-ltb}
+use borrow.Author.Tests.{eq-eqb, le-leb, lt-leb, lt-ltb}
 use Rattle.base.specs.Each.{Each}
-use Rattle.base.proofs.Choice.{true-false}
-use Rattle.base.proofs.Searches.{first-holds, first-least, any-holds}
 use Rattle.page.specs.Frame.{headerSize, payloadSize, pageSize}
 use Rattle.page.specs.Plan.{places}
 use Rattle.page.specs.Key.{positions}
@@ -29,24 +25,13 @@ use Rattle.guarantee.specs.Call.{mount, write, wipe, Event, lentRight}
 use Rattle.guarantee.specs.Book.{Book, Holding, lowestMarked, bookSpent, bookRemoved, entered}
 use Rattle.guarantee.specs.Origin.{cipher}
 use Rattle.guarantee.specs.Machine.{Machine, step}
-use Rattle.guarantee.specs.Replies.{anyFree, bookTests}
+use Rattle.guarantee.specs.Replies.{bookTests}
 use Rattle.guarantee.specs.Statement.{MapHas, ReadGives}
 use Rattle.guarantee.proofs.Histories.{History, while-on, next, at-end, at-call, Mounting, mounting-permitted, remounted, remounted-book}
+use Rattle.guarantee.proofs.UsedKeys.{lowest-free}
 use Rattle.guarantee.proofs.InOrOut.{FilesAre, afterCall, wipe-in-or-out}
 
 -- ---- the key that a write takes
--- the lowest f, if there is one
-lowest-free : (b : Book) → anyFree b ≡ true → (lowestMarked b < positions) × (b .mark (lowestMarked b) ≡ freeLetter)
-unfolding anyFree lowestMarked
-lowest-free b e =
-    let p : ℕ → Bool = λ q. eqb (b .mark q) freeLetter in
-    let w = any-holds p positions 0 e in
-    let below : lowestMarked b < positions = elim (decLt (lowestMarked b) positions) [
-      | yes h ↦ h
-      | no h ↦ absurd (true-false (w .3) (first-least p positions 0 (w .0) (omega arith) (omega (arith, w .2))))
-    ] in
-    (below, eqb-true _ _ (first-holds p positions 0 (omega arith)))
-
 module _ (m : Machine) (h : History m) (on : T (m .on)) (file offset : ℕ) (payload : List ℕ) (taken : writeOf (m .image) (m .store) file offset payload .reply ≡ Done) where
   abbrev pub keyTaken : ℕ
   keyTaken = lowestMarked (m .book)

@@ -15,11 +15,10 @@ use Rattle.page.specs.Frame.{payloadSize}
 use Rattle.page.specs.Header.{lastNumber}
 use Rattle.image.specs.Size.{sizeRight, blocks}
 use Rattle.image.specs.Look.{blockEmpty, emptyBlocks}
-use Rattle.image.specs.Step.{playAll}
 use Rattle.image.proofs.Looks.{sized}
 use Rattle.store.specs.Reply.{Test, numberOf, verdict}
 use Rattle.store.specs.Outcome.{leftWhole}
-use Rattle.store.specs.Format.{noiseSize, buffersRight, formatSteps}
+use Rattle.store.specs.Format.{noiseSize, buffersRight}
 use Rattle.store.specs.Mount.{mountOf}
 use Rattle.store.specs.Write.{fileRight, offsetRight, writeOf}
 use Rattle.store.specs.Commit.{commitOf}
@@ -32,8 +31,7 @@ use Rattle.guarantee.specs.Call.{Call, mount, write, commit, wipe, Event
 use Rattle.guarantee.specs.Machine.{Machine, start, step, outcomeAt}
 use Rattle.guarantee.specs.Replies.{anyFree, hasRoom, roomLeft, bookTests}
 use Rattle.guarantee.proofs.Sounds.{is-true}
-use Rattle.guarantee.proofs.FormatCall.{format-taken}
-use Rattle.guarantee.proofs.Room.{format-empty, format-length}
+use Rattle.guarantee.proofs.FormatCall.{format-empty, format-length, format-taken}
 use Rattle.guarantee.proofs.Histories.{History, history, while-on, at-end, at-call}
 use Rattle.guarantee.proofs.Slips.{copy-before-erase}
 
@@ -76,7 +74,7 @@ module _ (m : Machine) (h : History m) (on : T (m .on)) where
   wipe-has-block noise file offset e =
       never-ten (wipe noise file offset) (sym (due (wipe noise file offset) refl) ∙ e) (verdict-among (λ r. not (isTen r)) (tests (wipe noise file offset)) refl refl)
 
--- ---- after a format: the one theorem is about lists in which calls are really taken, and really cut
+-- ---- a mount, a write, a commit and a wipe
 pub record Takes (m : Machine) : Type 0 where
   -- with right arguments these are done
   pub mounts : (map letters scratch : List ℕ) → T (lentRight (mount map letters scratch)) → mountOf (m .image) map letters scratch .reply ≡ Done
@@ -88,10 +86,47 @@ pub record Takes (m : Machine) : Type 0 where
       → step m (record { call = write file offset payload; n = 0; k = k }) .on ≡ false
   pub cutCommits : (noise : List ℕ) (n k : ℕ) → length noise ≡ noiseSize → n < replacedSteps → step m (record { call = commit noise; n = n; k = k }) .on ≡ false
 
-cut-off-power : (m : Machine) (e : Event) → e .n < length (outcomeAt m e .steps) → step m e .on ≡ false
+-- the power fails in a call that has more steps
+pub cut-off-power : (m : Machine) (e : Event) → e .n < length (outcomeAt m e .steps) → step m e .on ≡ false
 unfolding step
 cut-off-power m e l = rw (lt-ltb (e .n) (length (outcomeAt m e .steps)) l)
 
+-- two empty blocks are room for a page
+pub two-empty-room : (img : List ℕ) (a b : ℕ) → a < b → b < blocks img → blockEmpty img a ≡ true → blockEmpty img b ≡ true → roomLeft img ≡ true
+unfolding roomLeft emptyBlocks
+two-empty-room img a b apart inside x y = rw (le-leb 2 (emptyBlocks img) two) (go (anyFrom (hasRoom img) (blocks img) 0))
+  where
+    two : 2 ≤ emptyBlocks img
+    two = elim (decLe 2 (emptyBlocks img)) [
+      | yes l ↦ l
+      | no l ↦ let z = count-unique (blockEmpty img) (blocks img) 0 a b (omega arith) (omega arith) (omega arith) (omega arith) (omega arith) x y in absurd (omega arith)
+    ]
+
+    go : (t : Bool) → t || true ≡ true
+    go true = refl
+    go false = refl
+
+-- while a key is free, there is room, and calls are few
+module _ (m : Machine) (h : History m) (on : T (m .on)) (few : m .calls < 50_000_000) (free : anyFree (m .book) ≡ true) (room : roomLeft (m .image) ≡ true) where
+  write-is-done : (file offset : ℕ) (payload : List ℕ) → T (fileRight file) → T (offsetRight file offset) → length payload ≡ payloadSize → writeOf (m .image) (m .store) file offset payload .reply ≡ Done
+  write-is-done file offset payload f o l =
+      due m h on (write file offset payload) refl
+      ∙ verdict-passed (tests m h on (write file offset payload))
+      (is-true (fileRight file) f, (is-true (offsetRight file offset) o, (eq-eqb _ _ l, (le-leb (m .store .numbers .sequence) lastNumber (omega (arith, at-end m h on .counted .0)), (free, (room, tt))))))
+
+  pub calls-taken : Takes m
+  calls-taken =
+      let early = epochs-left m h on few in
+      record {
+        mounts = copy-before-erase m h;
+        writes = write-is-done;
+        commits = λ arg l. commit-is-done m h on arg l (omega arith);
+        wipes = λ arg file offset l f o. wipe-is-done m h on arg file offset l f o early;
+        cutWrites = λ file offset payload k f o l. cut-off-power m (record { call = write file offset payload; n = 0; k = k }) (omega (arith, write-steps (m .image) (m .store) file offset payload (write-is-done file offset payload f o l)));
+        cutCommits = λ arg n k l short. cut-off-power m (record { call = commit arg; n = n; k = k }) (omega (arith, commit-steps (m .image) (m .store) arg (commit-is-done m h on arg l (omega arith))));
+      }
+
+-- ---- after a format: the one theorem is about lists in which calls are really taken, and really cut
 module _ (img map letters noise : List ℕ) (size : T (sizeRight img)) (lent : T (buffersRight map letters)) (long : length noise ≡ noiseSize) where
   abbrev m : Machine
   m = start img map letters noise
@@ -103,53 +138,29 @@ module _ (img map letters noise : List ℕ) (size : T (sizeRight img)) (lent : T
   unfolding start
   on = tt
 
-  -- of 8 blocks or more it fills three
-  two-empty : 2 ≤ emptyBlocks (playAll (formatSteps img noise) img)
-  unfolding emptyBlocks
-  two-empty =
+  -- all but the first three blocks are empty, and there are five more
+  pub start-empty : (b : ℕ) → 3 ≤ b → b < 8 → blockEmpty (m .image) b ≡ true
+  unfolding start leftWhole
+  start-empty b past few =
+      let right = is-true (sizeRight img) size in
+      let z = sized img right in
+      rw (format-taken img map letters noise size lent long) (format-empty img noise right long b past (omega (arith, z .fewest)))
+
+  start-blocks : 8 ≤ blocks (m .image)
+  unfolding start leftWhole
+  start-blocks =
       let right = is-true (sizeRight img) size in
       let z = sized img right in
       let same = format-length img noise right long in
-      let i = playAll (formatSteps img noise) img in
-      let e : (b : ℕ) → 3 ≤ b → b < blocks img → blockEmpty i b ≡ true = format-empty img noise right long in
-      elim (decLe 2 (emptyBlocks i)) [
-        | yes l ↦ l
-        | no l ↦
-            let z : _≡_ {A = ℕ} 3 4 = count-unique (blockEmpty i) (blocks i) 0 3 4 (omega arith) (omega arith) (rw same (omega (arith, z .fewest))) (omega arith) (rw same (omega (arith, z .fewest)))
-            (e 3 (omega arith) (omega (arith, z .fewest))) (e 4 (omega arith) (omega (arith, z .fewest))) in
-            absurd (omega arith)
-      ]
+      rw (format-taken img map letters noise size lent long, same) (omega (arith, z .fewest))
 
-  room : roomLeft (m .image) ≡ true
-  unfolding roomLeft start leftWhole
-  room = rw (format-taken img map letters noise size lent long, le-leb 2 (emptyBlocks (playAll (formatSteps img noise) img)) two-empty) (go (anyFrom (hasRoom (playAll (formatSteps img noise) img)) (blocks (playAll (formatSteps img noise) img)) 0))
-    where
-      go : (t : Bool) → t || true ≡ true
-      go true = refl
-      go false = refl
-
-  free : anyFree (m .book) ≡ true
+  pub start-free : anyFree (m .book) ≡ true
   unfolding start anyFree anyFrom
-  free = refl
+  start-free = refl
 
   first-call : m .calls ≡ 1
   unfolding start
   first-call = refl
 
-  write-is-done : (file offset : ℕ) (payload : List ℕ) → T (fileRight file) → T (offsetRight file offset) → length payload ≡ payloadSize → writeOf (m .image) (m .store) file offset payload .reply ≡ Done
-  write-is-done file offset payload f o l =
-      due m h on (write file offset payload) refl
-      ∙ verdict-passed (tests m h on (write file offset payload))
-      (is-true (fileRight file) f, (is-true (offsetRight file offset) o, (eq-eqb _ _ l, (le-leb (m .store .numbers .sequence) lastNumber (omega (arith, at-end m h on .counted .0, first-call)), (free, (room, tt))))))
-
   pub after-format-taken : Takes (start img map letters noise)
-  after-format-taken =
-      let early = epochs-left m h on (omega (arith, first-call)) in
-      record {
-        mounts = copy-before-erase m h;
-        writes = write-is-done;
-        commits = λ arg l. commit-is-done m h on arg l (omega arith);
-        wipes = λ arg file offset l f o. wipe-is-done m h on arg file offset l f o early;
-        cutWrites = λ file offset payload k f o l. cut-off-power m (record { call = write file offset payload; n = 0; k = k }) (omega (arith, write-steps (m .image) (m .store) file offset payload (write-is-done file offset payload f o l)));
-        cutCommits = λ arg n k l few. cut-off-power m (record { call = commit arg; n = n; k = k }) (omega (arith, commit-steps (m .image) (m .store) arg (commit-is-done m h on arg l (omega arith))));
-      }
+  after-format-taken = calls-taken m h on (omega (arith, first-call)) start-free (two-empty-room (m .image) 3 4 (omega arith) (omega (arith, start-blocks)) (start-empty 3 (omega arith) (omega arith)) (start-empty 4 (omega arith) (omega arith)))

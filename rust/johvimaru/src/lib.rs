@@ -39,6 +39,7 @@
 //!   brought along. [`FileChip`] is a chip in a file, [`CutChip`] one whose power fails where it is told.
 //! - With the feature `cut`, each call has a form that the power cuts after n steps and k bytes of one
 //!   more. It takes the store and leaves an `Unmounted` image, which only a mount makes a store again.
+//! - [`Form`] says what stands on a page, for pictures and reports.
 //! - [`raw`] has the library's calls as they are, for tests of it.
 //!
 //! # What stays secret
@@ -57,6 +58,7 @@ mod chip;
 mod cut;
 mod driver;
 mod ffi;
+mod form;
 mod noise;
 mod plan;
 pub mod raw;
@@ -69,6 +71,7 @@ pub use chip::{Chip, CutChip, CutError, FileChip, MemoryChip, Misuse};
 #[cfg(feature = "cut")]
 pub use cut::{Outcome, Unmounted};
 pub use driver::{Driver, Failure};
+pub use form::{Form, Header};
 pub use noise::Noise;
 pub use plan::{File, Offset};
 pub use record::{KeyCounts, Letter, Node, Record};

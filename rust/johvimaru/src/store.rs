@@ -9,7 +9,8 @@ use crate::{Cut, Outcome, Unmounted};
 ///
 /// The image is anything that lends its bytes: a `Vec<u8>` or a boxed slice, which the store then owns,
 /// or a `&mut [u8]`, which it borrows. It is 8 to 256 blocks of 4,096 bytes. For a chip it is the mirror;
-/// [`Driver`](crate::Driver) keeps both alike.
+/// [`Driver`](crate::Driver) keeps both alike. Nothing but the store may change it while the store has it:
+/// a call on an image that was changed behind it may be refused with [`Refusal::RecordUnfit`].
 ///
 /// ```
 /// use johvimaru::{payload, File, Noise, Refusal, Store};

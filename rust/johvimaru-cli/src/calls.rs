@@ -29,9 +29,9 @@ pub fn run(path: &Path, call: Call, cut: Option<Cut>, out: &mut dyn Write) -> Re
     };
     let file = ImageFile::begin(path)?;
     match call {
-        Call::Format { blocks, force } => format(&file, path, blocks, force, cut, out),
-        Call::Mount => mount(&file, path, cut, out),
-        call => after_mount(&file, path, call, &input, cut, out),
+        Call::Format { blocks, force } => format(&file, blocks, force, cut, out),
+        Call::Mount => mount(&file, cut, out),
+        call => after_mount(&file, call, &input, cut, out),
     }
 }
 
@@ -46,13 +46,12 @@ fn standard_input() -> Result<Vec<u8>, Problem> {
 
 fn format(
     file: &ImageFile,
-    path: &Path,
     blocks: Option<usize>,
     force: bool,
     cut: Option<Cut>,
     out: &mut dyn Write,
 ) -> Result<(), Problem> {
-    let before = image_to_format(file, path, force)?;
+    let before = image_to_format(file, force)?;
     let old_blocks = before.as_ref().map(|image| image.len() / BLOCK);
     let blocks = blocks.or(old_blocks).unwrap_or(BLOCKS);
     if !(MIN_BLOCKS..=MAX_BLOCKS).contains(&blocks) {
@@ -73,7 +72,7 @@ fn format(
 }
 
 /// The image that is formatted, if there is one that may be.
-fn image_to_format(file: &ImageFile, path: &Path, force: bool) -> Result<Option<Vec<u8>>, Problem> {
+fn image_to_format(file: &ImageFile, force: bool) -> Result<Option<Vec<u8>>, Problem> {
     let image = match file.bytes() {
         Err(Problem::RefusedFile(..)) if force => return Ok(None),
         image => image?,
@@ -81,7 +80,7 @@ fn image_to_format(file: &ImageFile, path: &Path, force: bool) -> Result<Option<
     if let Some(image) = &image {
         let empty = image.iter().all(|&byte| byte == 0xff);
         if !force && !empty {
-            image_file::mount(path, image).map_err(|problem| {
+            image_file::mount(&file.named, image).map_err(|problem| {
                 Problem::Other(format!("{problem}; `format --force` replaces it all the same"))
             })?;
         }
@@ -91,15 +90,10 @@ fn image_to_format(file: &ImageFile, path: &Path, force: bool) -> Result<Option<
 
 // ---- Mount, and the calls after it
 
-fn mount(
-    file: &ImageFile,
-    path: &Path,
-    cut: Option<Cut>,
-    out: &mut dyn Write,
-) -> Result<(), Problem> {
+fn mount(file: &ImageFile, cut: Option<Cut>, out: &mut dyn Write) -> Result<(), Problem> {
     let before = file.bytes_or_new()?;
     let mut device = device(file, &before)?;
-    match mount_device(&mut device, path, cut)? {
+    match mount_device(&mut device, &file.named, cut)? {
         End::Done => {
             if image_file::erased(&before, device.mirror()).is_empty() {
                 writeln!(out, "mounted: nothing to erase")?;
@@ -114,7 +108,6 @@ fn mount(
 /// Mounts, and makes one of the other calls.
 fn after_mount(
     file: &ImageFile,
-    path: &Path,
     what: Call,
     input: &[u8],
     cut: Option<Cut>,
@@ -122,7 +115,7 @@ fn after_mount(
 ) -> Result<(), Problem> {
     let before = file.bytes_or_new()?;
     let mut device = device(file, &before)?;
-    mount_device(&mut device, path, None)?;
+    mount_device(&mut device, &file.named, None)?;
     say_erased(&before, &device, out)?;
     let old = device.record().cloned();
     let ended = call(&mut device, cut, |device| make(device, &what, input));

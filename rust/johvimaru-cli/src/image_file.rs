@@ -15,6 +15,9 @@ const BESIDE: &str = ".johvimaru-new";
 
 /// An image file at which no other command is at work.
 pub struct ImageFile {
+    /// Its name, as it was given.
+    pub named: PathBuf,
+    /// The file that the name leads to.
     path: PathBuf,
     beside: PathBuf,
     folder: File,
@@ -22,9 +25,9 @@ pub struct ImageFile {
 
 impl ImageFile {
     /// Waits until no other command is at work in the file's folder.
-    pub fn begin(path: &Path) -> Result<ImageFile, Problem> {
+    pub fn begin(named: &Path) -> Result<ImageFile, Problem> {
         // A link is followed, so that the file that it names is replaced.
-        let path = fs::canonicalize(path).unwrap_or_else(|_| path.to_path_buf());
+        let path = fs::canonicalize(named).unwrap_or_else(|_| named.to_path_buf());
         let parent = match path.parent() {
             Some(parent) if !parent.as_os_str().is_empty() => parent,
             _ => Path::new("."),
@@ -36,17 +39,12 @@ impl ImageFile {
         }
         let mut beside = OsString::from(&path);
         beside.push(BESIDE);
-        Ok(ImageFile { path, beside: beside.into(), folder })
-    }
-
-    /// Its name, for a message.
-    pub fn name(&self) -> String {
-        self.path.file_name().unwrap_or_default().to_string_lossy().into_owned()
+        Ok(ImageFile { named: named.to_path_buf(), path, beside: beside.into(), folder })
     }
 
     /// What is in the file, or none where there is no file. A file of a wrong size is refused.
     pub fn bytes(&self) -> Result<Option<Vec<u8>>, Problem> {
-        load(&self.path)
+        load(&self.named)
     }
 
     /// What is in the file, which is made where there is none.
@@ -57,7 +55,7 @@ impl ImageFile {
         let empty = vec![0xff; BLOCK * BLOCKS];
         let store = Store::format(empty, Noise::from_system()?).map_err(Refusal::from)?;
         self.replace(store.image())?;
-        eprintln!("johvimaru: {} was not there; made, {BLOCKS} blocks", self.name());
+        eprintln!("johvimaru: {} was not there; made, {BLOCKS} blocks", self.named.display());
         Ok(store.into_image())
     }
 
@@ -69,7 +67,7 @@ impl ImageFile {
 
     /// Puts the file beside, when it is on the disk, in the image file's place.
     pub fn keep(&self, chip: &FileChip) -> Result<(), Problem> {
-        chip.sync().and_then(|()| self.rename()).map_err(|error| at(&self.path, error))
+        chip.sync().and_then(|()| self.rename()).map_err(|error| at(&self.named, error))
     }
 
     /// Replaces the image file by one with these bytes.
@@ -78,7 +76,7 @@ impl ImageFile {
             file.sync_all()?;
             self.rename()
         });
-        replaced.map_err(|error| at(&self.path, error))
+        replaced.map_err(|error| at(&self.named, error))
     }
 
     /// What is in the file beside.

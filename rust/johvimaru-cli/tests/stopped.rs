@@ -1,0 +1,112 @@
+//! The command stopped at random moments, and many at once: the image file is always a whole one.
+
+mod common;
+
+use common::{Folder, Numbers};
+use johvimaru::{payload, Form, Noise, Offset, Store, BLOCK, NOISE};
+use std::process::Stdio;
+use std::time::Duration;
+
+fn noise() -> Noise {
+    Noise::new(&[9; NOISE]).unwrap()
+}
+
+/// Starts the command and kills it after some time. Tells whether it had ended by itself.
+fn kill_after(folder: &Folder, line: &str, time: Duration) -> bool {
+    let words: Vec<&str> = line.split_whitespace().collect();
+    let mut child = folder
+        .command(&words)
+        .stdin(Stdio::null())
+        .stdout(Stdio::null())
+        .stderr(Stdio::null())
+        .spawn()
+        .unwrap();
+    std::thread::sleep(time);
+    let _ = child.kill();
+    child.wait().unwrap().success()
+}
+
+/// What stands on an image, whatever its keys are.
+fn forms(image: &[u8]) -> Vec<Form> {
+    Form::all(image).collect()
+}
+
+/// Kills a command at random moments. The file is as before, or as the call leaves it.
+fn killed(name: &str, line: &str, after: fn(Store<Vec<u8>>) -> Vec<u8>) {
+    let folder = Folder::new(name);
+    folder.done("format --blocks 256");
+    folder.done("write 0 0 old");
+    let before = folder.image();
+    let expected = forms(&after(Store::mount(before.clone()).unwrap()));
+    let mut numbers = Numbers(1);
+    let (mut old, mut new) = (0, 0);
+    // The moments are those around the end of the call, wherever that is on this machine.
+    let mut limit = 4_000;
+    for run in 0..120 {
+        folder.put("recorder.img", &before);
+        let time = Duration::from_micros(numbers.below(2 * limit));
+        let ended = kill_after(&folder, line, time);
+        let image = folder.image();
+        if image == before {
+            assert!(!ended, "run {run}: the call was done, and the file is the old one");
+            old += 1;
+            limit += limit / 4;
+        } else {
+            assert!(forms(&image) == expected, "run {run}: the file is neither of the two");
+            Store::mount(image).unwrap();
+            new += 1;
+            limit -= limit / 5;
+        }
+    }
+    assert!(old > 9 && new > 9, "{old} times the old file, {new} times the new one");
+    // What a stopped command has left beside the image is in nobody's way.
+    folder.put("recorder.img", &before);
+    folder.done(line);
+    assert_eq!(folder.names(), ["recorder.img"]);
+}
+
+#[test]
+fn a_write_that_is_killed() {
+    killed("killed-write", "write 0 0 new", |mut store| {
+        store.write(Offset::new(0, 0).unwrap(), &payload(b"new").unwrap()).unwrap();
+        store.into_image()
+    });
+}
+
+#[test]
+fn a_wipe_that_is_killed() {
+    killed("killed-wipe", "wipe 0 0", |mut store| {
+        store.wipe(Offset::new(0, 0).unwrap(), noise()).unwrap();
+        store.into_image()
+    });
+}
+
+#[test]
+fn a_format_that_is_killed() {
+    killed("killed-format", "format", |store| {
+        Store::format(store.into_image(), noise()).unwrap().into_image()
+    });
+}
+
+/// Of many commands at once none loses what another has written.
+#[test]
+fn many_at_once() {
+    let folder = Folder::new("many");
+    folder.done("format --blocks 32");
+    let children: Vec<_> = (0..32)
+        .map(|offset| {
+            let offset = offset.to_string();
+            let words = ["write", "1", &offset, &offset];
+            folder.command(&words).stdout(Stdio::null()).spawn().unwrap()
+        })
+        .collect();
+    for mut child in children {
+        assert!(child.wait().unwrap().success());
+    }
+    let store = Store::mount(folder.image()).unwrap();
+    assert_eq!(store.record().nodes().count(), 32);
+    assert_eq!(folder.image().len(), 32 * BLOCK);
+    for offset in 0..32 {
+        assert_eq!(folder.done(&format!("read 1 {offset}")), format!("{offset}\n"));
+    }
+}

@@ -66,7 +66,7 @@ fn format(
     file.keep(device.chip().inner())?;
     match end {
         End::Done => writeln!(out, "formatted: {blocks} blocks, all keys new")?,
-        End::Cut => say_cut(&device, cut, out)?,
+        End::Cut => say_cut(&device, out)?,
     }
     Ok(())
 }
@@ -100,7 +100,7 @@ fn mount(file: &ImageFile, cut: Option<Cut>, out: &mut dyn Write) -> Result<(), 
             }
             say_erased(&before, &device, out)?;
         }
-        End::Cut => say_cut(&device, cut, out)?,
+        End::Cut => say_cut(&device, out)?,
     }
     keep_if_changed(file, &device, &before)
 }
@@ -122,7 +122,7 @@ fn after_mount(
     // What the mount has erased is erased, even where the call is refused.
     keep_if_changed(file, &device, &before)?;
     match ended? {
-        End::Cut => say_cut(&device, cut, out),
+        End::Cut => say_cut(&device, out),
         End::Done => {
             say_done(&what, old.as_ref(), &device, out)?;
             say_late_cut(&device, cut, out)
@@ -236,9 +236,8 @@ fn say_erased(before: &[u8], device: &Device, out: &mut dyn Write) -> Result<(),
     Ok(())
 }
 
-fn say_cut(device: &Device, cut: Option<Cut>, out: &mut dyn Write) -> Result<(), Problem> {
-    let bytes = cut.map_or(0, |cut| cut.k);
-    let steps = device.chip().steps();
+fn say_cut(device: &Device, out: &mut dyn Write) -> Result<(), Problem> {
+    let (steps, bytes) = (device.chip().steps(), device.chip().cut_bytes());
     writeln!(out, "the power failed after {} and {bytes} bytes of one more", whole_steps(steps))?;
     Ok(())
 }

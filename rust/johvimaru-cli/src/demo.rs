@@ -89,7 +89,7 @@ impl Play<'_> {
 
     fn overwrite(&mut self) -> Result<(), Problem> {
         let (file, offset, text) = OVERWRITTEN;
-        self.head(&format!("file {file} offset {offset} is written again"))?;
+        self.head(&format!("A draught is written again, at file {file} offset {offset}"))?;
         let old = self.node(file, offset)?;
         self.write(file, offset, text)?;
         self.say(&format!(
@@ -133,7 +133,7 @@ impl Play<'_> {
     fn cut_wipe(&mut self, noted: &[Noted]) -> Result<(), Problem> {
         let Cut { n, k } = CUT_WIPE;
         self.head(&format!(
-            "file {DRAUGHTS} is wiped; the power fails after {n} steps and {k} bytes"
+            "The draughts are wiped, and the power fails after {n} steps and {k} bytes"
         ))?;
         self.device.chip_mut().cut_at(CUT_WIPE);
         let result = self.device.wipe(File::new(DRAUGHTS)?.start(), Noise::from_system()?);
@@ -149,8 +149,8 @@ impl Play<'_> {
     }
 
     fn wipe_again(&mut self, noted: &[Noted]) -> Result<(), Problem> {
-        for file in [DRAUGHTS, TRACK] {
-            self.head(&format!("file {file} is wiped, to the end"))?;
+        for (name, file) in [("draughts", DRAUGHTS), ("track", TRACK)] {
+            self.head(&format!("The {name}, file {file}: wiped, to the end"))?;
             let start = File::new(file)?.start();
             self.device.wipe(start, Noise::from_system()?).map_err(told)?;
             let nodes = self.record().nodes().count();

@@ -13,7 +13,7 @@ use args::{Command, Request};
 use johvimaru::Refusal;
 use std::env;
 use std::fmt;
-use std::io::{self, Write};
+use std::io::{self, ErrorKind, Write};
 use std::process::ExitCode;
 
 /// Why the command was not done.
@@ -60,15 +60,27 @@ fn main() -> ExitCode {
             return ExitCode::from(2);
         }
     };
-    let mut out = io::stdout().lock();
-    let result = run(request, &mut out);
-    let flushed = out.flush().map_err(Problem::from);
-    match result.and(flushed) {
+    // All is printed at the end, so that a closed output stops no call.
+    let mut text = Vec::new();
+    let result = run(request, &mut text);
+    let printed = print(&text);
+    match result.and(printed) {
         Ok(()) => ExitCode::SUCCESS,
         Err(problem) => {
             eprintln!("johvimaru: {problem}");
             ExitCode::FAILURE
         }
+    }
+}
+
+/// Prints a text. A reader that has seen enough of it is no problem.
+fn print(text: &[u8]) -> Result<(), Problem> {
+    let mut out = io::stdout().lock();
+    match out.write_all(text).and_then(|()| out.flush()) {
+        Err(error) if error.kind() != ErrorKind::BrokenPipe => {
+            Err(Problem::Other(format!("standard output: {error}")))
+        }
+        _ => Ok(()),
     }
 }
 

@@ -185,10 +185,14 @@ fn what_is_no_file() {
     }
 }
 
-/// Standard output that is closed is a problem, and no panic.
+/// Standard output that takes nothing is a problem and no panic, and the call is done all the same.
 #[test]
 fn standard_output_that_takes_nothing() {
     let folder = Folder::new("full");
+    let full = fs::OpenOptions::new().write(true).open("/dev/full").unwrap();
+    let output = folder.command(&["write", "0", "0", "kept"]).stdout(full).output().unwrap();
+    assert_eq!(output.status.code(), Some(1));
+    assert_eq!(folder.done("read 0 0"), "kept\n");
     let full = fs::OpenOptions::new().write(true).open("/dev/full").unwrap();
     let output = folder.command(&["help"]).stdout(full).output().unwrap();
     let errors = String::from_utf8_lossy(&output.stderr);

@@ -272,6 +272,8 @@ impl<E: fmt::Debug + fmt::Display> Error for CutError<E> {}
 pub struct CutChip<C> {
     chip: C,
     steps: u64,
+    /// The bytes that were done of the step in which the power failed.
+    bytes: usize,
     cut: Option<Cut>,
     off: bool,
 }
@@ -279,7 +281,7 @@ pub struct CutChip<C> {
 impl<C: Chip> CutChip<C> {
     /// A chip whose power stays on until a cut is chosen.
     pub fn new(chip: C) -> CutChip<C> {
-        CutChip { chip, steps: 0, cut: None, off: false }
+        CutChip { chip, steps: 0, bytes: 0, cut: None, off: false }
     }
 
     /// Chooses the cut: so many whole steps from now on, and so many bytes of one more. A k that is larger
@@ -303,6 +305,11 @@ impl<C: Chip> CutChip<C> {
     /// The whole steps since the chip was made or the cut was chosen.
     pub fn steps(&self) -> u64 {
         self.steps
+    }
+
+    /// The bytes that were done of the step in which the power last failed.
+    pub fn cut_bytes(&self) -> usize {
+        self.bytes
     }
 
     /// The chip inside.
@@ -367,8 +374,8 @@ impl<C: Chip> Chip for CutChip<C> {
             return self.chip.program(page, bytes).map_err(CutError::Chip);
         };
         let mut part = [0xff; PAGE];
-        let k = k.min(PAGE);
-        part[..k].copy_from_slice(&bytes[..k]);
+        self.bytes = k.min(PAGE);
+        part[..self.bytes].copy_from_slice(&bytes[..self.bytes]);
         self.chip.program(page, &part).map_err(CutError::Chip)?;
         Err(CutError::PowerCut)
     }
@@ -377,6 +384,7 @@ impl<C: Chip> Chip for CutChip<C> {
         let Some(k) = self.last_bytes()? else {
             return self.chip.erase(block).map_err(CutError::Chip);
         };
+        self.bytes = k.min(BLOCK);
         self.erase_part(block, k).map_err(CutError::Chip)?;
         Err(CutError::PowerCut)
     }

@@ -306,6 +306,32 @@ fn the_demo() {
     assert_eq!(folder.names(), [""; 0], "the demo leaves no file");
 }
 
+/// The session that the README shows is what the command prints.
+#[test]
+fn the_session_of_the_readme() {
+    let top = Path::new(env!("CARGO_MANIFEST_DIR")).join("../..");
+    let readme = fs::read_to_string(top.join("README.md")).unwrap();
+    let (_, section) = readme.split_once("## The command\n").expect("the section is there");
+    let first = "    $ johvimaru ";
+    let session: Vec<&str> = section
+        .lines()
+        .skip_while(|line| !line.starts_with(first))
+        .take_while(|line| line.starts_with("    "))
+        .collect();
+    assert!(session.len() > 20, "the session is in the README");
+    let folder = Folder::new("readme");
+    let mut printed = Vec::new();
+    for call in session.iter().filter_map(|line| line.strip_prefix(first)) {
+        let script = format!("{} {call} 2>&1", env!("CARGO_BIN_EXE_johvimaru"));
+        let output =
+            Command::new("sh").args(["-c", &script]).current_dir(&folder.path).output().unwrap();
+        printed.push(format!("{first}{call}"));
+        let text = String::from_utf8(output.stdout).unwrap();
+        printed.extend(text.lines().map(|line| format!("    {line}")));
+    }
+    assert_eq!(printed.join("\n"), session.join("\n"));
+}
+
 /// The refusals of a call have document 01's numbers and a sentence.
 #[test]
 fn refusals_of_calls() {

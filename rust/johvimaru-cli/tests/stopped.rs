@@ -88,6 +88,29 @@ fn a_format_that_is_killed() {
     });
 }
 
+/// A command that is killed while it makes the image leaves none or a whole one.
+#[test]
+fn a_first_use_that_is_killed() {
+    let mut numbers = Numbers(5);
+    let (mut none, mut some, mut limit) = (0, 0, 4_000);
+    for run in 0..80 {
+        let folder = Folder::new("killed-first");
+        kill_after(&folder, "write 0 0 x", Duration::from_micros(numbers.below(2 * limit)));
+        if folder.names().contains(&"recorder.img".to_string()) {
+            let store = Store::mount(folder.image()).unwrap();
+            assert!(store.record().nodes().count() < 2, "run {run}");
+            some += 1;
+            limit -= limit / 5;
+        } else {
+            none += 1;
+            limit += limit / 4;
+        }
+        folder.done("write 0 0 x");
+        assert_eq!(folder.names(), ["recorder.img"], "run {run}");
+    }
+    assert!(none > 9 && some > 9, "{none} times none, {some} times one");
+}
+
 /// Of many commands at once none loses what another has written.
 #[test]
 fn many_at_once() {

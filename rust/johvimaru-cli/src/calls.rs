@@ -119,8 +119,11 @@ fn after_mount(
     say_erased(&before, &device, out)?;
     let old = device.record().cloned();
     let ended = call(&mut device, cut, |device| make(device, &what, input));
-    // What the mount has erased is erased, even where the call is refused.
-    keep_if_changed(file, &device, &before)?;
+    // What the mount has erased is erased, even where the call is refused. Where the file beside failed,
+    // the image file stays as it was.
+    if matches!(ended, Ok(_) | Err(Problem::Refused(_))) {
+        keep_if_changed(file, &device, &before)?;
+    }
     match ended? {
         End::Cut => say_cut(&device, out),
         End::Done => {
@@ -231,7 +234,7 @@ fn keep_if_changed(file: &ImageFile, device: &Device, before: &[u8]) -> Result<(
 fn say_erased(before: &[u8], device: &Device, out: &mut dyn Write) -> Result<(), Problem> {
     let erased = image_file::erased(before, device.mirror());
     if !erased.is_empty() {
-        writeln!(out, "mount: erased {}, left by a cut call", blocks_in_words(&erased))?;
+        writeln!(out, "mount: erased {}, no part of the store", blocks_in_words(&erased))?;
     }
     Ok(())
 }

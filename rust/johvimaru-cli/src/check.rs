@@ -52,7 +52,9 @@ fn contents(record: &Record) -> String {
 fn would_erase(before: &[u8], after: &[u8]) -> String {
     match &image_file::erased(before, after)[..] {
         [] => "a mount would erase nothing\n".into(),
-        blocks => format!("a mount would erase {}, left by a cut call\n", blocks_in_words(blocks)),
+        blocks => {
+            format!("a mount would erase {}, no part of the store\n", blocks_in_words(blocks))
+        }
     }
 }
 

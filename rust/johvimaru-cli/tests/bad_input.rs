@@ -22,50 +22,53 @@ const CALLS: [&str; 10] = [
     "map",
 ];
 
+/// Lines that are not understood.
+const WRONG: [&str; 39] = [
+    "",
+    "forget",
+    "--cut 1,2",
+    "write",
+    "write 0",
+    "write 0 x y",
+    "write 0 0 x y",
+    "write zero 0 x",
+    "write -1 0 x",
+    "write 0 0 x --cut",
+    "write 0 0 x --cut 1",
+    "write 0 0 x --cut 1,",
+    "write 0 0 x --cut ,1",
+    "write 0 0 x --cut 1,2,3",
+    "write 0 0 x --cut -1,2",
+    "write 0 0 x --cut one,two",
+    "read 0",
+    "read 0 0 0",
+    "read 0 0 --cut 1,2",
+    "cut-off 0",
+    "commit 1",
+    "commit --force",
+    "wipe",
+    "format 8",
+    "format --blocks",
+    "format --blocks eight",
+    "format --blocks 8 --blocks 9",
+    "format --force=yes",
+    "list all",
+    "list --raw",
+    "check --image",
+    "map --before a",
+    "map --after a",
+    "map --before a --after b --image c",
+    "demo fast",
+    "help forget",
+    "help write read",
+    "-x",
+    "--image",
+];
+
 #[test]
 fn words_that_are_not_understood() {
     let folder = Folder::new("words");
-    for line in [
-        "",
-        "forget",
-        "--cut 1,2",
-        "write",
-        "write 0",
-        "write 0 x y",
-        "write 0 0 x y",
-        "write zero 0 x",
-        "write -1 0 x",
-        "write 0 0 x --cut",
-        "write 0 0 x --cut 1",
-        "write 0 0 x --cut 1,",
-        "write 0 0 x --cut ,1",
-        "write 0 0 x --cut 1,2,3",
-        "write 0 0 x --cut -1,2",
-        "write 0 0 x --cut one,two",
-        "read 0",
-        "read 0 0 0",
-        "read 0 0 --cut 1,2",
-        "cut-off 0",
-        "commit 1",
-        "commit --force",
-        "wipe",
-        "format 8",
-        "format --blocks",
-        "format --blocks eight",
-        "format --blocks 8 --blocks 9",
-        "format --force=yes",
-        "list all",
-        "list --raw",
-        "check --image",
-        "map --before a",
-        "map --after a",
-        "map --before a --after b --image c",
-        "demo fast",
-        "help forget",
-        "help write read",
-        "-x",
-        "--image",
-    ] {
+    for line in WRONG {
         let ran = folder.run(line);
         assert_eq!((ran.status, ran.printed), (2, String::new()), "{line:?}: {}", ran.errors);
         assert!(ran.errors.starts_with("johvimaru: "), "{line:?}: {}", ran.errors);
@@ -74,34 +77,17 @@ fn words_that_are_not_understood() {
     assert_eq!(folder.names(), [""; 0], "nothing was made");
 }
 
+/// Words that the command knows.
+const KNOWN: &str =
+    "write read format list wipe commit 0 1 13 - -- --cut 0,0 --blocks 8 --image i.img \
+                     --raw --help = --cut=1,1";
+
 /// Any bytes may stand among the words: the command answers, and does not fall over.
 #[test]
 fn random_words() {
     let folder = Folder::new("random-words");
     let mut numbers = Numbers(3);
-    let known = [
-        "write",
-        "read",
-        "format",
-        "list",
-        "wipe",
-        "commit",
-        "0",
-        "1",
-        "13",
-        "-",
-        "--",
-        "--cut",
-        "0,0",
-        "--blocks",
-        "8",
-        "--image",
-        "i.img",
-        "--raw",
-        "--help",
-        "=",
-        "--cut=1,1",
-    ];
+    let known: Vec<&str> = KNOWN.split(' ').collect();
     for case in 0..300 {
         let words: Vec<OsString> = (0..numbers.below(6))
             .map(|_| match numbers.below(4) {

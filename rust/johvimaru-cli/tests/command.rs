@@ -94,11 +94,11 @@ keys: 1 used, 446 free, 1 deleted
 next sequence 3, next epoch 3
 key blocks 0 and 1 are in blocks 0 and 1, the commit in 4
 pages that writes and cut-offs can still take: 62
-a mount would erase block 2, left by a cut call
+a mount would erase block 2, no part of the store
 ";
     assert_eq!(folder.done("check"), said);
     assert!(folder.image() == before, "check leaves the file as it is");
-    assert_eq!(folder.done("mount"), "mount: erased block 2, left by a cut call\n");
+    assert_eq!(folder.done("mount"), "mount: erased block 2, no part of the store\n");
     assert!(folder.done("check").ends_with("a mount would erase nothing\n"));
 }
 
@@ -213,7 +213,7 @@ fn a_mount_that_is_cut_and_mounted_again() {
     assert_eq!(folder.done("mount --cut 0,5"), said);
     let cut = Store::mount_cut(image, Cut { n: 0, k: 5 }).unwrap();
     assert!(folder.image() == cut.image());
-    assert_eq!(folder.done("mount"), "mount: erased block 3, left by a cut call\n");
+    assert_eq!(folder.done("mount"), "mount: erased block 3, no part of the store\n");
     assert_eq!(folder.done("mount --cut 0,5"), "mounted: nothing to erase\n");
 }
 

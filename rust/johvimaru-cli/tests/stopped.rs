@@ -111,6 +111,31 @@ fn a_first_use_that_is_killed() {
     assert!(none > 9 && some > 9, "{none} times none, {some} times one");
 }
 
+/// Where files cannot grow as they must, the image file stays as it was.
+#[test]
+fn a_disk_that_takes_no_more() {
+    let folder = Folder::new("full-disk");
+    folder.done("format --blocks 256");
+    let before = folder.image();
+    // The limit ends the command by a signal, or, where that is ignored, by an error.
+    for script in ["ulimit -f 8", "trap '' XFSZ; ulimit -f 8"] {
+        for line in ["write 0 0 x", "wipe 0 0", "commit", "format", "format --blocks 8"] {
+            let binary = env!("CARGO_BIN_EXE_johvimaru");
+            let script = format!("{script}; exec {binary} {line}");
+            let output = std::process::Command::new("sh")
+                .args(["-c", &script])
+                .current_dir(&folder.path)
+                .output()
+                .unwrap();
+            let code = output.status.code();
+            assert!(matches!(code, None | Some(1)), "{script}: {code:?}");
+            assert!(folder.image() == before, "{script}");
+        }
+    }
+    folder.done("write 0 0 x");
+    assert_eq!(folder.names(), ["recorder.img"]);
+}
+
 /// Of many commands at once none loses what another has written.
 #[test]
 fn many_at_once() {

@@ -239,7 +239,7 @@ fn listing_program(image: &[u8]) -> String {
         .stdin(Stdio::piped())
         .stdout(Stdio::piped())
         .spawn()
-        .expect("`rt check listing` has made the program");
+        .unwrap_or_else(|error| panic!("target/bin/listing, by `rt check listing`: {error}"));
     let _ = child.stdin.take().unwrap().write_all(image);
     String::from_utf8(child.wait_with_output().unwrap().stdout).unwrap()
 }

@@ -14,6 +14,60 @@ use std::path::Path;
 /// A step is begun only when the one before it has ended. Where the power fails in a program, some bytes
 /// at the page's start are written and the rest is still FFh; where it fails in an erase, some bytes at
 /// the block's start are FFh and the rest is as it was.
+///
+/// A chip on a bus of the caller's:
+///
+/// ```
+/// use johvimaru::{Chip, Driver, Noise, Page};
+/// # struct Bus(Vec<u8>);
+/// # impl Bus {
+/// #     fn fetch(&self, at: usize, bytes: &mut [u8]) -> Result<(), &'static str> {
+/// #         bytes.copy_from_slice(&self.0[at..at + bytes.len()]);
+/// #         Ok(())
+/// #     }
+/// #     fn page_program(&mut self, at: usize, bytes: &[u8]) -> Result<(), &'static str> {
+/// #         self.0[at..at + bytes.len()].copy_from_slice(bytes);
+/// #         Ok(())
+/// #     }
+/// #     fn block_erase(&mut self, at: usize) -> Result<(), &'static str> {
+/// #         self.0[at..at + 4_096].fill(0xff);
+/// #         Ok(())
+/// #     }
+/// # }
+///
+/// struct OnBus {
+///     bus: Bus,
+/// }
+///
+/// impl Chip for OnBus {
+///     type Error = &'static str;
+///
+///     fn blocks(&self) -> usize {
+///         64
+///     }
+///
+///     fn read(&mut self, page: usize, bytes: &mut Page) -> Result<(), Self::Error> {
+///         self.bus.fetch(256 * page, bytes)
+///     }
+///
+///     fn program(&mut self, page: usize, bytes: &Page) -> Result<(), Self::Error> {
+///         // Returns when the chip is no longer busy.
+///         self.bus.page_program(256 * page, bytes)
+///     }
+///
+///     fn erase(&mut self, block: usize) -> Result<(), Self::Error> {
+///         self.bus.block_erase(4_096 * block)
+///     }
+/// }
+///
+/// # let bus = Bus(vec![0; 64 * 4_096]);
+/// let mut driver = Driver::new(OnBus { bus });
+/// if driver.mount().is_err() {
+///     driver.format(Noise::from_system()?)?;
+/// }
+/// assert_eq!(driver.record().map(|record| record.counts().free), Some(448));
+/// # Ok::<(), Box<dyn std::error::Error>>(())
+/// ```
 pub trait Chip {
     /// What goes wrong on such a chip.
     type Error;

@@ -63,7 +63,7 @@ impl<E> From<Refusal> for Failure<E> {
 /// [`Failure::NotMounted`]. The step that failed may stand on the chip in part; mount reads the chip
 /// anew.
 ///
-/// A call of s steps is made s times on a copy, the last time to its end.
+/// A call is made on a copy as often as it has steps, and at least once.
 ///
 /// ```
 /// use johvimaru::{payload, Driver, File, MemoryChip, Noise};

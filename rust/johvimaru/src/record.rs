@@ -88,7 +88,11 @@ impl Record {
         Offset::all().filter_map(|at| self.node(at))
     }
 
-    /// The letter of a key position, which is below 448.
+    /// The letter of a key position.
+    ///
+    /// # Panics
+    ///
+    /// Where the position is not below 448.
     pub fn letter(&self, position: usize) -> Letter {
         Letter::of(self.0.letters[position])
     }
@@ -131,7 +135,11 @@ impl Record {
         self.0.numbers[4] as usize
     }
 
-    /// Where the key of a position, which is below 448, stands in the image.
+    /// Where the key of a position stands in the image.
+    ///
+    /// # Panics
+    ///
+    /// Where the position is not below 448.
     ///
     /// ```
     /// # use johvimaru::{Noise, Store};

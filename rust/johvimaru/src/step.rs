@@ -52,6 +52,10 @@ impl Step {
     }
 
     /// Does the step on an image.
+    ///
+    /// # Panics
+    ///
+    /// Where the image has no such page or block.
     pub fn apply(&self, image: &mut [u8]) {
         match self {
             Step::Program { page, bytes } => {

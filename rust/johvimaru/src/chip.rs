@@ -62,9 +62,10 @@ use std::path::Path;
 ///
 /// # let bus = Bus(vec![0; 64 * 4_096]);
 /// let mut driver = Driver::new(OnBus { bus });
-/// if driver.mount().is_err() {
-///     driver.format(Noise::from_system()?)?;
-/// }
+/// // Once, when the recorder is made.
+/// driver.format(Noise::from_system()?)?;
+/// // Each time that its power comes on.
+/// driver.mount()?;
 /// assert_eq!(driver.record().map(|record| record.counts().free), Some(448));
 /// # Ok::<(), Box<dyn std::error::Error>>(())
 /// ```

@@ -126,6 +126,7 @@ impl Play<'_> {
             .collect();
         let positions: Vec<String> = noted.iter().map(|key| key.position.to_string()).collect();
         self.say(&format!("the firm's payloads were under keys {}", positions.join(" ")))?;
+        self.say_texts()?;
         self.say_found(&noted)?;
         Ok(noted)
     }
@@ -160,7 +161,7 @@ impl Play<'_> {
         Ok(())
     }
 
-    /// The proof by search: no old key begins at any byte, and no text ever stood there.
+    /// The proof by search: no old key begins at any byte.
     fn search(&mut self, noted: &[Noted]) -> Result<(), Problem> {
         self.head("The old keys are looked for, byte for byte")?;
         let chip = self.device.chip().inner().bytes();
@@ -241,6 +242,15 @@ impl Play<'_> {
 
     fn say(&mut self, text: &str) -> Result<(), Problem> {
         Ok(writeln!(self.out, "   {text}")?)
+    }
+
+    /// Looks for the texts that were written.
+    fn say_texts(&mut self) -> Result<(), Problem> {
+        let chip = self.device.chip().inner().bytes();
+        let texts = WRITTEN.iter().chain([&OVERWRITTEN, &LOST]);
+        let found = texts.clone().filter(|(_, _, text)| contains(chip, text.as_bytes())).count();
+        let all = texts.count();
+        self.say(&format!("found on the chip: {found} of their {all} texts, which are enciphered"))
     }
 
     fn say_found(&mut self, noted: &[Noted]) -> Result<(), Problem> {

@@ -296,6 +296,7 @@ fn the_demo() {
     for line in [
         "   mounted: file 2 offset 1 still reads \"track 51.97 N 4.11 E\"",
         "   the firm's payloads were under keys 0 1 2 3 4 5 6",
+        "   found on the chip: 0 of their 7 texts, which are enciphered",
         "   found on the chip: 7 of these 7 keys",
         "   found on the chip: 2 of these 7 keys",
         "   found on the chip: 0 of these 7 keys",

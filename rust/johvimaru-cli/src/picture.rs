@@ -26,6 +26,9 @@ pub fn colours() -> bool {
 
 /// Draws what `map` is asked for.
 pub fn run(path: &Path, options: &MapOptions, out: &mut dyn Write) -> Result<(), Problem> {
+    if let Some(svg) = &options.svg {
+        return Err(Problem::Other(format!("{}: SVG is not drawn yet", svg.display())));
+    }
     let pair = options.before_after.as_ref();
     let paths = pair.map_or(vec![path], |(before, after)| vec![before, after]);
     let mut drawn = Vec::new();

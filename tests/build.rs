@@ -1,19 +1,15 @@
-//! Links the static libraries that `rt staticlib` writes.
+//! Links the static library `harness`, which `rt staticlib` writes. The crate `johvimaru` links
+//! `recorder`.
 
 use std::path::Path;
 
-/// The crates linked as static libraries; `.ci/run` has the same list.
-const LIBRARIES: [&str; 2] = ["harness", "recorder"];
-
 fn main() {
     let folder = Path::new(env!("CARGO_MANIFEST_DIR")).join("../target/staticlib");
+    let archive = folder.join("libharness.a");
     println!("cargo::rustc-link-search=native={}", folder.display());
-    for name in LIBRARIES {
-        let archive = folder.join(format!("lib{name}.a"));
-        println!("cargo::rerun-if-changed={}", archive.display());
-        println!("cargo::rustc-link-lib=static={name}");
-        if !archive.exists() {
-            println!("cargo::error=target/staticlib/lib{name}.a is missing: run `rt staticlib {name}` at the top of the repository");
-        }
+    println!("cargo::rerun-if-changed={}", archive.display());
+    println!("cargo::rustc-link-lib=static=harness");
+    if !archive.exists() {
+        println!("cargo::error=target/staticlib/libharness.a is missing: run `rt staticlib harness` at the top of the repository");
     }
 }

@@ -10,6 +10,8 @@
 //!
 //! Under `cargo bench` it prints ratios. Under `cargo test` it only compares results.
 
+use johvimaru::raw as recorder;
+use johvimaru::Refusal;
 use johvimaru_tests::databases::{Folder, Lmdb, Sqlite};
 use johvimaru_tests::ffi::page as harness;
 use johvimaru_tests::model::calls;
@@ -19,7 +21,6 @@ use johvimaru_tests::model::list::{Call, Data};
 use johvimaru_tests::model::pages::{self, Form, Header, ERASED, PAGE, PAYLOAD};
 use johvimaru_tests::model::record::Record;
 use johvimaru_tests::model::store::Store;
-use johvimaru_tests::recorder::{self, Reply};
 use johvimaru_tests::shared_library::SharedLibrary;
 use johvimaru_tests::side_by_side;
 use johvimaru_tests::timing::{self, Work};
@@ -179,7 +180,7 @@ fn fits(setting: &Setting) -> Work<'static> {
     Box::new(move || {
         for _ in 0..CALLS {
             let reply = recorder::read(&ours.image, &ours.record, file, offset, &mut output);
-            assert_eq!(reply, Reply::NothingThere);
+            assert_eq!(reply, Refusal::NothingThere.number());
         }
     })
 }
@@ -222,7 +223,7 @@ impl Ours {
     fn new(blocks: usize) -> Ours {
         let (mut image, mut record) = (vec![0; BLOCK * blocks], recorder::Record::blank());
         let reply = recorder::format(&mut image, &mut record, &FORMAT_NOISE.bytes());
-        assert_eq!(reply, Reply::Done);
+        assert_eq!(reply, recorder::DONE);
         Ours { image, kept: record.clone(), record }
     }
 }
@@ -235,13 +236,13 @@ impl Peer for Ours {
     fn write(&mut self, place: usize, payload: &Payload) {
         let (file, offset) = node(place);
         let reply = recorder::write(&mut self.image, &mut self.record, file, offset, payload);
-        assert_eq!(reply, Reply::Done);
+        assert_eq!(reply, recorder::DONE);
     }
 
     fn read(&mut self, place: usize, output: &mut Payload) {
         let (file, offset) = node(place);
         let reply = recorder::read(&self.image, &self.record, file, offset, output);
-        assert_eq!(reply, Reply::Done);
+        assert_eq!(reply, recorder::DONE);
     }
 
     fn keep(&mut self) {
@@ -360,7 +361,7 @@ fn mounts(blocks: usize, writes: usize, bench: bool) {
     let ours = written(blocks, writes);
     let (mut image, mut record) = (ours.image.clone(), recorder::Record::blank());
     let mut second = Store { image: ours.image.clone(), record: Record::blank() };
-    assert_eq!(recorder::mount(&mut image, &mut record, &mut [0; PLACES]), Reply::Done);
+    assert_eq!(recorder::mount(&mut image, &mut record, &mut [0; PLACES]), recorder::DONE);
     assert_eq!(second.call(Call::MOUNT), calls::DONE);
     assert!(image == ours.image && record == ours.record, "a mount finds what was written");
     assert_eq!((&record.map, &record.letters), (&second.record.map, &second.record.letters));
@@ -429,7 +430,7 @@ fn purges(name: &str, bench: bool, call: Call) {
             Call::Wipe { .. } => recorder::wipe(&mut image, &mut record, &noise, 0, 0),
             _ => recorder::commit(&mut image, &mut record, &noise),
         };
-        assert_eq!(reply, Reply::Done);
+        assert_eq!(reply, recorder::DONE);
         image
     };
     let model = || {

@@ -1,9 +1,8 @@
-//! The functions of the static libraries, as safe Rust functions.
+//! The functions of the library `harness`, as safe Rust functions. Those of `recorder` are in the crate
+//! `johvimaru`.
 //!
 //! A lent slice goes over as a pointer and a length, and the reply comes back as a number.
 //! Nothing compares these declarations with the Rattle source: a change there is a change here.
-
-pub mod recorder;
 
 /// The reply of a call that did its work.
 pub const DONE: u32 = 0;

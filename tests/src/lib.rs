@@ -1,7 +1,8 @@
 //! What the tests and benchmarks of the proved libraries share.
 //!
-//! - [`ffi`]: the functions of the static libraries, as safe Rust functions.
-//! - [`recorder`]: the store with plain types, over the library `recorder`.
+//! The store itself is the crate `johvimaru`, over the library `recorder`.
+//!
+//! - [`ffi`]: the functions of the library `harness`, as safe Rust functions.
 //! - [`side_by_side`]: the same call by library and second implementation, and their first difference.
 //! - [`model`]: second implementations, written from the public documents alone.
 //! - [`random_lists`]: lists of calls of the store.
@@ -17,7 +18,6 @@ pub mod guarded;
 pub mod hex;
 pub mod model;
 pub mod random_lists;
-pub mod recorder;
 pub mod rng;
 pub mod shared_library;
 pub mod side_by_side;

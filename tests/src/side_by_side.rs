@@ -7,8 +7,9 @@ use crate::model::list::{self, Data, Lent};
 use crate::model::pages::{PAGE, PAYLOAD};
 use crate::model::record::{self as model, Numbers, SCRATCH};
 use crate::model::store::Store;
-use crate::recorder::{self, Cut, Reply};
 use crate::rng::Rng;
+use johvimaru::raw as recorder;
+use johvimaru::{Cut, Refusal};
 use std::collections::{BTreeMap, HashSet};
 use std::fmt;
 use std::hash::{DefaultHasher, Hash, Hasher};
@@ -220,7 +221,7 @@ fn by_library(store: Store, call: Call, data: &[u8], power: Power) -> After {
     };
     let recorder::Record { map, letters, numbers: new } = record;
     let record = model::Record { map, letters, numbers: numbers(new) };
-    After { reply: reply.number(), store: Store { image, record }, output, scratch }
+    After { reply, store: Store { image, record }, output, scratch }
 }
 
 /// A call in its plain form.
@@ -231,7 +232,7 @@ fn whole_by_library(
     data: &[u8],
     output: &mut [u8],
     scratch: &mut [u32],
-) -> Reply {
+) -> u32 {
     match call {
         Call::Format { .. } => recorder::format(image, record, data),
         Call::Mount { .. } => recorder::mount(image, record, scratch),
@@ -251,7 +252,7 @@ fn cut_by_library(
     data: &[u8],
     scratch: &mut [u32],
     cut: Cut,
-) -> Reply {
+) -> u32 {
     match call {
         Call::Format { .. } => recorder::format_cut(image, record, data, cut),
         Call::Mount { .. } => recorder::mount_cut(image, record, scratch, cut),
@@ -298,11 +299,21 @@ fn stretch<T: Clone + From<u8>>(buffer: &mut Vec<T>, by: isize) {
     buffer.resize(length, T::from(b'f'));
 }
 
+/// A reply's number and what it says.
+fn in_words(reply: u32) -> String {
+    match Refusal::of(reply) {
+        Some(refusal) => format!("{reply} ({refusal})"),
+        None if reply == DONE => format!("{reply} (done)"),
+        None if reply == CUT => format!("{reply} (cut)"),
+        None => format!("{reply} (no reply)"),
+    }
+}
+
 /// In words, where two outcomes of a call differ.
 fn difference(ours: &After, second: &After) -> String {
     let mut text = String::new();
     if ours.reply != second.reply {
-        let [ours, second] = [ours.reply, second.reply].map(Reply::of);
+        let [ours, second] = [ours.reply, second.reply].map(in_words);
         text += &format!("reply: library {ours}, second implementation {second}\n");
     }
     let (a, b) = (&ours.store.image, &second.store.image);
@@ -465,7 +476,7 @@ impl Tally {
     pub fn require(&self, name: &'static str, replies: &[u32]) {
         for &reply in replies {
             let met = self.replies.contains_key(&(name, reply));
-            assert!(met, "no {name} with reply {}:{}", Reply::of(reply), self.table());
+            assert!(met, "no {name} with reply {}:{}", in_words(reply), self.table());
         }
     }
 

@@ -1,11 +1,12 @@
 //! The C header: a program that uses it, as C and as C++, and its constants.
 
+use johvimaru::raw::{DONE, POWER_CUT};
+use johvimaru::Refusal;
 use johvimaru_tests::model::files::{COUNTS, FILES, PLACES};
 use johvimaru_tests::model::image::{BLOCK, SIZES};
 use johvimaru_tests::model::keys::NOISE;
 use johvimaru_tests::model::pages::{PAGE, PAYLOAD};
 use johvimaru_tests::model::record::{LETTERS, MAP, NONE, SCRATCH};
-use johvimaru_tests::recorder::Reply;
 use std::path::{Path, PathBuf};
 use std::process::Command;
 
@@ -113,25 +114,25 @@ fn the_constants() {
     let indices = ["NEXT_SEQUENCE", "NEXT_EPOCH", "KEYS_0", "KEYS_1", "COMMIT"];
     assert_eq!(indices.map(|name| defined(&header, name)), [0, 1, 2, 3, 4]);
     let replies = [
-        ("DONE", Reply::Done),
-        ("REFUSED_IMAGE", Reply::ImageSize),
-        ("REFUSED_LENGTHS", Reply::BufferLength),
-        ("REFUSED_NOISE", Reply::NoiseLength),
-        ("REFUSED_FILE", Reply::NoSuchFile),
-        ("REFUSED_OFFSET", Reply::OffsetOutside),
-        ("REFUSED_PAYLOAD", Reply::PayloadLength),
-        ("REFUSED_RECORD", Reply::RecordUnfit),
-        ("NOTHING_THERE", Reply::NothingThere),
-        ("NO_FREE_KEY", Reply::NoFreeKey),
-        ("NO_ROOM", Reply::NoRoom),
-        ("NUMBERS_SPENT", Reply::NumbersSpent),
-        ("NO_KEY_BLOCK", Reply::NoKeyBlock),
-        ("NO_COMMIT", Reply::NoCommit),
-        ("ENTRY_UNFIT", Reply::EntryUnfit),
-        ("POWER_CUT", Reply::PowerCut),
+        ("DONE", DONE),
+        ("REFUSED_IMAGE", Refusal::ImageSize.number()),
+        ("REFUSED_LENGTHS", Refusal::BufferLength.number()),
+        ("REFUSED_NOISE", Refusal::NoiseLength.number()),
+        ("REFUSED_FILE", Refusal::NoSuchFile.number()),
+        ("REFUSED_OFFSET", Refusal::OffsetOutside.number()),
+        ("REFUSED_PAYLOAD", Refusal::PayloadLength.number()),
+        ("REFUSED_RECORD", Refusal::RecordUnfit.number()),
+        ("NOTHING_THERE", Refusal::NothingThere.number()),
+        ("NO_FREE_KEY", Refusal::NoFreeKey.number()),
+        ("NO_ROOM", Refusal::NoRoom.number()),
+        ("NUMBERS_SPENT", Refusal::NumbersSpent.number()),
+        ("NO_KEY_BLOCK", Refusal::NoKeyBlock.number()),
+        ("NO_COMMIT", Refusal::NoCommit.number()),
+        ("ENTRY_UNFIT", Refusal::EntryUnfit.number()),
+        ("POWER_CUT", POWER_CUT),
     ];
     for (name, reply) in replies {
-        assert_eq!(defined(&header, name), reply.number(), "{name}");
+        assert_eq!(defined(&header, name), reply, "{name}");
     }
     // The others are the guard against a second inclusion, the version, none, the counts and the size of
     // the stack.

@@ -1,6 +1,7 @@
 //! The calls of the library beside the second implementation: every cut of format, write and cut-off, the
 //! order of the tests, and wrong lengths.
 
+use johvimaru::raw as recorder;
 use johvimaru_tests::guarded::Guarded;
 use johvimaru_tests::model::calls::{CUT, DONE};
 use johvimaru_tests::model::files::COUNTS;
@@ -10,7 +11,6 @@ use johvimaru_tests::model::list::{Data, Lent};
 use johvimaru_tests::model::pages::{Entry, LAST, PAGE, PAYLOAD};
 use johvimaru_tests::model::record::{Record, LETTERS, MAP, SCRATCH};
 use johvimaru_tests::model::store::Store;
-use johvimaru_tests::recorder;
 use johvimaru_tests::rng::Rng;
 use johvimaru_tests::side_by_side::{compare_lent, Both, Call, Tally};
 use johvimaru_tests::store_lists::Change;
@@ -346,11 +346,11 @@ fn nothing_else_is_written() {
         let mut record = recorder::Record::blank();
         let data = Data::payload(8).bytes();
         let reply = recorder::format(image.lent(), &mut record, &noise);
-        assert_eq!(reply, recorder::Reply::Done);
+        assert_eq!(reply, recorder::DONE);
         let reply = recorder::write(image.lent(), &mut record, 13, 7, &data);
-        assert_eq!(reply, recorder::Reply::Done);
+        assert_eq!(reply, recorder::DONE);
         let reply = recorder::read(image.content(), &record, 13, 7, output.lent());
-        assert_eq!(reply, recorder::Reply::Done);
+        assert_eq!(reply, recorder::DONE);
         assert_eq!(output.content(), data);
         for reply in [
             recorder::cut_off(image.lent(), &mut record, 13, 7),
@@ -358,7 +358,7 @@ fn nothing_else_is_written() {
             recorder::wipe(image.lent(), &mut record, &noise, 0, 0),
             recorder::mount(image.lent(), &mut record, &mut [0; SCRATCH]),
         ] {
-            assert_eq!(reply, recorder::Reply::Done);
+            assert_eq!(reply, recorder::DONE);
         }
         image.content();
     }

@@ -1,13 +1,13 @@
 //! A commit and a wipe of the library, cut at every byte of every step, and the library's mount after
 //! it: beside the second implementation, and what is then in the store beside the plain book.
 
+use johvimaru::raw as recorder;
 use johvimaru_tests::model::book::Book;
 use johvimaru_tests::model::calls::{CUT, DONE};
 use johvimaru_tests::model::files::{self, PLACES};
 use johvimaru_tests::model::image::{Power, Step, BLOCK};
 use johvimaru_tests::model::list::{Call, Data};
 use johvimaru_tests::model::pages::{DELETED, PAGE, PAYLOAD};
-use johvimaru_tests::recorder::{self, Reply};
 use johvimaru_tests::side_by_side::{self, Both};
 
 /// A store with its book.
@@ -63,7 +63,7 @@ impl Kept {
                 let mut output = [0; PAYLOAD];
                 let reply =
                     recorder::read(&store.image, &ours, file as u32, offset as u32, &mut output);
-                assert_eq!(reply, Reply::Done, "{at}: read");
+                assert_eq!(reply, DONE, "{at}: read");
                 assert!(output[..] == content.payload, "{at}: payload of place {place}");
             }
         }

@@ -1,0 +1,447 @@
+//! What the command is asked, from its words.
+
+use crate::help::Topic;
+use johvimaru::Cut;
+use std::ffi::{OsStr, OsString};
+use std::fmt;
+use std::os::unix::ffi::{OsStrExt, OsStringExt};
+use std::path::PathBuf;
+
+/// The image file where none is named.
+pub const IMAGE: &str = "recorder.img";
+
+/// What the command is asked.
+#[derive(Debug, PartialEq, Eq)]
+pub struct Request {
+    /// The image file.
+    pub image: PathBuf,
+    /// What to do.
+    pub command: Command,
+}
+
+/// What to do.
+#[derive(Debug, PartialEq, Eq)]
+pub enum Command {
+    /// Print a help text.
+    Help(Topic),
+    /// Make a call that changes the flash, and cut it where that is asked.
+    Call(Call, Option<Cut>),
+    /// Read a payload.
+    Read {
+        /// The file.
+        file: u32,
+        /// The offset.
+        offset: u32,
+        /// Print the 224 bytes as they are.
+        raw: bool,
+    },
+    /// Print document 01's listing.
+    List,
+    /// Say what is there.
+    Check,
+    /// Draw the picture.
+    Map(MapOptions),
+    /// Play a handover.
+    Demo,
+}
+
+/// A call that changes the flash.
+#[derive(Debug, PartialEq, Eq)]
+pub enum Call {
+    /// Format.
+    Format {
+        /// How many blocks.
+        blocks: Option<usize>,
+        /// Also over a file that is no image.
+        force: bool,
+    },
+    /// Mount, and nothing more.
+    Mount,
+    /// Write.
+    Write {
+        /// The file.
+        file: u32,
+        /// The offset.
+        offset: u32,
+        /// The text, or none where it comes from standard input.
+        text: Option<Vec<u8>>,
+    },
+    /// Cut-off.
+    CutOff {
+        /// The file.
+        file: u32,
+        /// The first offset removed.
+        offset: u32,
+    },
+    /// Commit.
+    Commit,
+    /// Wipe.
+    Wipe {
+        /// The file.
+        file: u32,
+        /// The first offset removed.
+        offset: u32,
+    },
+}
+
+/// What picture is drawn, and where it goes.
+#[derive(Debug, Default, PartialEq, Eq)]
+pub struct MapOptions {
+    /// The SVG file that is written instead of the terminal's text.
+    pub svg: Option<PathBuf>,
+    /// The images before and after, instead of the image file.
+    pub before_after: Option<(PathBuf, PathBuf)>,
+}
+
+/// What is wrong with the words, in a sentence.
+#[derive(Debug, PartialEq, Eq)]
+pub struct Usage(String);
+
+impl fmt::Display for Usage {
+    fn fmt(&self, f: &mut fmt::Formatter) -> fmt::Result {
+        write!(f, "{}\n`johvimaru --help` says what there is.", self.0)
+    }
+}
+
+fn wrong<T>(words: impl Into<String>) -> Result<T, Usage> {
+    Err(Usage(words.into()))
+}
+
+/// What a subcommand takes.
+struct Shape {
+    topic: Topic,
+    /// The names of its words, and how many of them are needed.
+    words: &'static [&'static str],
+    needed: usize,
+    /// Its options with a value, and those without.
+    values: &'static [&'static str],
+    flags: &'static [&'static str],
+}
+
+/// The options of every subcommand.
+const IMAGE_OPTION: &str = "--image";
+const HELP: &str = "--help";
+
+impl Shape {
+    fn of(topic: Topic) -> Shape {
+        let at: &[&str] = &["FILE", "OFFSET"];
+        let (words, needed, values, flags): (&[&str], usize, &[&str], &[&str]) = match topic {
+            Topic::Johvimaru | Topic::List | Topic::Check | Topic::Demo => (&[], 0, &[], &[]),
+            Topic::Format => (&[], 0, &["--blocks", "--cut"], &["--force"]),
+            Topic::Mount | Topic::Commit => (&[], 0, &["--cut"], &[]),
+            Topic::Write => (&["FILE", "OFFSET", "TEXT"], 2, &["--cut"], &[]),
+            Topic::Read => (at, 2, &[], &["--raw"]),
+            Topic::CutOff | Topic::Wipe => (at, 2, &["--cut"], &[]),
+            Topic::Map => (&[], 0, &["--svg", "--before", "--after"], &[]),
+        };
+        Shape { topic, words, needed, values, flags }
+    }
+}
+
+/// The words of a subcommand, sorted by what they are.
+#[derive(Default)]
+struct Words {
+    plain: Vec<OsString>,
+    values: Vec<(&'static str, OsString)>,
+    flags: Vec<&'static str>,
+}
+
+impl Words {
+    /// Sorts the words after the subcommand.
+    fn sort(shape: &Shape, words: &[OsString]) -> Result<Words, Usage> {
+        let mut sorted = Words::default();
+        let mut rest = words.iter();
+        while let Some(word) = rest.next() {
+            let bytes = word.as_bytes();
+            if bytes == b"--" {
+                sorted.plain.extend(rest.by_ref().cloned());
+            } else if bytes.len() > 1 && bytes[0] == b'-' {
+                sorted.option(shape, word, &mut rest)?;
+            } else {
+                sorted.plain.push(word.clone());
+            }
+        }
+        Ok(sorted)
+    }
+
+    /// Takes an option, and its value from the same word or from the next.
+    fn option<'a>(
+        &mut self,
+        shape: &Shape,
+        word: &OsStr,
+        rest: &mut impl Iterator<Item = &'a OsString>,
+    ) -> Result<(), Usage> {
+        let text = word.to_string_lossy();
+        let (name, joined) = match word.as_bytes().iter().position(|&byte| byte == b'=') {
+            Some(at) => (&word.as_bytes()[..at], Some(&word.as_bytes()[at + 1..])),
+            None => (word.as_bytes(), None),
+        };
+        let name = if name == b"-h" { HELP.as_bytes() } else { name };
+        let named = |names: &[&'static str]| names.iter().copied().find(|n| n.as_bytes() == name);
+        if let Some(name) = named(shape.values).or_else(|| named(&[IMAGE_OPTION])) {
+            let value = match joined {
+                Some(value) => OsString::from_vec(value.to_vec()),
+                None => rest.next().cloned().ok_or(Usage(format!("{name} needs a value")))?,
+            };
+            if self.value(name).is_some() {
+                return wrong(format!("{name} is given twice"));
+            }
+            self.values.push((name, value));
+        } else if let Some(name) = named(shape.flags).or_else(|| named(&[HELP])) {
+            if joined.is_some() {
+                return wrong(format!("{name} takes no value"));
+            }
+            self.flags.push(name);
+        } else {
+            return wrong(format!("{} has no option {text}", shape.topic.name()));
+        }
+        Ok(())
+    }
+
+    fn value(&self, name: &str) -> Option<&OsString> {
+        self.values.iter().find(|(of, _)| *of == name).map(|(_, value)| value)
+    }
+
+    fn path(&self, name: &str) -> Option<PathBuf> {
+        self.value(name).map(PathBuf::from)
+    }
+
+    fn has(&self, flag: &str) -> bool {
+        self.flags.contains(&flag)
+    }
+
+    /// The number that stands at a place among the plain words.
+    fn number(&self, shape: &Shape, at: usize) -> Result<u32, Usage> {
+        number(shape.words[at], &self.plain[at])
+    }
+
+    /// The cut that is asked for.
+    fn cut(&self) -> Result<Option<Cut>, Usage> {
+        let Some(value) = self.value("--cut") else { return Ok(None) };
+        let text = value.to_string_lossy();
+        let Some((n, k)) = text.split_once(',') else {
+            return wrong(format!("--cut takes two numbers n,k and not {text}"));
+        };
+        let (n, k) = (number("n of --cut", OsStr::new(n))?, number("k of --cut", OsStr::new(k))?);
+        Ok(Some(Cut { n: n.into(), k: k as usize }))
+    }
+}
+
+/// A number of decimal digits. One that is too large for the library's type is its largest.
+fn number(name: &str, word: &OsStr) -> Result<u32, Usage> {
+    let text = word.to_string_lossy();
+    if text.is_empty() || !text.bytes().all(|byte| byte.is_ascii_digit()) {
+        return wrong(format!("{name} is a number in decimal digits and not {text:?}"));
+    }
+    Ok(text.parse().unwrap_or(u32::MAX))
+}
+
+/// Takes the words of the command, without its own name.
+pub fn parse(words: &[OsString]) -> Result<Request, Usage> {
+    let (topic, rest) = subcommand(words)?;
+    let shape = Shape::of(topic);
+    let words = Words::sort(&shape, &rest)?;
+    let image = words.path(IMAGE_OPTION).unwrap_or_else(|| PathBuf::from(IMAGE));
+    if image.as_os_str().is_empty() {
+        return wrong("--image needs the name of a file");
+    }
+    if words.has(HELP) || topic == Topic::Johvimaru {
+        return Ok(Request { image, command: Command::Help(topic) });
+    }
+    if words.plain.len() < shape.needed {
+        let missing = shape.words[words.plain.len()];
+        return wrong(format!("{} needs {missing}", topic.name()));
+    }
+    if let Some(word) = words.plain.get(shape.words.len()) {
+        return wrong(format!("{} takes no {:?}", topic.name(), word.to_string_lossy()));
+    }
+    Ok(Request { image, command: command(&shape, &words)? })
+}
+
+/// Finds the subcommand, and the words without it. `--image` may stand before it.
+fn subcommand(words: &[OsString]) -> Result<(Topic, Vec<OsString>), Usage> {
+    let mut at = 0;
+    while let Some(word) = words.get(at) {
+        match word.as_bytes() {
+            b"--image" => at += 2,
+            b"--help" | b"-h" => return Ok((Topic::Johvimaru, Vec::new())),
+            bytes if bytes.starts_with(b"--image=") => at += 1,
+            bytes => {
+                let name = String::from_utf8_lossy(bytes);
+                let Some(topic) = Topic::of(&name) else {
+                    return wrong(format!("there is no {name:?}"));
+                };
+                let rest = words[..at].iter().chain(&words[at + 1..]).cloned().collect();
+                return help_of(topic, rest);
+            }
+        }
+    }
+    wrong("what is to be done is missing")
+}
+
+/// `help` takes the name of a subcommand.
+fn help_of(topic: Topic, rest: Vec<OsString>) -> Result<(Topic, Vec<OsString>), Usage> {
+    if topic != Topic::Johvimaru {
+        return Ok((topic, rest));
+    }
+    match &rest[..] {
+        [] => Ok((topic, rest)),
+        [name] => match Topic::of(&name.to_string_lossy()) {
+            Some(topic) => Ok((topic, vec![HELP.into()])),
+            None => wrong(format!("there is no {:?}", name.to_string_lossy())),
+        },
+        _ => wrong("help takes one name"),
+    }
+}
+
+/// The command of sorted words, of which there are enough and not too many.
+fn command(shape: &Shape, words: &Words) -> Result<Command, Usage> {
+    let at = || Ok((words.number(shape, 0)?, words.number(shape, 1)?));
+    let call = match shape.topic {
+        Topic::Johvimaru => return Ok(Command::Help(Topic::Johvimaru)),
+        Topic::List => return Ok(Command::List),
+        Topic::Check => return Ok(Command::Check),
+        Topic::Demo => return Ok(Command::Demo),
+        Topic::Map => return Ok(Command::Map(map_options(words)?)),
+        Topic::Read => {
+            let (file, offset) = at()?;
+            return Ok(Command::Read { file, offset, raw: words.has("--raw") });
+        }
+        Topic::Format => {
+            let blocks = words.value("--blocks").map(|value| number("--blocks", value));
+            let blocks = blocks.transpose()?.map(|number| number as usize);
+            Call::Format { blocks, force: words.has("--force") }
+        }
+        Topic::Mount => Call::Mount,
+        Topic::Write => {
+            let (file, offset) = at()?;
+            let text = words.plain.get(2).map(|text| text.as_bytes().to_vec());
+            Call::Write { file, offset, text: text.filter(|text| text != b"-") }
+        }
+        Topic::CutOff => at().map(|(file, offset)| Call::CutOff { file, offset })?,
+        Topic::Commit => Call::Commit,
+        Topic::Wipe => at().map(|(file, offset)| Call::Wipe { file, offset })?,
+    };
+    Ok(Command::Call(call, words.cut()?))
+}
+
+fn map_options(words: &Words) -> Result<MapOptions, Usage> {
+    let before_after = match (words.path("--before"), words.path("--after")) {
+        (None, None) => None,
+        (Some(before), Some(after)) => Some((before, after)),
+        _ => return wrong("map takes --before and --after together"),
+    };
+    if before_after.is_some() && words.value(IMAGE_OPTION).is_some() {
+        return wrong("map takes --before and --after, or --image");
+    }
+    Ok(MapOptions { svg: words.path("--svg"), before_after })
+}
+
+#[cfg(test)]
+mod tests {
+    use super::*;
+
+    fn parsed(line: &str) -> Result<Request, String> {
+        let words: Vec<OsString> = line.split_whitespace().map(OsString::from).collect();
+        parse(&words).map_err(|usage| usage.0)
+    }
+
+    fn command_of(line: &str) -> Command {
+        parsed(line).unwrap_or_else(|usage| panic!("{line}: {usage}")).command
+    }
+
+    fn usage(line: &str) -> String {
+        parsed(line).expect_err(line)
+    }
+
+    #[test]
+    fn calls_with_their_words() {
+        let write = |text: &str, cut| {
+            let text = Some(text.as_bytes().to_vec());
+            Command::Call(Call::Write { file: 2, offset: 5, text }, cut)
+        };
+        assert_eq!(command_of("write 2 5 x"), write("x", None));
+        let cut = Some(Cut { n: 0, k: 30 });
+        assert_eq!(command_of("write 2 5 x --cut 0,30"), write("x", cut));
+        assert_eq!(command_of("write --cut=0,30 2 5 x"), write("x", cut));
+        assert_eq!(command_of("write 2 5 -- --cut"), write("--cut", None));
+        let from_input = Command::Call(Call::Write { file: 2, offset: 5, text: None }, None);
+        assert_eq!(command_of("write 2 5 -"), from_input);
+        assert_eq!(command_of("write 2 5"), from_input);
+        let format = |blocks, force| Command::Call(Call::Format { blocks, force }, None);
+        assert_eq!(command_of("format"), format(None, false));
+        assert_eq!(command_of("format --blocks 8 --force"), format(Some(8), true));
+        assert_eq!(command_of("commit"), Command::Call(Call::Commit, None));
+        assert_eq!(command_of("mount"), Command::Call(Call::Mount, None));
+        let wipe = Call::Wipe { file: 0, offset: 1 };
+        assert_eq!(command_of("wipe 0 1"), Command::Call(wipe, None));
+        let cut_off = Call::CutOff { file: 0, offset: 1 };
+        assert_eq!(command_of("cut-off 0 1"), Command::Call(cut_off, None));
+    }
+
+    #[test]
+    fn calls_that_only_look() {
+        assert_eq!(command_of("read 1 2"), Command::Read { file: 1, offset: 2, raw: false });
+        assert_eq!(command_of("read 1 2 --raw"), Command::Read { file: 1, offset: 2, raw: true });
+        assert_eq!(command_of("list"), Command::List);
+        assert_eq!(command_of("check"), Command::Check);
+        assert_eq!(command_of("demo"), Command::Demo);
+        assert_eq!(command_of("map"), Command::Map(MapOptions::default()));
+        let before_after = Some(("a".into(), "b".into()));
+        let options = MapOptions { svg: Some("o.svg".into()), before_after };
+        assert_eq!(command_of("map --before a --after b --svg o.svg"), Command::Map(options));
+    }
+
+    #[test]
+    fn the_image_file_before_or_after_the_subcommand() {
+        for line in ["--image x list", "--image=x list", "list --image x", "list --image=x"] {
+            assert_eq!(parsed(line).unwrap().image, PathBuf::from("x"), "{line}");
+        }
+        assert_eq!(parsed("list").unwrap().image, PathBuf::from(IMAGE));
+        assert_eq!(usage("--image x list --image y"), "--image is given twice");
+        assert_eq!(usage("list --image="), "--image needs the name of a file");
+    }
+
+    #[test]
+    fn help_in_every_form() {
+        for line in ["--help", "-h", "help", "--image x --help"] {
+            assert_eq!(command_of(line), Command::Help(Topic::Johvimaru), "{line}");
+        }
+        for line in ["write --help", "write -h", "help write", "write 1 --help"] {
+            assert_eq!(command_of(line), Command::Help(Topic::Write), "{line}");
+        }
+    }
+
+    #[test]
+    fn numbers_are_decimal_digits() {
+        let large = "99999999999999999999";
+        let read = Command::Read { file: u32::MAX, offset: 0, raw: false };
+        assert_eq!(command_of(&format!("read {large} 0")), read);
+        for word in ["x", "0x1", "1.0", "+1", "1e3", "\u{0661}"] {
+            let expected = format!("FILE is a number in decimal digits and not {word:?}");
+            assert_eq!(usage(&format!("read {word} 0")), expected);
+        }
+        assert_eq!(usage("read -1 0"), "read has no option -1");
+        assert_eq!(usage("write 1 0 x --cut 1"), "--cut takes two numbers n,k and not 1");
+        let text = "k of --cut is a number in decimal digits and not \"2,3\"";
+        assert_eq!(usage("write 1 0 x --cut 1,2,3"), text);
+        assert_eq!(usage("format --blocks many").split(' ').next(), Some("--blocks"));
+    }
+
+    #[test]
+    fn too_few_or_too_many_words() {
+        assert_eq!(usage(""), "what is to be done is missing");
+        assert_eq!(usage("--image"), "what is to be done is missing");
+        assert_eq!(usage("forget"), "there is no \"forget\"");
+        assert_eq!(usage("help forget"), "there is no \"forget\"");
+        assert_eq!(usage("write"), "write needs FILE");
+        assert_eq!(usage("write 1"), "write needs OFFSET");
+        assert_eq!(usage("write 1 2 x y"), "write takes no \"y\"");
+        assert_eq!(usage("list all"), "list takes no \"all\"");
+        assert_eq!(usage("read 1 2 --cut 0,0"), "read has no option --cut");
+        assert_eq!(usage("commit --cut"), "--cut needs a value");
+        assert_eq!(usage("commit --cut 1,2 --cut 1,2"), "--cut is given twice");
+        assert_eq!(usage("format --force=yes"), "--force takes no value");
+        assert_eq!(usage("map --before a"), "map takes --before and --after together");
+    }
+}

@@ -1,0 +1,116 @@
+//! What is on an image, in words.
+
+use crate::image_file::{self, blocks_in_words};
+use crate::Problem;
+use johvimaru::{File, Form, Header, Record, BLOCK, PAGES_IN_BLOCK};
+use std::io::Write;
+use std::path::Path;
+
+/// Mounts a copy of an image file, and says what is there.
+pub fn run(path: &Path, out: &mut dyn Write) -> Result<(), Problem> {
+    let image = image_file::look(path)?;
+    let store = image_file::mount(path, &image)?;
+    let blocks = image.len() / BLOCK;
+    writeln!(out, "{}: {blocks} blocks, {} bytes", path.display(), image.len())?;
+    out.write_all(contents(store.record()).as_bytes())?;
+    let left = pages_left(store.image());
+    writeln!(out, "pages that writes and cut-offs can still take: {left}")?;
+    out.write_all(would_erase(&image, store.image()).as_bytes())?;
+    Ok(())
+}
+
+/// What a record says.
+fn contents(record: &Record) -> String {
+    let mut text = format!("live nodes: {}\n", record.nodes().count());
+    for file in File::all() {
+        let offsets: Vec<String> = record
+            .nodes()
+            .filter(|node| node.at.file() == file)
+            .map(|node| node.at.number().to_string())
+            .collect();
+        if !offsets.is_empty() {
+            let (used, count) = (offsets.len(), file.count());
+            let name = if used == 1 { "offset" } else { "offsets" };
+            text += &format!("  {file}: {used} of {count}, {name} {}\n", offsets.join(" "));
+        }
+    }
+    let counts = record.counts();
+    let (used, free, deleted) = (counts.used, counts.free, counts.deleted);
+    text += &format!("keys: {used} used, {free} free, {deleted} deleted\n");
+    if deleted > 0 {
+        text += "  a commit or a wipe replaces the deleted ones\n";
+    }
+    let (sequence, epoch) = (record.next_sequence(), record.next_epoch());
+    text += &format!("next sequence {sequence}, next epoch {epoch}\n");
+    let ([keys_0, keys_1], commit) = (record.key_blocks(), record.commit_block());
+    text + &format!(
+        "key blocks 0 and 1 are in blocks {keys_0} and {keys_1}, the commit in {commit}\n"
+    )
+}
+
+/// The blocks that a mount erases, in words.
+fn would_erase(before: &[u8], after: &[u8]) -> String {
+    match &image_file::erased(before, after)[..] {
+        [] => "a mount would erase nothing\n".into(),
+        blocks => {
+            format!("a mount would erase {}, no part of the store\n", blocks_in_words(blocks))
+        }
+    }
+}
+
+/// How many pages writes and cut-offs can take on a mounted image before there is no room: the empty
+/// ones at the end of each data block, and all of the empty blocks but one.
+fn pages_left(image: &[u8]) -> usize {
+    let forms: Vec<Form> = Form::all(image).collect();
+    let (mut in_data, mut empty) = (0, 0);
+    for block in forms.chunks(PAGES_IN_BLOCK) {
+        let open = block.iter().rev().take_while(|form| **form == Form::Empty).count();
+        let is_data = |form: &Form| {
+            matches!(form.header(), Some(Header::Node { .. } | Header::CutOff { .. }))
+        };
+        if open == PAGES_IN_BLOCK {
+            empty += 1;
+        } else if block.iter().any(is_data) {
+            in_data += open;
+        }
+    }
+    in_data + PAGES_IN_BLOCK * usize::saturating_sub(empty, 1)
+}
+
+#[cfg(test)]
+mod tests {
+    use super::*;
+    use johvimaru::{Noise, Offset, Refusal, Store};
+
+    /// The pages left are as many as writes are then taken.
+    #[test]
+    fn pages_left_are_those_that_writes_take() -> Result<(), Refusal> {
+        let mut store = Store::format(vec![0; 8 * BLOCK], Noise::new(&[1; 7_168])?)?;
+        assert_eq!(pages_left(store.image()), 64);
+        let at = Offset::new(0, 0)?;
+        for left in (0..64).rev() {
+            store.write(at, &[b'x'; 224])?;
+            assert_eq!(pages_left(store.image()), left);
+        }
+        assert_eq!(store.write(at, &[b'x'; 224]), Err(Refusal::NoRoom));
+        Ok(())
+    }
+
+    #[test]
+    fn a_record_in_words() -> Result<(), Refusal> {
+        let mut store = Store::format(vec![0; 8 * BLOCK], Noise::new(&[1; 7_168])?)?;
+        for (file, offset) in [(0, 0), (2, 5), (0, 0), (0, 7)] {
+            store.write(Offset::new(file, offset)?, &[b'x'; 224])?;
+        }
+        let expected = "live nodes: 3
+  file 0: 2 of 32, offsets 0 7
+  file 2: 1 of 24, offset 5
+keys: 3 used, 444 free, 1 deleted
+  a commit or a wipe replaces the deleted ones
+next sequence 5, next epoch 2
+key blocks 0 and 1 are in blocks 0 and 1, the commit in 2
+";
+        assert_eq!(contents(store.record()), expected);
+        Ok(())
+    }
+}

@@ -1,0 +1,236 @@
+//! The help texts.
+
+/// What a help text is about.
+#[derive(Clone, Copy, Debug, PartialEq, Eq)]
+pub enum Topic {
+    /// The command.
+    Johvimaru,
+    /// `format`.
+    Format,
+    /// `mount`.
+    Mount,
+    /// `write`.
+    Write,
+    /// `read`.
+    Read,
+    /// `cut-off`.
+    CutOff,
+    /// `commit`.
+    Commit,
+    /// `wipe`.
+    Wipe,
+    /// `list`.
+    List,
+    /// `check`.
+    Check,
+    /// `map`.
+    Map,
+    /// `demo`.
+    Demo,
+}
+
+impl Topic {
+    /// All topics.
+    pub const ALL: [Topic; 12] = [
+        Topic::Johvimaru,
+        Topic::Format,
+        Topic::Mount,
+        Topic::Write,
+        Topic::Read,
+        Topic::CutOff,
+        Topic::Commit,
+        Topic::Wipe,
+        Topic::List,
+        Topic::Check,
+        Topic::Map,
+        Topic::Demo,
+    ];
+
+    /// Its name among the words of the command.
+    pub fn name(self) -> &'static str {
+        match self {
+            Topic::Johvimaru => "help",
+            Topic::Format => "format",
+            Topic::Mount => "mount",
+            Topic::Write => "write",
+            Topic::Read => "read",
+            Topic::CutOff => "cut-off",
+            Topic::Commit => "commit",
+            Topic::Wipe => "wipe",
+            Topic::List => "list",
+            Topic::Check => "check",
+            Topic::Map => "map",
+            Topic::Demo => "demo",
+        }
+    }
+
+    /// The topic of a name.
+    pub fn of(name: &str) -> Option<Topic> {
+        Topic::ALL.into_iter().find(|topic| topic.name() == name)
+    }
+}
+
+/// The help text.
+pub fn text(topic: Topic) -> &'static str {
+    match topic {
+        Topic::Johvimaru => JOHVIMARU,
+        Topic::Format => FORMAT,
+        Topic::Mount => MOUNT,
+        Topic::Write => WRITE,
+        Topic::Read => READ,
+        Topic::CutOff => CUT_OFF,
+        Topic::Commit => COMMIT,
+        Topic::Wipe => WIPE,
+        Topic::List => LIST,
+        Topic::Check => CHECK,
+        Topic::Map => MAP,
+        Topic::Demo => DEMO,
+    }
+}
+
+const JOHVIMARU: &str = "\
+johvimaru: a flash page store that forgets, on an image file
+
+  johvimaru [--image FILE] WHAT ...
+
+  format [--blocks N]          make an empty store
+  mount                        find the record, erase what cut calls have left
+  write FILE OFFSET [TEXT|-]   write a payload
+  read FILE OFFSET             print a payload
+  cut-off FILE OFFSET          remove the nodes of a file from an offset on
+  commit                       replace the keys that no node has
+  wipe FILE OFFSET             cut off and commit: it cannot be read again
+  list                         the nodes with their pages and keys, in columns
+  check                        what is there, in words
+  map                          a picture of blocks, pages and keys
+  demo                         a handover with power cuts, from beginning to end
+  help WHAT                    more on one of these
+
+The image file is recorder.img in the working folder, or the one that --image
+names. It is made on first use, as an empty store of 32 blocks. Each call but
+format mounts it first, as a recorder does when its power comes on. The file
+is replaced as a whole, so it is never half of one thing and half of another.
+
+Files are 0 to 13. Files 0 and 1 have 32 offsets, 2 and 3 have 24, 4 to 7 have
+16, 8 to 13 have 8.
+
+--cut n,k goes with every call that changes the flash: the power fails after n
+whole steps and k bytes of one more. A step programs a page of 256 bytes or
+erases a block of 4,096.
+
+The exit status is 0; or 1 where a call is refused, with the refusal's number;
+or 2 where the words of the command are not understood.
+";
+
+const FORMAT: &str = "\
+johvimaru format [--blocks N] [--force] [--cut n,k] [--image FILE]
+
+Makes an empty store of N blocks, 8 to 256; all that was on the image is gone.
+Without --blocks an image that is there keeps its size, and a new one has 32.
+The keys come from the system's randomness.
+
+A file that is there and cannot be mounted is left alone, unless all its
+blocks are empty or --force is given.
+
+It has a step for each block, which erases it, and 42 more.
+";
+
+const MOUNT: &str = "\
+johvimaru mount [--cut n,k] [--image FILE]
+
+Finds the record from what is on the image alone, and erases the blocks that
+cut calls have left. The other calls do this first, format does not. It has a
+step for each block that it erases.
+";
+
+const WRITE: &str = "\
+johvimaru write FILE OFFSET [TEXT|-] [--cut n,k] [--image FILE]
+
+Writes a payload. What was there before is replaced. The text is at most 224
+bytes, and spaces follow it up to 224. Without a text, or where it is -, it is
+read from standard input. A text that begins with - comes after the word --.
+
+It has one step. Cut at a k below 30 it leaves no header and the key is free;
+at 30 to 255 it leaves a torn page, and its key is deleted; in both cases what
+was there before still is.
+";
+
+const READ: &str = "\
+johvimaru read FILE OFFSET [--raw] [--image FILE]
+
+Prints the payload without the spaces at its end, and ends the line. With
+--raw the 224 bytes are printed as they are.
+";
+
+const CUT_OFF: &str = "\
+johvimaru cut-off FILE OFFSET [--cut n,k] [--image FILE]
+
+Removes the nodes of a file from an offset on. Their keys stay on the image
+until the next commit. It has one step.
+";
+
+const COMMIT: &str = "\
+johvimaru commit [--cut n,k] [--image FILE]
+
+Replaces every key that no node has, and erases the blocks in which no node is
+left. It has 45 steps and one for each such block.
+";
+
+const WIPE: &str = "\
+johvimaru wipe FILE OFFSET [--cut n,k] [--image FILE]
+
+Removes the nodes of a file from an offset on, and their keys with them: what
+they held cannot be read again. It is done too where there is no node. It has
+56 steps and one for each block in which no node is left. Cut before its tenth
+step has ended it has removed nothing. Cut later it has removed the nodes, but
+some of their keys may still be there: wipe again.
+";
+
+const LIST: &str = "\
+johvimaru list [--image FILE]
+
+Prints a line for each node: file, offset, page and key position in 4, 4, 6
+and 6 columns. Then how many keys are used, free and deleted, 6 columns each.
+It mounts a copy, and leaves the file as it is. Where the mount is refused it
+prints the number in 6 columns.
+";
+
+const CHECK: &str = "\
+johvimaru check [--image FILE]
+
+Mounts a copy and says what is there: the nodes of each file, how many keys
+are used, free and deleted, the next numbers, the pages that writes can still
+take, and the blocks that a mount would erase. It leaves the file as it is.
+";
+
+const MAP: &str = "\
+johvimaru map [--svg OUT.svg] [--image FILE]
+johvimaru map --before A --after B [--svg OUT.svg]
+
+Draws the image: a row for each block and a cell for each page.
+";
+
+const DEMO: &str = "\
+johvimaru demo
+
+Plays a handover on an image in memory: one firm's draughts and track are
+written, one is overwritten, the power fails in a write and in a wipe, and
+after each step it says what has changed. At the end it looks for the old keys
+in every byte of the image.
+";
+
+#[cfg(test)]
+mod tests {
+    use super::*;
+
+    #[test]
+    fn each_topic_has_a_name_and_a_text() {
+        for topic in Topic::ALL {
+            assert_eq!(Topic::of(topic.name()), Some(topic));
+            let call = format!("johvimaru {}", topic.name());
+            assert!(topic == Topic::Johvimaru || text(topic).starts_with(&call), "{topic:?}");
+            assert!(text(Topic::Johvimaru).contains(topic.name()));
+        }
+        assert_eq!(Topic::of("Format"), None);
+    }
+}

@@ -1,0 +1,52 @@
+//! Document 01's listing.
+
+use crate::image_file;
+use crate::Problem;
+use johvimaru::{Record, Store};
+use std::io::Write;
+use std::path::Path;
+
+/// Prints the listing of an image file. Where its mount is refused, the number is printed.
+pub fn run(path: &Path, out: &mut dyn Write) -> Result<(), Problem> {
+    let result = image_file::look(path).and_then(|image| {
+        Store::mount(image).map_err(|refused| image_file::refused(path, refused.refusal))
+    });
+    match result {
+        Ok(store) => out.write_all(text(store.record()).as_bytes())?,
+        Err(problem) => {
+            if let Problem::RefusedFile(_, refusal) = problem {
+                writeln!(out, "{:6}", refusal.number())?;
+            }
+            return Err(problem);
+        }
+    }
+    Ok(())
+}
+
+/// A line for each node, by place, then how many keys have each letter.
+pub fn text(record: &Record) -> String {
+    let mut text = String::new();
+    for node in record.nodes() {
+        let (file, offset) = (node.at.file().number(), node.at.number());
+        text += &format!("{file:4}{offset:4}{:6}{:6}\n", node.page, node.key);
+    }
+    let counts = record.counts();
+    text + &format!("{:6}{:6}{:6}\n", counts.used, counts.free, counts.deleted)
+}
+
+#[cfg(test)]
+mod tests {
+    use super::*;
+    use johvimaru::{Noise, Offset, Refusal};
+
+    #[test]
+    fn the_case_of_document_01() -> Result<(), Refusal> {
+        let mut store = Store::format(vec![0; 32_768], Noise::new(&[1; 7_168])?)?;
+        for (file, offset) in [(0, 0), (2, 5), (0, 0)] {
+            store.write(Offset::new(file, offset)?, &[b'x'; 224])?;
+        }
+        let expected = "   0   0    50     2\n   2   5    49     1\n     2   445     1\n";
+        assert_eq!(text(store.record()), expected);
+        Ok(())
+    }
+}

@@ -1,0 +1,187 @@
+//! Words that are not understood, and files that are no images.
+
+mod common;
+
+use common::{Folder, Numbers};
+use johvimaru::BLOCK;
+use std::ffi::OsString;
+use std::fs;
+use std::os::unix::ffi::OsStringExt;
+
+/// All calls on an image.
+const CALLS: [&str; 10] = [
+    "format",
+    "mount",
+    "write 0 0 x",
+    "read 0 0",
+    "cut-off 0 0",
+    "commit",
+    "wipe 0 0",
+    "list",
+    "check",
+    "map",
+];
+
+/// Lines that are not understood.
+const WRONG: [&str; 39] = [
+    "",
+    "forget",
+    "--cut 1,2",
+    "write",
+    "write 0",
+    "write 0 x y",
+    "write 0 0 x y",
+    "write zero 0 x",
+    "write -1 0 x",
+    "write 0 0 x --cut",
+    "write 0 0 x --cut 1",
+    "write 0 0 x --cut 1,",
+    "write 0 0 x --cut ,1",
+    "write 0 0 x --cut 1,2,3",
+    "write 0 0 x --cut -1,2",
+    "write 0 0 x --cut one,two",
+    "read 0",
+    "read 0 0 0",
+    "read 0 0 --cut 1,2",
+    "cut-off 0",
+    "commit 1",
+    "commit --force",
+    "wipe",
+    "format 8",
+    "format --blocks",
+    "format --blocks eight",
+    "format --blocks 8 --blocks 9",
+    "format --force=yes",
+    "list all",
+    "list --raw",
+    "check --image",
+    "map --before a",
+    "map --after a",
+    "map --before a --after b --image c",
+    "demo fast",
+    "help forget",
+    "help write read",
+    "-x",
+    "--image",
+];
+
+#[test]
+fn words_that_are_not_understood() {
+    let folder = Folder::new("words");
+    for line in WRONG {
+        let ran = folder.run(line);
+        assert_eq!((ran.status, ran.printed), (2, String::new()), "{line:?}: {}", ran.errors);
+        assert!(ran.errors.starts_with("johvimaru: "), "{line:?}: {}", ran.errors);
+        assert!(ran.errors.ends_with("`johvimaru --help` says what there is.\n"), "{line:?}");
+    }
+    assert_eq!(folder.names(), [""; 0], "nothing was made");
+}
+
+/// Words that the command knows.
+const KNOWN: &str =
+    "write read format list wipe commit 0 1 13 - -- --cut 0,0 --blocks 8 --image i.img \
+                     --raw --help = --cut=1,1";
+
+/// Any bytes may stand among the words: the command answers, and does not fall over.
+#[test]
+fn random_words() {
+    let folder = Folder::new("random-words");
+    let mut numbers = Numbers(3);
+    let known: Vec<&str> = KNOWN.split(' ').collect();
+    for case in 0..300 {
+        let words: Vec<OsString> = (0..numbers.below(6))
+            .map(|_| match numbers.below(4) {
+                0 => {
+                    let length = numbers.below(5);
+                    let byte = |_| 1 + numbers.below(255) as u8;
+                    OsString::from_vec((0..length).map(byte).filter(|b| *b != b'/').collect())
+                }
+                _ => known[numbers.below(known.len() as u64) as usize].into(),
+            })
+            .collect();
+        let ran = folder.run_words(&words);
+        assert!((0..=2).contains(&ran.status), "case {case}, {words:?}: {}", ran.errors);
+        assert!(!ran.errors.contains("panicked"), "case {case}, {words:?}: {}", ran.errors);
+    }
+}
+
+/// A file that is no image is left alone by every call.
+#[test]
+fn files_that_are_no_images() {
+    let folder = Folder::new("no-image");
+    let random: Vec<u8> = (0..8 * BLOCK).map(|at| (at * 31 + at / 7) as u8).collect();
+    for (bytes, number) in [
+        (b"".to_vec(), 1),
+        (b"a letter to the harbour master\n".to_vec(), 1),
+        (vec![0xff; 7 * BLOCK], 1),
+        (vec![0xff; 8 * BLOCK + 1], 1),
+        (vec![0; 257 * BLOCK], 1),
+        (random, 13),
+        (vec![0; 8 * BLOCK], 13),
+    ] {
+        for line in CALLS {
+            folder.put("recorder.img", &bytes);
+            let ran = folder.run(line);
+            let said = format!("johvimaru: recorder.img: refused {number}: ");
+            assert!(ran.errors.starts_with(&said), "{line}: {}", ran.errors);
+            assert_eq!(ran.status, 1, "{line}");
+            let printed = if line == "list" { format!("{number:6}\n") } else { String::new() };
+            assert_eq!(ran.printed, printed, "{line}");
+            assert!(folder.image() == bytes, "{line}: the file was changed");
+            assert_eq!(folder.names(), ["recorder.img"], "{line}");
+        }
+    }
+}
+
+/// Only with --force is a file formatted that cannot be mounted. An empty chip can be formatted.
+#[test]
+fn a_format_over_something_else() {
+    let folder = Folder::new("over");
+    folder.put("recorder.img", &[b'x'; 9 * BLOCK]);
+    let ran = folder.run("format");
+    assert!(ran.errors.ends_with("; `format --force` replaces it all the same\n"), "{ran:?}");
+    folder.done("format --force");
+    assert_eq!(folder.image().len(), 9 * BLOCK);
+    folder.put("recorder.img", b"too short");
+    folder.done("format --force");
+    assert_eq!(folder.image().len(), 32 * BLOCK);
+    folder.put("recorder.img", &[0xff; 10 * BLOCK]);
+    folder.done("format");
+    assert_eq!(folder.image().len(), 10 * BLOCK);
+    folder.done("format --cut 20,9");
+    assert_eq!(folder.run("format").status, 1, "a format that was cut left no image");
+    folder.done("format --force");
+    folder.done("check");
+}
+
+#[test]
+fn what_is_no_file() {
+    let folder = Folder::new("no-file");
+    fs::create_dir(folder.path.join("recorder.img")).unwrap();
+    for line in CALLS {
+        let ran = folder.run(line);
+        assert_eq!(ran.status, 1, "{line}");
+        assert_eq!(ran.errors, "johvimaru: recorder.img is no file\n", "{line}");
+        let ran = folder.run(&format!("{line} --image nowhere/x.img"));
+        assert_eq!((ran.status, ran.printed), (1, String::new()), "{line}");
+        assert!(ran.errors.contains("No such file"), "{line}: {}", ran.errors);
+        let ran = folder.run(&format!("{line} --image /dev/null"));
+        assert_eq!((ran.status, ran.printed), (1, String::new()), "{line}");
+        assert_eq!(ran.errors, "johvimaru: /dev/null is no file\n", "{line}");
+    }
+}
+
+/// Standard output that takes nothing is a problem and no panic, and the call is done all the same.
+#[test]
+fn standard_output_that_takes_nothing() {
+    let folder = Folder::new("full");
+    let full = fs::OpenOptions::new().write(true).open("/dev/full").unwrap();
+    let output = folder.command(&["write", "0", "0", "kept"]).stdout(full).output().unwrap();
+    assert_eq!(output.status.code(), Some(1));
+    assert_eq!(folder.done("read 0 0"), "kept\n");
+    let full = fs::OpenOptions::new().write(true).open("/dev/full").unwrap();
+    let output = folder.command(&["help"]).stdout(full).output().unwrap();
+    let errors = String::from_utf8_lossy(&output.stderr);
+    assert_eq!(output.status.code(), Some(1), "{errors}");
+    assert!(errors.starts_with("johvimaru: ") && !errors.contains("panicked"), "{errors}");
+}

@@ -1,0 +1,237 @@
+//! Calls that drive a chip.
+
+use crate::raw::{self, DONE, POWER_CUT};
+use crate::{
+    ffi, Chip, Cut, Noise, Offset, Payload, Record, Refusal, Step, Store, BLOCK, PAGE,
+    PAGES_IN_BLOCK, PAYLOAD, PLACES,
+};
+use std::error::Error;
+use std::fmt;
+
+/// Why a call on a chip was not done.
+#[derive(Clone, Copy, Debug, PartialEq, Eq)]
+pub enum Failure<E> {
+    /// It was refused, and the chip was told nothing.
+    Refused(Refusal),
+    /// There is no record: a mount or a format has to come first.
+    NotMounted,
+    /// The chip failed in a step. A mount has to follow.
+    Chip(E),
+}
+
+impl<E> Failure<E> {
+    /// The refusal, if it is one.
+    pub fn refusal(&self) -> Option<Refusal> {
+        match self {
+            Failure::Refused(refusal) => Some(*refusal),
+            _ => None,
+        }
+    }
+}
+
+impl<E: fmt::Display> fmt::Display for Failure<E> {
+    fn fmt(&self, f: &mut fmt::Formatter) -> fmt::Result {
+        match self {
+            Failure::Refused(refusal) => refusal.fmt(f),
+            Failure::NotMounted => f.write_str("the chip has to be mounted first"),
+            Failure::Chip(error) => write!(f, "the chip failed: {error}"),
+        }
+    }
+}
+
+impl<E: fmt::Debug + fmt::Display> Error for Failure<E> {}
+
+impl<E> From<Refusal> for Failure<E> {
+    fn from(refusal: Refusal) -> Failure<E> {
+        Failure::Refused(refusal)
+    }
+}
+
+/// A chip with its mirror and record: each call goes to the chip step by step.
+///
+/// The steps of a call are learnt from its form with n and k, with k = 0, on copies of the mirror: the copies
+/// after n and after n + 1 steps differ by one step. It is handed to the chip, then done on the mirror,
+/// and only then the next one is looked for. So a page that a call programs and erases again is seen.
+///
+/// A step that changes nothing cannot be seen so. Of all calls only format has such steps, where it erases
+/// a block that is empty. Its steps are the same whatever the image holds, so they are learnt on a copy
+/// without empty blocks, and the chip is told all of them. The steps that a chip counts are therefore
+/// those of document 01.
+///
+/// Where the chip fails, the call ends: the mirror has the steps that the chip has done whole, the record is
+/// gone, and every call but [`mount`](Driver::mount) and [`format`](Driver::format) fails with
+/// [`Failure::NotMounted`]. The step that failed may stand on the chip in part; mount reads the chip
+/// anew.
+///
+/// A call is made on a copy as often as it has steps, and at least once.
+///
+/// ```
+/// use johvimaru::{payload, Driver, File, MemoryChip, Noise};
+///
+/// let chip = MemoryChip::new(vec![0xff; 16 * johvimaru::BLOCK]);
+/// let mut driver = Driver::new(chip);
+/// driver.format(Noise::from_system()?)?;
+/// let at = File::new(0)?.offset(3)?;
+/// driver.write(at, &payload(b"draught 4.12 m")?)?;
+/// driver.wipe(File::new(0)?.start(), Noise::from_system()?)?;
+/// assert_eq!(driver.chip().bytes(), driver.mirror());
+/// # Ok::<(), Box<dyn std::error::Error>>(())
+/// ```
+#[derive(Clone, Debug)]
+pub struct Driver<C> {
+    chip: C,
+    mirror: Vec<u8>,
+    record: Option<Record>,
+}
+
+impl<C> Driver<C> {
+    /// Drives a chip that is not yet mounted.
+    pub fn new(chip: C) -> Driver<C> {
+        Driver { chip, mirror: Vec::new(), record: None }
+    }
+
+    /// The chip.
+    pub fn chip(&self) -> &C {
+        &self.chip
+    }
+
+    /// The chip, to be set up. No step may be done on it so.
+    pub fn chip_mut(&mut self) -> &mut C {
+        &mut self.chip
+    }
+
+    /// Gives the chip up.
+    pub fn into_chip(self) -> C {
+        self.chip
+    }
+
+    /// The mirror: what is on the chip, as far as its steps have ended. It is empty before the first mount
+    /// or format.
+    pub fn mirror(&self) -> &[u8] {
+        &self.mirror
+    }
+
+    /// The record, where the chip is mounted.
+    pub fn record(&self) -> Option<&Record> {
+        self.record.as_ref()
+    }
+
+    /// A store on a copy of the mirror, where the chip is mounted: to try a call on it.
+    pub fn copy(&self) -> Option<Store<Vec<u8>>> {
+        let record = self.record.clone()?;
+        Some(Store::from_parts(self.mirror.clone(), record.0))
+    }
+}
+
+impl<C: Chip> Driver<C> {
+    /// Formats the chip.
+    pub fn format(&mut self, noise: Noise) -> Result<(), Failure<C::Error>> {
+        self.read_chip()?;
+        // Bytes that are not FFh, so that each erase is seen.
+        let full = vec![0; self.mirror.len()];
+        self.drive(full, raw::Record::blank(), |image, record, cut| {
+            ffi::format(image, record, noise.bytes(), Some(cut))
+        })
+    }
+
+    /// Reads the whole chip, and mounts it.
+    pub fn mount(&mut self) -> Result<(), Failure<C::Error>> {
+        self.read_chip()?;
+        self.drive(self.mirror.clone(), raw::Record::blank(), |image, record, cut| {
+            ffi::mount(image, record, &mut [0; PLACES], Some(cut))
+        })
+    }
+
+    /// Writes a payload, as [`Store::write`].
+    pub fn write(&mut self, at: Offset, payload: &Payload) -> Result<(), Failure<C::Error>> {
+        self.call(|image, record, cut| ffi::write(image, record, at.pair(), payload, Some(cut)))
+    }
+
+    /// Reads a payload from the mirror, as [`Store::read`].
+    pub fn read(&self, at: Offset) -> Result<Payload, Failure<C::Error>> {
+        let record = self.record.as_ref().ok_or(Failure::NotMounted)?;
+        let mut output = [0; PAYLOAD];
+        Refusal::result(ffi::read(&self.mirror, &record.0, at.pair(), &mut output))?;
+        Ok(output)
+    }
+
+    /// Removes the nodes of a file from an offset on, as [`Store::cut_off`].
+    pub fn cut_off(&mut self, from: Offset) -> Result<(), Failure<C::Error>> {
+        self.call(|image, record, cut| ffi::cut_off(image, record, from.pair(), Some(cut)))
+    }
+
+    /// Replaces every key that no live node has, as [`Store::commit`].
+    pub fn commit(&mut self, noise: Noise) -> Result<(), Failure<C::Error>> {
+        self.call(|image, record, cut| ffi::commit(image, record, noise.bytes(), Some(cut)))
+    }
+
+    /// Removes nodes and their keys, as [`Store::wipe`].
+    pub fn wipe(&mut self, from: Offset, noise: Noise) -> Result<(), Failure<C::Error>> {
+        self.call(|image, record, cut| {
+            ffi::wipe(image, record, noise.bytes(), from.pair(), Some(cut))
+        })
+    }
+
+    /// Makes the mirror what is on the chip, and forgets the record.
+    fn read_chip(&mut self) -> Result<(), Failure<C::Error>> {
+        self.record = None;
+        let mut bytes = vec![0; BLOCK * self.chip.blocks()];
+        for page in 0..PAGES_IN_BLOCK * self.chip.blocks() {
+            let mut one = [0; PAGE];
+            self.chip.read(page, &mut one).map_err(Failure::Chip)?;
+            bytes[PAGE * page..][..PAGE].copy_from_slice(&one);
+        }
+        self.mirror = bytes;
+        Ok(())
+    }
+
+    /// Makes a call from mirror and record, which a refusal leaves as they are.
+    fn call(
+        &mut self,
+        call: impl Fn(&mut [u8], &mut raw::Record, Cut) -> u32,
+    ) -> Result<(), Failure<C::Error>> {
+        let record = self.record.take().ok_or(Failure::NotMounted)?;
+        let result = self.drive(self.mirror.clone(), record.0.clone(), call);
+        if let Err(Failure::Refused(_)) = result {
+            self.record = Some(record);
+        }
+        result
+    }
+
+    /// Makes a call on copies of this image and record, step by step, and hands each step on.
+    fn drive(
+        &mut self,
+        image: Vec<u8>,
+        record: raw::Record,
+        call: impl Fn(&mut [u8], &mut raw::Record, Cut) -> u32,
+    ) -> Result<(), Failure<C::Error>> {
+        let (mut now, mut next) = (image.clone(), image.clone());
+        for n in 1.. {
+            next.copy_from_slice(&image);
+            let mut after = record.clone();
+            let reply = call(&mut next, &mut after, Cut { n, k: 0 });
+            if !matches!(reply, DONE | POWER_CUT) {
+                return Err(Refusal::known(reply).into());
+            }
+            if let Some(step) = Step::between(&now, &next) {
+                self.tell(&step).map_err(Failure::Chip)?;
+                step.apply(&mut self.mirror);
+            }
+            if reply == DONE {
+                debug_assert!(self.mirror == next, "the mirror is what the call leaves");
+                self.record = Some(Record(after));
+                break;
+            }
+            std::mem::swap(&mut now, &mut next);
+        }
+        Ok(())
+    }
+
+    /// Hands a step to the chip.
+    fn tell(&mut self, step: &Step) -> Result<(), C::Error> {
+        match step {
+            Step::Program { page, bytes } => self.chip.program(*page, bytes),
+            Step::Erase { block } => self.chip.erase(*block),
+        }
+    }
+}

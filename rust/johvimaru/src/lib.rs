@@ -1,0 +1,132 @@
+//! Johvimaru: a store of small records on a flash chip, which can be made to forget.
+//!
+//! The store keeps payloads of 224 bytes in 14 files of fixed size on the image of a flash chip. Each is
+//! enciphered under a key of its own. The keys stand on the same chip, and a payload is forgotten by
+//! replacing its key. What every call does, and what the image is after a power cut at any byte, is
+//! proved; this crate is the safe way to that library from Rust. It needs nothing but `std`.
+//!
+//! ```
+//! use johvimaru::{payload, File, Noise, Refusal, Store};
+//!
+//! // An image of 32 blocks, empty. For a chip it is the mirror in memory.
+//! let mut store = Store::format(vec![0xff; 32 * johvimaru::BLOCK], Noise::from_system()?)?;
+//!
+//! let draughts = File::new(0)?;
+//! store.write(draughts.offset(0)?, &payload(b"draught 4.12 m")?)?;
+//! store.write(draughts.offset(0)?, &payload(b"draught 6.80 m")?)?;
+//! assert!(store.read(draughts.offset(0)?)?.starts_with(b"draught 6.80 m"));
+//! assert_eq!(store.read(draughts.offset(1)?), Err(Refusal::NothingThere));
+//!
+//! // What is there: the live nodes, the keys, the next numbers.
+//! for node in store.record().nodes() {
+//!     println!("{}: page {}, key {}", node.at, node.page, node.key);
+//! }
+//! assert_eq!(store.record().counts().deleted, 1);
+//!
+//! // At the quay: the file goes, and its keys with it.
+//! store.wipe(draughts.start(), Noise::from_system()?)?;
+//! assert_eq!(store.record().counts().free, 448);
+//!
+//! // The next day. The record is found again from the image alone.
+//! let store = Store::mount(store.into_image())?;
+//! assert_eq!(store.record().nodes().count(), 0);
+//! # Ok::<(), Box<dyn std::error::Error>>(())
+//! ```
+//!
+//! - [`Store`] owns or borrows an image, and keeps its record. [`File`] and [`Offset`] name a node;
+//!   a [`Refusal`] has document 01's number and a sentence.
+//! - [`Driver`] drives a [`Chip`]: each step of a call goes to the chip before the next, and the mirror is
+//!   brought along. [`FileChip`] is a chip in a file, [`CutChip`] one whose power fails where it is told.
+//! - With the feature `cut`, each call has a form that the power cuts after n steps and k bytes of one
+//!   more. It takes the store and leaves an `Unmounted` image, which only a mount makes a store again.
+//! - [`Form`] says what stands on a page, for pictures and reports.
+//! - [`raw`] has the library's calls as they are, for tests of it.
+//!
+//! # What stays secret
+//!
+//! The library clears nothing behind it: keys and payloads that a call used lie on the stack and in the
+//! memory of copies until something overwrites them. The cipher is not constant-time.
+//!
+//! # The static library
+//!
+//! The build takes `librecorder.a` from the folder that the variable `JOHVIMARU_LIB_DIR` names, or from
+//! `target/staticlib` of the repository. If it is not there, `rt staticlib recorder` makes it, and
+//! without the program `rt` the build ends and says so. The library is for x86-64 with ELF objects.
+
+mod chip;
+#[cfg(feature = "cut")]
+mod cut;
+mod driver;
+mod ffi;
+mod form;
+mod noise;
+mod plan;
+pub mod raw;
+mod record;
+mod refusal;
+mod step;
+mod store;
+
+pub use chip::{Chip, CutChip, CutError, FileChip, MemoryChip, Misuse};
+#[cfg(feature = "cut")]
+pub use cut::{Outcome, Unmounted};
+pub use driver::{Driver, Failure};
+pub use form::{Form, Header};
+pub use noise::Noise;
+pub use plan::{File, Offset};
+pub use record::{KeyCounts, Letter, Node, Record};
+pub use refusal::{Refusal, Refused};
+pub use step::{Page, Step};
+pub use store::Store;
+
+/// Bytes in a page.
+pub const PAGE: usize = 256;
+/// Pages in a block.
+pub const PAGES_IN_BLOCK: usize = 16;
+/// Bytes in a block.
+pub const BLOCK: usize = PAGE * PAGES_IN_BLOCK;
+/// The least number of blocks in an image.
+pub const MIN_BLOCKS: usize = 8;
+/// The largest number of blocks in an image.
+pub const MAX_BLOCKS: usize = 256;
+/// Bytes in a page's header.
+pub const HEADER: usize = 30;
+/// Bytes in a payload.
+pub const PAYLOAD: usize = 224;
+/// Files.
+pub const FILES: usize = 14;
+/// Places: the nodes of all files.
+pub const PLACES: usize = 224;
+/// Key positions.
+pub const KEYS: usize = 448;
+/// Bytes in a key.
+pub const KEY: usize = 16;
+/// Bytes of noise that format, commit and wipe take.
+pub const NOISE: usize = KEY * KEYS;
+
+/// What a node holds.
+pub type Payload = [u8; PAYLOAD];
+
+/// A payload of these bytes, with spaces after them; refused where there are more than 224.
+///
+/// ```
+/// use johvimaru::{payload, Refusal};
+///
+/// assert_eq!(payload(b"track")?[..6], *b"track ");
+/// assert_eq!(payload(&[0; 225]), Err(Refusal::PayloadLength));
+/// # Ok::<(), Refusal>(())
+/// ```
+pub fn payload(bytes: &[u8]) -> Result<Payload, Refusal> {
+    let mut payload = [b' '; PAYLOAD];
+    payload.get_mut(..bytes.len()).ok_or(Refusal::PayloadLength)?.copy_from_slice(bytes);
+    Ok(payload)
+}
+
+/// Where a power cut falls: after n whole steps and k bytes of one more.
+#[derive(Clone, Copy, Debug, PartialEq, Eq, Hash)]
+pub struct Cut {
+    /// The steps done whole.
+    pub n: u64,
+    /// The bytes done of the next. More than it has do the whole of it.
+    pub k: usize,
+}

@@ -119,13 +119,10 @@ impl Bench<'_> {
     fn fill(&self) -> io::Result<()> {
         let Bench { repository, copy, logs } = self;
         copy_folder(&repository.join("crates"), &copy.join("crates"))?;
-        for folder in ["rlib", "stamp", "log"] {
-            if !logs {
-                copy_folder(
-                    &repository.join("target").join(folder),
-                    &copy.join("target").join(folder),
-                )?;
-            }
+        let proved: &[&str] =
+            if *logs { &[] } else { &["target/rlib", "target/stamp", "target/log"] };
+        for folder in proved {
+            copy_folder(&repository.join(folder), &copy.join(folder))?;
         }
         let lines = fs::read_to_string(repository.join("crates.txt"))?;
         let line = format!("{TRIED}: {} io libc\n", REACHED.join(" "));
@@ -138,7 +135,8 @@ impl Bench<'_> {
     /// Runs the program over the libraries as they are. Gives what is said of it at -O3, its output too.
     fn run(&self) -> Result<String, String> {
         let said = self.rt(&["try", TRIED])?.1;
-        let from = said.find("the native program at -O3").unwrap_or(0);
+        let from = said.find("the native program at -O3");
+        let from = from.ok_or(format!("{PROGRAM} is not run:\n{said}"))?;
         let to = said[from..].find("the native program with").map_or(said.len(), |at| from + at);
         Ok(said[from..to].to_string())
     }

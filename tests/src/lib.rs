@@ -7,12 +7,14 @@
 //! - [`model`]: second implementations, written from the public documents alone.
 //! - [`random_lists`]: lists of calls of the store.
 //! - [`store_lists`]: lists of calls on library and second implementation side by side.
+//! - [`edits`]: wrong programs, and what the prover says of them.
 //! - [`rng`]: a generator of test inputs that gives the same ones in every run.
 //! - [`guarded`]: buffers that show a write outside the part that was lent.
 //! - [`hex`]: bytes to and from hexadecimal text.
 //! - [`shared_library`], [`databases`] and [`timing`]: what speed is compared with, and the clock.
 
 pub mod databases;
+pub mod edits;
 pub mod ffi;
 pub mod guarded;
 pub mod hex;

@@ -79,6 +79,7 @@ struct Places {
     layout: Layout,
     /// The keys stand beside the map, or below it.
     beside: bool,
+    keys_height: usize,
     map_height: usize,
     notes_height: usize,
 }
@@ -96,7 +97,9 @@ impl Places {
         let lines = cells.iter().map(|cells| system_notes(cells).len()).max().unwrap_or(0);
         let notes_height = if layout.notes == 0 { LINE * (lines + 1) } else { 0 };
         let map_height = layout.rows * layout.height + MARGIN;
-        Places { layout, beside: cells.len() == 1, map_height, notes_height }
+        let keys = cells.iter().any(|cells| cells.shown.record.is_ok());
+        let keys_height = if keys { Self::KEYS_HEIGHT } else { LINE };
+        Places { layout, beside: cells.len() == 1, keys_height, map_height, notes_height }
     }
 
     /// Where the keys start.
@@ -113,7 +116,7 @@ impl Places {
 
     fn height(&self) -> usize {
         let below = Self::HEAD + self.map_height + self.notes_height;
-        below.max(self.keys().1 + Self::KEYS_HEIGHT)
+        below.max(self.keys().1 + self.keys_height)
     }
 }
 
@@ -219,11 +222,8 @@ fn legend(cells: &[Cells], layout: &Layout, width: usize) -> (String, usize) {
     const CELL: usize = 24;
     let drawn = Kind::ALL.into_iter().filter(|kind| cells.iter().any(|cells| cells.has(*kind)));
     let pages = drawn.map(|kind| (name(kind), in_legend(kind), (LINE - layout.height) / 2));
-    let keys = [
-        (Letter::Free, "free key"),
-        (Letter::Used, "used key"),
-        (Letter::Deleted, "deleted key"),
-    ];
+    let keys =
+        [(Letter::Free, "free key"), (Letter::Used, "used key"), (Letter::Deleted, "deleted key")];
     let keys = keys.map(|(letter, words)| (key_name(letter).to_string(), words, 0));
     let keys_too = cells.iter().any(|cells| cells.shown.record.is_ok());
     let (mut text, mut x, mut y) = (String::new(), 0, 0);
@@ -288,11 +288,11 @@ fn look(kind: Kind) -> Look {
         Kind::Keys(_) => ("#7cc4ee", "#000", None),
         Kind::Commit(_) => ("#3dbb94", "#000", None),
         Kind::Live(_) => ("#f0a800", "#000", None),
-        Kind::Dead => ("#cfcfcf", "#000", Some("slash")),
+        Kind::Dead => ("#bdbdbd", "#000", Some("slash")),
         Kind::Node => ("#f7dd94", "#000", None),
         Kind::CutOff => ("#d99ac0", "#000", None),
-        Kind::LeftOver => ("#bcdff5", "#000", Some("back")),
-        Kind::Torn => ("#ffb38a", "#000", Some("bars")),
+        Kind::LeftOver => ("#a9d5f2", "#000", Some("back")),
+        Kind::Torn => ("#ff9e6b", "#000", Some("bars")),
         Kind::Spoilt => ("#333", "#fff", None),
         Kind::Empty => ("#fff", "#fff", None),
     };
@@ -303,7 +303,7 @@ fn look_of_key(letter: Letter) -> Look {
     match letter {
         Letter::Free => Look { ground: "#fff", ink: "#767676", pattern: None },
         Letter::Used => look(Kind::Live(0)),
-        Letter::Deleted => Look { ground: "#ffb38a", ink: "#000", pattern: Some("slash") },
+        Letter::Deleted => Look { ground: "#ff9e6b", ink: "#000", pattern: Some("slash") },
     }
 }
 
@@ -314,7 +314,7 @@ fn symbols(layout: &Layout) -> String {
         let _ = writeln!(
             text,
             "<pattern id=\"{name}\" width=\"6\" height=\"6\" patternUnits=\"userSpaceOnUse\">\
-             <path d=\"{path}\" stroke=\"#fff\" stroke-width=\"1.6\"/></pattern>"
+             <path d=\"{path}\" stroke=\"#fff\" stroke-width=\"1.1\"/></pattern>"
         );
     }
     let (width, height, font) = (layout.width, layout.height, layout.font);

@@ -8,7 +8,7 @@ const WIDE_ROWS: usize = 40;
 /// Columns of blocks where the cells are small and there is one picture.
 const SMALL_COLUMNS: usize = 3;
 /// Empty blocks in a row that are drawn as one line.
-const FOLD: usize = 4;
+const FOLD: usize = 3;
 /// Key positions in a line: those of two key pages.
 const KEYS_IN_LINE: usize = 28;
 /// The legend is broken before this column.

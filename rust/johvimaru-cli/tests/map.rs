@@ -55,7 +55,8 @@ d deleted
     let pair = folder.done("map --before before.img --after recorder.img");
     let titles = format!("{:39}recorder.img\n", "before.img");
     assert!(pair.starts_with(&titles), "{pair}");
-    assert!(pair.contains("   5 to 7: empty                           5 to 7: empty\n"), "{pair}");
+    let empty = format!("{:39}   5 to 7: empty\n", "   5 to 7: empty");
+    assert!(pair.contains(&empty), "{pair}");
     assert!(pair.lines().all(|line| line.len() <= 80), "{pair}");
 }
 

@@ -53,20 +53,48 @@ fn noise() -> Result<Noise, johvimaru::Refusal> {
     Noise::new(&[7; NOISE])
 }
 
-/// Writes the nodes of file 0 in their order, and commits after so many writes. The format is not counted.
-fn run(blocks: usize, writes: usize) -> Result<Vec<Wear>, Box<dyn Error>> {
+type Device = Driver<Counting>;
+
+/// A device that was just formatted, which is not counted.
+fn formatted(blocks: usize) -> Result<Device, Box<dyn Error>> {
     let chip = MemoryChip::new(vec![0xff; BLOCK * blocks]);
-    let mut driver = Driver::new(Counting { chip, wear: vec![Wear::default(); blocks] });
-    driver.format(noise()?)?;
-    driver.chip_mut().wear.fill(Wear::default());
+    let mut device = Driver::new(Counting { chip, wear: vec![Wear::default(); blocks] });
+    device.format(noise()?)?;
+    device.chip_mut().wear.fill(Wear::default());
+    Ok(device)
+}
+
+/// Writes the nodes of file 0 in their order, and commits after so many writes.
+fn run(blocks: usize, writes: usize) -> Result<Vec<Wear>, Box<dyn Error>> {
+    let mut device = formatted(blocks)?;
     let mut offsets = (0..32).cycle();
     for _ in 0..COMMITS {
         for offset in offsets.by_ref().take(writes) {
-            driver.write(Offset::new(0, offset)?, &[b'x'; PAYLOAD])?;
+            device.write(Offset::new(0, offset)?, &[b'x'; PAYLOAD])?;
         }
-        driver.commit(noise()?)?;
+        device.commit(noise()?)?;
     }
-    Ok(driver.into_chip().wear)
+    Ok(device.into_chip().wear)
+}
+
+/// How often one block is erased in one commit or wipe, at most, in a run with both in turn.
+fn most_in_one_call() -> Result<usize, Box<dyn Error>> {
+    let mut device = formatted(BLOCKS)?;
+    let mut most = 0;
+    for round in 0..COMMITS as u32 {
+        for offset in 0..32 {
+            device.write(Offset::new(0, (7 * offset + round) % 32)?, &[b'x'; PAYLOAD])?;
+        }
+        let before = device.chip().wear.clone();
+        match round % 2 {
+            0 => device.commit(noise()?)?,
+            _ => device.wipe(Offset::new(0, round % 32)?, noise()?)?,
+        }
+        let erased =
+            device.chip().wear.iter().zip(before).map(|(new, old)| new.erases - old.erases);
+        most = most.max(erased.max().unwrap_or(0));
+    }
+    Ok(most)
 }
 
 /// The counts of each block, for two numbers of writes before a commit.
@@ -85,7 +113,9 @@ pub fn text() -> Result<String, Box<dyn Error>> {
         run[..] == larger[..BLOCKS] && larger[BLOCKS..].iter().all(|w| *w == Wear::default())
     });
     let words = if same { "the same blocks and numbers" } else { "other numbers" };
-    Ok(text + &format!("{} blocks: {words}\n", 2 * BLOCKS))
+    text += &format!("{} blocks: {words}\n", 2 * BLOCKS);
+    let most = most_in_one_call()?;
+    Ok(text + &format!("erases of one block in one commit or wipe: at most {most}\n"))
 }
 
 fn main() -> Result<(), Box<dyn Error>> {

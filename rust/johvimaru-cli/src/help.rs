@@ -222,7 +222,7 @@ johvimaru demo
 Plays a handover on an image in memory: one firm's draughts and track are
 written, one is overwritten, the power fails in a write and in a wipe, and
 after each step it says what has changed. At the end it looks for the old keys
-in every byte of the image.
+in every byte of the image, and draws it before and after.
 ";
 
 #[cfg(test)]

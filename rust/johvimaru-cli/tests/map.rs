@@ -38,7 +38,6 @@ K0 key block 0  K1 key block 1  C0 to C9 commit
 0 to 9, a to d live node, by file  x dead node  . empty  f free key  u used
 d deleted
 ";
-    let before = folder.image();
     assert_eq!(folder.done("map"), drawn);
     folder.done("commit");
     let after = folder.done("map");
@@ -51,13 +50,38 @@ d deleted
     ] {
         assert!(after.lines().any(|drawn| drawn == line), "{line}\n{after}");
     }
-    folder.put("before.img", &before);
+}
+
+#[test]
+fn two_pictures_side_by_side() {
+    let folder = Folder::new("map-pair");
+    case_of_document_01(&folder);
+    folder.put("before.img", &folder.image());
+    folder.done("commit");
     let pair = folder.done("map --before before.img --after recorder.img");
     let titles = format!("{:39}recorder.img\n", "before.img");
     assert!(pair.starts_with(&titles), "{pair}");
     let empty = format!("{:39}   5 to 7: empty\n", "   5 to 7: empty");
     assert!(pair.contains(&empty), "{pair}");
     assert!(pair.lines().all(|line| line.len() <= 80), "{pair}");
+}
+
+/// The demo ends with the picture before the wipe and after it.
+#[test]
+fn the_pictures_of_the_demo() {
+    let folder = Folder::new("map-demo");
+    let text = folder.done("demo");
+    let from = text.find("\nbefore the wipe ").expect("the picture is there");
+    let picture = text[from..].trim_start();
+    let side_by_side = |left: &str, right: &str| {
+        let line = format!("{left:39}{right}");
+        assert!(picture.lines().any(|drawn| drawn == line.trim_end()), "{line}\n{picture}");
+    };
+    side_by_side("before the wipe", "after it");
+    side_by_side("8 blocks, 5 live nodes", "8 blocks, 0 live nodes");
+    side_by_side("   3  x 0 0 2 2 0 t . . . . . . . . .", "   3  . . . . . . . . . . . . . . . .");
+    side_by_side("   0 duuuuudfffffffffffffffffffff", "   0 to 447: all f");
+    assert!(picture.lines().count() < 24, "{picture}");
 }
 
 // ---- SVG

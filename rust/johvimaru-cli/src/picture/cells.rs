@@ -2,6 +2,9 @@
 
 use johvimaru::{Form, Header, Record, Refusal, PAGES_IN_BLOCK};
 
+/// At most so many lines on the blocks of keys and commits.
+const MOST_NOTES: usize = 8;
+
 /// What a page is.
 #[derive(Clone, Copy, Debug, PartialEq, Eq, Hash)]
 pub enum Kind {
@@ -146,10 +149,28 @@ impl<'a> Cells<'a> {
         self.system_note(block).unwrap_or_else(|| self.data_note(block))
     }
 
+    /// The blocks of keys and of commits, in words; not too many of them.
+    pub fn system_notes(&self) -> Vec<String> {
+        let note = |block| Some(format!("block {block}: {}", self.system_note(block)?));
+        let mut notes: Vec<String> = (0..self.blocks()).filter_map(note).collect();
+        if notes.len() > MOST_NOTES {
+            let more = notes.len() - (MOST_NOTES - 1);
+            notes.truncate(MOST_NOTES - 1);
+            notes.push(format!("and {more} more"));
+        }
+        notes
+    }
+
     /// What a block of keys or of a commit is, in words.
-    pub fn system_note(&self, block: usize) -> Option<String> {
+    fn system_note(&self, block: usize) -> Option<String> {
         let first = PAGES_IN_BLOCK * block;
         let forms = self.forms.get(first..first + PAGES_IN_BLOCK)?;
+        let is_data = |form: &Form| {
+            matches!(form.header(), Some(Header::Node { .. } | Header::CutOff { .. }))
+        };
+        if forms.iter().any(is_data) {
+            return None;
+        }
         let words = forms.iter().find_map(|form| match form.header()? {
             Header::Keys { epoch, block, .. } => Some(format!("key block {block}, epoch {epoch}")),
             Header::Commit { epoch, covered, .. } => {
@@ -173,6 +194,7 @@ impl<'a> Cells<'a> {
             (Kind::CutOff, "cut-off"),
             (Kind::Torn, "torn"),
             (Kind::Spoilt, "spoilt"),
+            (Kind::LeftOver, "not in use"),
         ];
         let counted: Vec<String> = named
             .into_iter()

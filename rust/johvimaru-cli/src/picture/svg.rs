@@ -19,8 +19,6 @@ const KEYS_IN_PAGE: usize = 14;
 const KEY_ROWS: usize = 16;
 const KEY_CELL: usize = 15;
 const KEY_GAP: usize = 5;
-/// At most so many lines on the blocks of keys and commits.
-const MOST_NOTES: usize = 8;
 
 /// Sizes of the map of blocks.
 #[derive(Clone, Copy)]
@@ -94,7 +92,7 @@ impl Places {
         let notes = |cells: &Cells| (0..cells.blocks()).map(|b| cells.note(b).len()).max();
         let longest = cells.iter().filter_map(notes).max().unwrap_or(0);
         let layout = Layout::of(blocks, longest);
-        let lines = cells.iter().map(|cells| system_notes(cells).len()).max().unwrap_or(0);
+        let lines = cells.iter().map(|cells| cells.system_notes().len()).max().unwrap_or(0);
         let notes_height = if layout.notes == 0 { LINE * (lines + 1) } else { 0 };
         let map_height = layout.rows * layout.height + MARGIN;
         let keys = cells.iter().any(|cells| cells.shown.record.is_ok());
@@ -155,7 +153,7 @@ fn panel(cells: &Cells, places: &Places) -> String {
     }
     text += &group(0, Places::HEAD, &map(cells, &places.layout));
     if places.layout.notes == 0 {
-        for (number, note) in system_notes(cells).iter().enumerate() {
+        for (number, note) in cells.system_notes().iter().enumerate() {
             let y = Places::HEAD + places.map_height + LINE * number;
             text += &words(NUMBER, y, "words", note);
         }
@@ -185,18 +183,6 @@ fn map(cells: &Cells, layout: &Layout) -> String {
     text
 }
 
-/// The blocks of keys and commits in words, where these do not stand beside their rows.
-fn system_notes(cells: &Cells) -> Vec<String> {
-    let note = |block| Some(format!("block {block}: {}", cells.system_note(block)?));
-    let mut notes: Vec<String> = (0..cells.blocks()).filter_map(note).collect();
-    if notes.len() > MOST_NOTES {
-        let more = notes.len() - (MOST_NOTES - 1);
-        notes.truncate(MOST_NOTES - 1);
-        notes.push(format!("and {more} more"));
-    }
-    notes
-}
-
 /// The key positions by letter.
 fn keys(cells: &Cells) -> String {
     let Ok(record) = cells.shown.record else {
@@ -221,7 +207,8 @@ fn keys(cells: &Cells) -> String {
 fn legend(cells: &[Cells], layout: &Layout, width: usize) -> (String, usize) {
     const CELL: usize = 24;
     let drawn = Kind::ALL.into_iter().filter(|kind| cells.iter().any(|cells| cells.has(*kind)));
-    let pages = drawn.map(|kind| (name(kind), in_legend(kind), (LINE - layout.height) / 2));
+    let small = layout.letters == 1;
+    let pages = drawn.map(|kind| (name(kind), in_legend(kind, small), (LINE - layout.height) / 2));
     let keys =
         [(Letter::Free, "free key"), (Letter::Used, "used key"), (Letter::Deleted, "deleted key")];
     let keys = keys.map(|(letter, words)| (key_name(letter).to_string(), words, 0));
@@ -239,10 +226,11 @@ fn legend(cells: &[Cells], layout: &Layout, width: usize) -> (String, usize) {
     (text, y + LINE)
 }
 
-fn in_legend(kind: Kind) -> &'static str {
+fn in_legend(kind: Kind, small: bool) -> &'static str {
     match kind {
+        Kind::Live(_) if small => "live node, with its file (a to d: 10 to 13)",
         Kind::Live(_) => "live node, with its file",
-        Kind::Commit(_) => "commit, with its part",
+        Kind::Commit(_) if !small => "commit, with its part",
         Kind::Node => "node, live or dead",
         _ => kind.words(),
     }

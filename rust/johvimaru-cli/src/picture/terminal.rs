@@ -119,24 +119,15 @@ fn panel(cells: &Cells, rows: &[Row], alone: bool) -> Vec<Line> {
     let drawn = |rows: &[Row]| rows.iter().map(|r| row(cells, *r, wide)).collect::<Vec<Line>>();
     if wide && alone {
         lines.extend(beside(vec![drawn(rows), keys(cells)]));
-        lines.extend(notes(cells));
+        lines.extend(cells.system_notes().into_iter().map(Line::plain));
         return lines;
     }
     let columns = if alone { SMALL_COLUMNS } else { 1 };
     lines.extend(beside(rows.chunks(rows.len().div_ceil(columns)).map(drawn).collect()));
-    lines.extend(notes(cells));
+    lines.extend(cells.system_notes().into_iter().map(Line::plain));
     lines.push(Line::default());
     lines.extend(keys(cells));
     lines
-}
-
-/// The blocks of keys and commits, in words.
-fn notes(cells: &Cells) -> Vec<Line> {
-    let notes = (0..cells.blocks()).filter_map(|block| {
-        let note = cells.system_note(block)?;
-        Some(Line::plain(format!("block {block}: {note}")))
-    });
-    notes.collect()
 }
 
 // ---- Keys

@@ -63,10 +63,11 @@ impl Kind {
         }
     }
 
-    /// What stands in its cell, in one column: files 10 to 13 are a to d.
+    /// What stands in its cell, in one column: L for key block 1, and a to d for files 10 to 13.
     pub fn letter(self) -> char {
         match self {
-            Kind::Keys(_) => 'K',
+            Kind::Keys(0) => 'K',
+            Kind::Keys(_) => 'L',
             Kind::Commit(_) => 'C',
             Kind::Live(file) => char::from_digit(file, 16).unwrap_or('#'),
             Kind::Dead => 'x',

@@ -376,3 +376,40 @@ fn shortened(text: &str, room: usize) -> String {
 fn escaped(text: &str) -> String {
     text.replace('&', "&amp;").replace('<', "&lt;").replace('>', "&gt;").replace('"', "&quot;")
 }
+
+#[cfg(test)]
+mod tests {
+    use super::*;
+
+    /// The light that a colour gives, from 0 to 1, as the guidelines for web content reckon it.
+    fn light(colour: &str) -> f64 {
+        let digits: Vec<u32> = colour[1..].chars().filter_map(|digit| digit.to_digit(16)).collect();
+        let parts: Vec<u32> = match digits.len() {
+            3 => digits.iter().map(|digit| 17 * digit).collect(),
+            _ => digits.chunks(2).map(|pair| 16 * pair[0] + pair[1]).collect(),
+        };
+        let linear = parts.iter().map(|part| match f64::from(*part) / 255.0 {
+            low if low <= 0.04045 => low / 12.92,
+            high => ((high + 0.055) / 1.055).powf(2.4),
+        });
+        linear.zip([0.2126, 0.7152, 0.0722]).map(|(part, weight)| part * weight).sum()
+    }
+
+    /// Letters stand out from their ground by what is asked of small text.
+    #[test]
+    fn letters_can_be_read() {
+        let letters = [Letter::Free, Letter::Used, Letter::Deleted].map(look_of_key);
+        let pages = Kind::ALL.into_iter().filter(|kind| *kind != Kind::Empty).map(look);
+        for Look { ground, ink, .. } in pages.chain(letters) {
+            let (a, b) = (light(ground), light(ink));
+            let contrast = (a.max(b) + 0.05) / (a.min(b) + 0.05);
+            assert!(contrast >= 4.5, "{ink} on {ground}: {contrast}");
+        }
+    }
+
+    #[test]
+    fn titles_that_are_too_long() {
+        assert_eq!(shortened("recorder.img", 12), "recorder.img");
+        assert_eq!(shortened("a/recorder.img", 12), "...order.img");
+    }
+}

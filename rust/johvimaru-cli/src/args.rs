@@ -334,7 +334,11 @@ fn map_options(words: &Words) -> Result<MapOptions, Usage> {
     if before_after.is_some() && words.value(IMAGE_OPTION).is_some() {
         return wrong("map takes --before and --after, or --image");
     }
-    Ok(MapOptions { svg: words.path("--svg"), before_after })
+    let svg = words.path("--svg");
+    if svg.as_ref().is_some_and(|path| path.extension().is_none_or(|end| end != "svg")) {
+        return wrong("--svg takes the name of a file that ends in .svg");
+    }
+    Ok(MapOptions { svg, before_after })
 }
 
 #[cfg(test)]

@@ -185,7 +185,7 @@ impl Play<'_> {
         let shown = [("before the wipe", before), ("after it", after)].map(|(title, seen)| Shown {
             title,
             image: &seen.image,
-            record: &seen.record,
+            record: Ok(&seen.record),
         });
         writeln!(self.out)?;
         self.out.write_all(picture::text(&shown, picture::colours()).as_bytes())?;

@@ -207,7 +207,13 @@ const MAP: &str = "\
 johvimaru map [--svg OUT.svg] [--image FILE]
 johvimaru map --before A --after B [--svg OUT.svg]
 
-Draws the image: a row for each block and a cell for each page.
+Draws the image: a row for each block, a cell for each page by what it is, and
+the 448 key positions by letter. With --before and --after two images stand
+side by side. With --svg the picture goes into a file, else it is printed: in
+colours on a terminal, unless NO_COLOR is set.
+
+It mounts a copy, and leaves the image as it is. One that mount refuses is
+drawn by the form of its pages; the exit status is then 1.
 ";
 
 const DEMO: &str = "\
@@ -216,7 +222,7 @@ johvimaru demo
 Plays a handover on an image in memory: one firm's draughts and track are
 written, one is overwritten, the power fails in a write and in a wipe, and
 after each step it says what has changed. At the end it looks for the old keys
-in every byte of the image.
+in every byte of the image, and draws it before and after.
 ";
 
 #[cfg(test)]

@@ -23,7 +23,7 @@ const CALLS: [&str; 10] = [
 ];
 
 /// Lines that are not understood.
-const WRONG: [&str; 39] = [
+const WRONG: [&str; 44] = [
     "",
     "forget",
     "--cut 1,2",
@@ -58,6 +58,11 @@ const WRONG: [&str; 39] = [
     "map --before a",
     "map --after a",
     "map --before a --after b --image c",
+    "map picture.svg",
+    "map --svg",
+    "map --svg=",
+    "map --svg recorder.img",
+    "map --cut 1,2",
     "demo fast",
     "help forget",
     "help write read",
@@ -125,8 +130,11 @@ fn files_that_are_no_images() {
             let said = format!("johvimaru: recorder.img: refused {number}: ");
             assert!(ran.errors.starts_with(&said), "{line}: {}", ran.errors);
             assert_eq!(ran.status, 1, "{line}");
-            let printed = if line == "list" { format!("{number:6}\n") } else { String::new() };
-            assert_eq!(ran.printed, printed, "{line}");
+            match (line, number) {
+                ("list", _) => assert_eq!(ran.printed, format!("{number:6}\n")),
+                ("map", 13) => assert!(ran.printed.contains("mount refuses it, 13"), "{ran:?}"),
+                _ => assert_eq!(ran.printed, "", "{line}"),
+            }
             assert!(folder.image() == bytes, "{line}: the file was changed");
             assert_eq!(folder.names(), ["recorder.img"], "{line}");
         }

@@ -5,58 +5,42 @@
 //! disk. The library and the second implementation test in each call whether the record fits the
 //! image. A read at a vacant place is that test and little else, so it tells the test's share.
 //!
-//! A mount is timed beside one pass of the form of every page; a commit and a wipe beside the same
-//! bytes moved without a test, and beside the second implementation.
+//! Every call is timed beside the floor, a plain program in C with the same tests, on the same image and
+//! record, and each limit is said to be met or not: read and write are to take no longer than there. A
+//! mount is timed also beside one pass of the form of every page; a commit and a wipe beside the same
+//! bytes moved without a test.
 //!
 //! Under `cargo bench` it prints ratios. Under `cargo test` it only compares results.
+
+#[path = "store/against_floor.rs"]
+mod against_floor;
+#[path = "store/bed.rs"]
+mod bed;
+#[path = "store/whole_blocks.rs"]
+mod whole_blocks;
 
 use johvimaru::raw as recorder;
 use johvimaru::Refusal;
 use johvimaru_tests::databases::{Folder, Lmdb, Sqlite};
-use johvimaru_tests::ffi::page as harness;
+use johvimaru_tests::floor::Floor;
 use johvimaru_tests::model::calls;
-use johvimaru_tests::model::files::{self, PLACES};
-use johvimaru_tests::model::image::{Power, Step, BLOCK};
-use johvimaru_tests::model::list::{Call, Data};
-use johvimaru_tests::model::pages::{self, Form, Header, ERASED, PAGE, PAYLOAD};
+use johvimaru_tests::model::files;
+use johvimaru_tests::model::image::{Power, BLOCK};
+use johvimaru_tests::model::pages::{ERASED, PAGE, PAYLOAD};
 use johvimaru_tests::model::record::Record;
 use johvimaru_tests::model::store::Store;
+use johvimaru_tests::settings::{self, Setting, CALLS, FORMAT_NOISE, SETTINGS, VACANT};
 use johvimaru_tests::shared_library::SharedLibrary;
-use johvimaru_tests::side_by_side;
 use johvimaru_tests::timing::{self, Work};
 use std::cell::RefCell;
-use std::hint::black_box;
 
-/// Calls in a turn.
-const CALLS: usize = 4;
 /// Rounds in which every peer has its turns.
 const ROUNDS: usize = 400;
 
 /// The library's time over that of the second implementation is at most this.
 const LIMIT: f64 = 3.0;
 
-/// A place that is never written.
-const VACANT: usize = PLACES - 1;
-
 type Payload = [u8; PAYLOAD];
-
-/// An image, and what was written on it.
-struct Setting {
-    name: &'static str,
-    blocks: usize,
-    /// How many places hold a node, the first ones.
-    live: usize,
-    /// How many writes were made.
-    writes: usize,
-}
-
-/// Each leaves room for the writes of a turn.
-const SETTINGS: [Setting; 4] = [
-    Setting { name: "32 KiB, nearly empty", blocks: 8, live: CALLS, writes: CALLS },
-    Setting { name: "32 KiB, nearly full", blocks: 8, live: 60, writes: 60 },
-    Setting { name: "1 MiB, nearly empty", blocks: 256, live: CALLS, writes: CALLS },
-    Setting { name: "1 MiB, nearly full", blocks: 256, live: VACANT, writes: 440 },
-];
 
 /// A store of payloads by place.
 trait Peer {
@@ -71,6 +55,7 @@ trait Peer {
 
 fn main() {
     let bench = std::env::args().any(|word| word == "--bench");
+    against_floor::compare_results();
     let mut verdicts = Vec::new();
     for setting in &SETTINGS {
         let folder = Folder::new("bench");
@@ -85,18 +70,24 @@ fn main() {
         println!("{title:<36}{:>15}{:>15}", "write", "read");
         verdicts.iter().for_each(|verdict| println!("{verdict}"));
     }
-    whole_blocks(bench);
+    whole_blocks::whole_blocks(bench);
+    if bench {
+        against_floor::times();
+    }
 }
 
 /// What the write of this number writes.
 fn payload(number: usize) -> Payload {
-    Data::payload(number as u64).bytes().try_into().expect("a payload has this length")
+    settings::payload(number).bytes().try_into().expect("a payload has this length")
 }
 
 /// All peers, the library first and the second implementation next, as the setting has them.
 fn peers(setting: &Setting, folder: &Folder) -> Vec<RefCell<Box<dyn Peer>>> {
     let mut peers: Vec<Box<dyn Peer>> =
         vec![Box::new(Ours::new(setting.blocks)), Box::new(Second::new(setting.blocks))];
+    if let Some(floor) = Floor::open() {
+        peers.push(Box::new(InC { floor, lent: Ours::new(setting.blocks) }));
+    }
     match SharedLibrary::open(c"liblmdb.so.0") {
         Some(library) => peers.push(Box::new(Lmdb::new(library, folder))),
         None => say_missing("LMDB", "liblmdb0"),
@@ -210,8 +201,6 @@ fn node(place: usize) -> (u32, u32) {
     (file as u32, offset as u32)
 }
 
-const FORMAT_NOISE: Data = Data { length: 7_168, seed: 3 };
-
 /// The proved library.
 struct Ours {
     image: Vec<u8>,
@@ -254,6 +243,36 @@ impl Peer for Ours {
         self.record.map.copy_from_slice(&self.kept.map);
         self.record.letters.copy_from_slice(&self.kept.letters);
         self.record.numbers = self.kept.numbers;
+    }
+}
+
+/// The floor, on an image that the library has formatted.
+struct InC {
+    floor: Floor,
+    lent: Ours,
+}
+
+impl Peer for InC {
+    fn name(&self) -> &'static str {
+        "floor in C"
+    }
+
+    fn write(&mut self, place: usize, payload: &Payload) {
+        let ((file, offset), Ours { image, record, .. }) = (node(place), &mut self.lent);
+        assert_eq!(self.floor.write(image, record, file, offset, payload), recorder::DONE);
+    }
+
+    fn read(&mut self, place: usize, output: &mut Payload) {
+        let ((file, offset), Ours { image, record, .. }) = (node(place), &self.lent);
+        assert_eq!(self.floor.read(image, record, file, offset, output), recorder::DONE);
+    }
+
+    fn keep(&mut self) {
+        self.lent.keep();
+    }
+
+    fn take_back(&mut self, places: std::ops::Range<usize>) {
+        self.lent.take_back(places);
     }
 }
 
@@ -333,143 +352,4 @@ impl Peer for Sqlite {
     fn read(&mut self, place: usize, output: &mut Payload) {
         Sqlite::read(self, place as u32, output);
     }
-}
-
-// ---- Mount, commit and wipe
-
-/// The time of a mount over that of one pass of the form of every page is at most this.
-const PASS_LIMIT: f64 = 1.5;
-/// The time of a commit or wipe over that of the same bytes moved without a test is at most this.
-const MOVED_LIMIT: f64 = 1.5;
-
-/// A setting for the calls on whole blocks: its blocks, and how many writes were made on it.
-fn written(blocks: usize, writes: usize) -> Ours {
-    let mut ours = Ours::new(blocks);
-    (0..writes).for_each(|number| ours.write(number % VACANT, &payload(number)));
-    ours.keep();
-    ours
-}
-
-/// The forms of all pages of an image, by the library.
-fn pass(image: &[u8]) -> u32 {
-    let mut fields = [0; 6];
-    image.chunks_exact(PAGE).map(|page| harness::form(page, &mut fields)).sum()
-}
-
-/// A mount by the library beside that pass and beside the second implementation's mount.
-fn mounts(blocks: usize, writes: usize, bench: bool) {
-    let ours = written(blocks, writes);
-    let (mut image, mut record) = (ours.image.clone(), recorder::Record::blank());
-    let mut second = Store { image: ours.image.clone(), record: Record::blank() };
-    assert_eq!(recorder::mount(&mut image, &mut record, &mut [0; PLACES]), recorder::DONE);
-    assert_eq!(second.call(Call::MOUNT), calls::DONE);
-    assert!(image == ours.image && record == ours.record, "a mount finds what was written");
-    assert_eq!((&record.map, &record.letters), (&second.record.map, &second.record.letters));
-    if bench {
-        let ways: Vec<Work> = vec![
-            Box::new(|| {
-                recorder::mount(&mut image, &mut record, &mut [0; PLACES]);
-            }),
-            Box::new(|| assert!(pass(black_box(&ours.image)) > 0)),
-            Box::new(|| {
-                second.call(Call::MOUNT);
-            }),
-        ];
-        let times = timing::run(ways, ROUNDS / 4);
-        let (pass, second) = (times.ratio(0, 1), times.ratio(0, 2));
-        let word = if pass <= PASS_LIMIT { "met" } else { "NOT MET" };
-        let name = format!("mount, {blocks} blocks, {writes} writes");
-        println!("{name:<36}{pass:>15.2}{second:>15.2}   {word}");
-    }
-}
-
-/// A step that was taken apart: a page's number, header and payload, or a block to erase.
-enum Move {
-    Page(usize, Header, Vec<u8>),
-    Erase(usize),
-}
-
-impl Move {
-    fn of(step: &Step) -> Move {
-        match step {
-            Step::Program { page, bytes } => match Form::of(bytes) {
-                Form::Whole(header) => Move::Page(*page, header, pages::payload(bytes).to_vec()),
-                _ => unreachable!("a call programs whole pages"),
-            },
-            Step::Erase { block } => Move::Erase(*block),
-        }
-    }
-
-    /// Spells the page and copies it to its place, or erases the block; nothing is tested.
-    fn make(&self, image: &mut [u8]) {
-        match self {
-            Move::Page(page, header, payload) => {
-                image[PAGE * page..][..PAGE].copy_from_slice(&header.page(payload));
-            }
-            Move::Erase(block) => image[BLOCK * block..][..BLOCK].fill(ERASED),
-        }
-    }
-}
-
-/// A commit or a wipe by the library on 1 MiB beside the same bytes moved without a test and beside
-/// the second implementation's, each on a copy.
-fn purges(name: &str, bench: bool, call: Call) {
-    let ours = written(256, 440);
-    let noise = FORMAT_NOISE.bytes();
-    let second = Store {
-        image: ours.image.clone(),
-        record: Record {
-            map: ours.record.map.clone(),
-            letters: ours.record.letters.clone(),
-            numbers: side_by_side::numbers(ours.record.numbers),
-        },
-    };
-    let library = || {
-        let (mut image, mut record) = (ours.image.clone(), ours.record.clone());
-        let reply = match call {
-            Call::Wipe { .. } => recorder::wipe(&mut image, &mut record, &noise, 0, 0),
-            _ => recorder::commit(&mut image, &mut record, &noise),
-        };
-        assert_eq!(reply, recorder::DONE);
-        image
-    };
-    let model = || {
-        let mut copy = second.clone();
-        assert_eq!(copy.call(call), calls::DONE);
-        copy.image
-    };
-    let outcome = match call {
-        Call::Wipe { .. } => calls::wipe::outcome(&second.image, &second.record, 0, 0, &noise),
-        _ => calls::commit::outcome(&second.image, &second.record, &noise),
-    };
-    let steps = outcome.expect("the call is taken").steps;
-    let moves: Vec<Move> = steps.iter().map(Move::of).collect();
-    let moved = || {
-        let mut image = ours.image.clone();
-        moves.iter().for_each(|one| one.make(&mut image));
-        image
-    };
-    assert!(library() == model() && library() == moved(), "{name}: the images");
-    if bench {
-        let ways: Vec<Work> = vec![
-            Box::new(|| drop(library())),
-            Box::new(|| drop(moved())),
-            Box::new(|| drop(model())),
-        ];
-        let times = timing::run(ways, ROUNDS / 4);
-        let (moved, second) = (times.ratio(0, 1), times.ratio(0, 2));
-        let word = if moved <= MOVED_LIMIT { "met" } else { "NOT MET" };
-        println!("{name:<36}{moved:>15.2}{second:>15.2}   {word}");
-    }
-}
-
-/// All of them, as a table.
-fn whole_blocks(bench: bool) {
-    println!("{:<36}{:>15}{:>15}", "\nours, a multiple of", "pass, moves", "second");
-    for (blocks, full) in [(8, 60), (32, 440), (128, 440), (256, 440)] {
-        mounts(blocks, CALLS, bench);
-        mounts(blocks, full, bench);
-    }
-    purges("commit, 256 blocks", bench, Call::Commit { noise: FORMAT_NOISE });
-    purges("wipe, 256 blocks", bench, Call::Wipe { file: 0, offset: 0, noise: FORMAT_NOISE });
 }

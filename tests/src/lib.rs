@@ -11,16 +11,20 @@
 //! - [`rng`]: a generator of test inputs that gives the same ones in every run.
 //! - [`guarded`]: buffers that show a write outside the part that was lent.
 //! - [`hex`]: bytes to and from hexadecimal text.
+//! - [`floor`]: the same calls by a plain program in C, which our times are measured against.
+//! - [`settings`]: the images that benchmark and profile work on.
 //! - [`shared_library`], [`databases`] and [`timing`]: what speed is compared with, and the clock.
 
 pub mod databases;
 pub mod edits;
 pub mod ffi;
+pub mod floor;
 pub mod guarded;
 pub mod hex;
 pub mod model;
 pub mod random_lists;
 pub mod rng;
+pub mod settings;
 pub mod shared_library;
 pub mod side_by_side;
 pub mod store_lists;

@@ -112,7 +112,7 @@ impl Call {
     }
 
     /// The payload or noise that goes with it.
-    fn data(self) -> Vec<u8> {
+    pub(crate) fn data(self) -> Vec<u8> {
         match self {
             Call::Format { noise: data }
             | Call::Commit { noise: data }
@@ -123,7 +123,7 @@ impl Call {
     }
 
     /// The output that is lent for a read, before it.
-    fn output(self) -> Vec<u8> {
+    pub(crate) fn output(self) -> Vec<u8> {
         match self {
             Call::Read { output, .. } => (0..output).map(|at| (at * 7 + 3) as u8).collect(),
             _ => Vec::new(),
@@ -131,7 +131,7 @@ impl Call {
     }
 
     /// The scratch that is lent for a mount, before it.
-    fn scratch(self) -> Vec<u32> {
+    pub(crate) fn scratch(self) -> Vec<u32> {
         match self {
             Call::Mount { scratch } => (0..scratch as u32).map(|at| at * 1_000_003 + 9).collect(),
             _ => Vec::new(),
@@ -162,6 +162,18 @@ pub fn five(numbers: Numbers) -> [u32; 5] {
 pub fn numbers(five: [u32; 5]) -> Numbers {
     let [sequence, epoch, keys0, keys1, commit] = five;
     Numbers { sequence, epoch, keys0, keys1, commit }
+}
+
+/// A record in the library's types.
+pub fn to_library(record: model::Record) -> recorder::Record {
+    let model::Record { map, letters, numbers } = record;
+    recorder::Record { map, letters, numbers: five(numbers) }
+}
+
+/// A record of the library in the second implementation's types.
+pub fn from_library(record: recorder::Record) -> model::Record {
+    let recorder::Record { map, letters, numbers: of } = record;
+    model::Record { map, letters, numbers: numbers(of) }
 }
 
 /// Does a call with this data by the second implementation.
@@ -201,9 +213,9 @@ fn by_second(mut store: Store, call: Call, data: &[u8], power: Power) -> After {
 
 /// Does a call with this data by the library: its plain form where the power stays on, else its form
 /// with n and k.
-fn by_library(store: Store, call: Call, data: &[u8], power: Power) -> After {
-    let Store { mut image, record: model::Record { map, letters, numbers: old } } = store;
-    let mut record = recorder::Record { map, letters, numbers: five(old) };
+pub(crate) fn by_library(store: Store, call: Call, data: &[u8], power: Power) -> After {
+    let Store { mut image, record } = store;
+    let mut record = to_library(record);
     let (mut output, mut scratch) = (call.output(), call.scratch());
     let reply = match power {
         Power::STAYS => {
@@ -219,9 +231,7 @@ fn by_library(store: Store, call: Call, data: &[u8], power: Power) -> After {
             }
         }
     };
-    let recorder::Record { map, letters, numbers: new } = record;
-    let record = model::Record { map, letters, numbers: numbers(new) };
-    After { reply, store: Store { image, record }, output, scratch }
+    After { reply, store: Store { image, record: from_library(record) }, output, scratch }
 }
 
 /// A call in its plain form.
@@ -310,11 +320,11 @@ fn in_words(reply: u32) -> String {
 }
 
 /// In words, where two outcomes of a call differ.
-fn difference(ours: &After, second: &After) -> String {
+pub(crate) fn difference(ours: &After, second: &After) -> String {
     let mut text = String::new();
     if ours.reply != second.reply {
         let [ours, second] = [ours.reply, second.reply].map(in_words);
-        text += &format!("reply: library {ours}, second implementation {second}\n");
+        text += &format!("reply: library {ours}, the other {second}\n");
     }
     let (a, b) = (&ours.store.image, &second.store.image);
     if let Some(at) = first_difference("image", a, b, &mut text) {
@@ -339,7 +349,7 @@ fn first_difference<T: PartialEq + fmt::Debug>(
     let at = ours.iter().zip(second).position(|(a, b)| a != b)?;
     let count = ours.iter().zip(second).filter(|(a, b)| a != b).count();
     *text += &format!(
-        "{name}: {count} differ, the first at {at}: library {:?}, second implementation {:?}\n",
+        "{name}: {count} differ, the first at {at}: library {:?}, the other {:?}\n",
         ours[at], second[at]
     );
     Some(at)

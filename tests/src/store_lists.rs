@@ -261,13 +261,16 @@ pub struct Run {
     on: bool,
     /// The replies of all calls.
     pub tally: Tally,
+    /// What each call found, where that is kept.
+    met: Option<Vec<(Store, Call)>>,
 }
 
 impl Run {
     /// An image of so many blocks with random bytes, and no record yet.
     pub fn new(blocks: usize, seed: u64) -> Run {
         let image = Rng::new(seed).bytes(BLOCK * blocks);
-        Run { store: Store { image, record: Record::blank() }, on: true, tally: Tally::default() }
+        let store = Store { image, record: Record::blank() };
+        Run { store, on: true, tally: Tally::default(), met: None }
     }
 
     /// Does an event, or says where library and second implementation differ.
@@ -296,10 +299,12 @@ impl Run {
 
     /// Does a call by both on a copy that is then dropped, and a mount where it is cut.
     fn call_on_copy(&mut self, copy: Store, call: Call, power: Power) -> Result<(), String> {
+        self.keep(&copy, call);
         let mut after = compare(&copy, call, power)?;
         self.tally.count_on(&copy.image, call, after.reply);
         if after.reply == CUT {
             after.store.record = garbage(self.tally.calls() as u64);
+            self.keep(&after.store, Call::MOUNT);
             let mounted = compare(&after.store, Call::MOUNT, Power::STAYS)?;
             self.tally.count_on(&after.store.image, Call::MOUNT, mounted.reply);
         }
@@ -308,6 +313,9 @@ impl Run {
 
     /// Does a call by both. Gives the reply.
     fn call(&mut self, call: Call, power: Power) -> Result<u32, String> {
+        if let Some(met) = &mut self.met {
+            met.push((self.store.clone(), call));
+        }
         let after = compare(&self.store, call, power)?;
         let reply = after.reply;
         self.tally.count_on(&self.store.image, call, reply);
@@ -321,6 +329,13 @@ impl Run {
             _ => {}
         }
         Ok(reply)
+    }
+
+    /// Keeps what a call finds, where that is asked for.
+    fn keep(&mut self, store: &Store, call: Call) {
+        if let Some(met) = &mut self.met {
+            met.push((store.clone(), call));
+        }
     }
 
     /// Nothing of the record is of use until a mount has finished.
@@ -521,6 +536,17 @@ pub fn check_random_list(blocks: usize, seed: u64, longest: usize) -> Tally {
             panic!("{blocks} blocks, seed {seed}, call {at}:\n{why}after\n{}", list.join("\n"));
         }
     }
+}
+
+/// The calls of a random list, each with the image and record that it finds: cut and damaged ones among
+/// them.
+pub fn met_in_random_list(blocks: usize, seed: u64, longest: usize) -> Vec<(Store, Call)> {
+    let mut run = Run::new(blocks, seed);
+    run.met = Some(Vec::new());
+    for event in &random_list(seed, blocks, longest) {
+        run.step(event).unwrap_or_else(|why| panic!("{blocks} blocks, seed {seed}:\n{why}"));
+    }
+    run.met.unwrap_or_default()
 }
 
 /// Runs a list to its end, or to the first call on which library and second implementation differ.

@@ -1,7 +1,8 @@
 //! Times of several ways to do the same work, as ratios within one run.
 //!
 //! In each round every way has its turn, so that whatever else the machine does falls on all of
-//! them alike. A ratio is taken within the round, and the median over the rounds counts.
+//! them alike. A ratio is taken within the round, and the median over the rounds counts; or the best
+//! time of each way counts, where a call is short and finds the same at each time.
 
 use std::time::{Duration, Instant};
 
@@ -29,7 +30,47 @@ pub fn run(mut ways: Vec<Work>, rounds: usize) -> Times {
     Times(times)
 }
 
+/// One way to do the work, and what has to be done before each time and is not timed.
+pub struct Way<'a> {
+    /// Makes ready.
+    pub ready: Work<'a>,
+    /// Does the work once.
+    pub work: Work<'a>,
+}
+
+/// Times the ways over `rounds` rounds, `turns` times each in a round. The first of each turn is not
+/// counted.
+pub fn run_ready(ways: &mut [Way], rounds: usize, turns: usize) -> Times {
+    let mut times = vec![Vec::with_capacity(rounds * turns); ways.len()];
+    for round in 0..rounds {
+        for turn in 0..ways.len() {
+            let at = (round + turn) % ways.len();
+            for time in 0..=turns {
+                (ways[at].ready)();
+                let start = Instant::now();
+                (ways[at].work)();
+                let took = start.elapsed();
+                if time > 0 {
+                    times[at].push(took);
+                }
+            }
+        }
+    }
+    Times(times)
+}
+
 impl Times {
+    /// The best time of a way, in nanoseconds.
+    pub fn best(&self, at: usize) -> f64 {
+        let best = self.0[at].iter().min().expect("every way was timed");
+        best.as_secs_f64() * 1e9
+    }
+
+    /// The best time of way `a` over that of way `b`.
+    pub fn best_ratio(&self, a: usize, b: usize) -> f64 {
+        self.best(a) / self.best(b)
+    }
+
     /// The time of way `a` over that of way `b`.
     pub fn ratio(&self, a: usize, b: usize) -> f64 {
         let ratios = self.0[a].iter().zip(&self.0[b]);
@@ -45,7 +86,7 @@ fn median(mut numbers: Vec<f64>) -> f64 {
 
 #[cfg(test)]
 mod tests {
-    use super::{run, Times, Work};
+    use super::{run, run_ready, Times, Way, Work};
     use std::cell::Cell;
     use std::time::Duration;
 
@@ -65,5 +106,24 @@ mod tests {
         let times = run(vec![way(), way()], 5);
         assert_eq!(calls.get(), 2 * 2 * 5);
         assert!(times.0.iter().all(|rounds| rounds.len() == 5));
+    }
+
+    #[test]
+    fn a_best_ratio_is_that_of_the_shortest_times() {
+        let times = |rounds: [u64; 3]| rounds.map(Duration::from_millis).to_vec();
+        let times = Times(vec![times([10, 90, 30]), times([60, 40, 60])]);
+        assert_eq!(times.best_ratio(0, 1), 0.25);
+    }
+
+    #[test]
+    fn every_time_is_made_ready() {
+        let (ready, work) = (Cell::new(0), Cell::new(0));
+        let way = || Way {
+            ready: Box::new(|| ready.set(ready.get() + 1)),
+            work: Box::new(|| work.set(work.get() + 1)),
+        };
+        let times = run_ready(&mut [way(), way()], 5, 3);
+        assert_eq!((ready.get(), work.get()), (2 * 5 * 4, 2 * 5 * 4));
+        assert!(times.0.iter().all(|times| times.len() == 5 * 3));
     }
 }

@@ -49,11 +49,7 @@ impl Kept {
         let Both(store) = &self.store;
         let record = &store.record;
         assert!(record.letters == self.book.marks, "{at}: letters");
-        let ours = recorder::Record {
-            map: record.map.clone(),
-            letters: record.letters.clone(),
-            numbers: side_by_side::five(record.numbers),
-        };
+        let ours = side_by_side::to_library(record.clone());
         for place in 0..PLACES {
             let content = self.book.places[place].as_ref();
             let key = record.entry(place).map(|entry| usize::from(entry.key));

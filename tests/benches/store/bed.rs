@@ -1,0 +1,121 @@
+//! An image and record on which one call is made again and again, by either side, and always finds the
+//! same.
+
+use johvimaru::raw::{self as recorder, Record, DONE};
+use johvimaru_tests::floor::Floor;
+use johvimaru_tests::model::files::PLACES;
+use johvimaru_tests::model::pages::{PAGE, PAYLOAD};
+use johvimaru_tests::settings::{payload, Setting, FORMAT_NOISE};
+use johvimaru_tests::timing::Way;
+use std::cell::RefCell;
+
+/// A call. Those that take a place take the first of file 0.
+#[derive(Clone, Copy, Debug, PartialEq, Eq)]
+pub enum What {
+    Write,
+    Read,
+    Mount,
+    Commit,
+    Wipe,
+    CutOff,
+}
+
+impl What {
+    pub const ALL: [What; 6] =
+        [What::Write, What::Read, What::Mount, What::Commit, What::Wipe, What::CutOff];
+
+    pub fn name(self) -> &'static str {
+        ["write", "read", "mount", "commit", "wipe", "cut-off"][self as usize]
+    }
+}
+
+/// Who makes a call.
+#[derive(Clone, Copy)]
+pub enum Side {
+    Ours,
+    Floor(Floor),
+}
+
+/// What a call is given and leaves.
+#[derive(Clone, PartialEq, Eq)]
+pub struct Lent {
+    pub image: Vec<u8>,
+    pub record: Record,
+    scratch: Vec<u32>,
+    output: Vec<u8>,
+}
+
+/// The image and record, as they were and as they are, and the pages that the call changes.
+pub struct Bed {
+    what: What,
+    pub before: Lent,
+    pub now: Lent,
+    changed: Vec<usize>,
+    payload: Vec<u8>,
+    noise: Vec<u8>,
+}
+
+impl Bed {
+    /// The image of a setting for a call, which must be taken.
+    pub fn new(setting: &Setting, what: What) -> Bed {
+        let (image, record) = setting.lent();
+        let before = Lent { image, record, scratch: vec![0; PLACES], output: vec![0; PAYLOAD] };
+        let (payload, noise) = (payload(1_000_000).bytes(), FORMAT_NOISE.bytes());
+        let changed = Vec::new();
+        let mut bed = Bed { what, now: before.clone(), before, changed, payload, noise };
+        bed.make(Side::Ours);
+        let pages = bed.now.image.chunks_exact(PAGE).zip(bed.before.image.chunks_exact(PAGE));
+        bed.changed = (0..).zip(pages).filter(|(_, (a, b))| a != b).map(|(g, _)| g).collect();
+        bed.restore();
+        bed
+    }
+
+    /// Makes the call.
+    pub fn make(&mut self, side: Side) {
+        let Lent { image, record, scratch, output } = &mut self.now;
+        let reply = match (self.what, side) {
+            (What::Write, Side::Ours) => recorder::write(image, record, 0, 0, &self.payload),
+            (What::Write, Side::Floor(floor)) => floor.write(image, record, 0, 0, &self.payload),
+            (What::Read, Side::Ours) => recorder::read(image, record, 0, 0, output),
+            (What::Read, Side::Floor(floor)) => floor.read(image, record, 0, 0, output),
+            (What::Mount, Side::Ours) => recorder::mount(image, record, scratch),
+            (What::Mount, Side::Floor(floor)) => floor.mount(image, record, scratch),
+            (What::Commit, Side::Ours) => recorder::commit(image, record, &self.noise),
+            (What::Commit, Side::Floor(floor)) => floor.commit(image, record, &self.noise),
+            (What::Wipe, Side::Ours) => recorder::wipe(image, record, &self.noise, 0, 0),
+            (What::Wipe, Side::Floor(floor)) => floor.wipe(image, record, &self.noise, 0, 0),
+            (What::CutOff, Side::Ours) => recorder::cut_off(image, record, 0, 0),
+            (What::CutOff, Side::Floor(floor)) => floor.cut_off(image, record, 0, 0),
+        };
+        assert_eq!(reply, DONE);
+    }
+
+    /// Takes the call back.
+    pub fn restore(&mut self) {
+        let Record { map, letters, numbers } = &self.before.record;
+        self.now.record.map.copy_from_slice(map);
+        self.now.record.letters.copy_from_slice(letters);
+        self.now.record.numbers = *numbers;
+        for &page in &self.changed {
+            let bytes = PAGE * page..PAGE * (page + 1);
+            self.now.image[bytes.clone()].copy_from_slice(&self.before.image[bytes]);
+        }
+    }
+
+    /// The call by a side, as a way to time.
+    pub fn way(bed: &RefCell<Bed>, side: Side) -> Way<'_> {
+        Way {
+            ready: Box::new(|| bed.borrow_mut().restore()),
+            work: Box::new(move || bed.borrow_mut().make(side)),
+        }
+    }
+
+    /// What the call leaves, by a side.
+    pub fn left(&mut self, side: Side) -> Lent {
+        self.restore();
+        self.make(side);
+        let left = self.now.clone();
+        self.restore();
+        left
+    }
+}

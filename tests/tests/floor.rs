@@ -1,0 +1,72 @@
+//! The floor in C beside the library: headers, entries and letters with any one byte changed.
+
+use johvimaru_tests::floor::Floor;
+use johvimaru_tests::model::image::{BLOCK, PAGES_IN_BLOCK};
+use johvimaru_tests::model::list::Data;
+use johvimaru_tests::model::pages::{ENTRY, HEADER, PAGE, PAYLOAD};
+use johvimaru_tests::model::store::Store;
+use johvimaru_tests::side_by_side::{Both, Call, Tally};
+
+const READ: Call = Call::Read { file: 0, offset: 0, output: PAYLOAD };
+
+fn write(file: u32, offset: u32) -> Call {
+    Call::Write { file, offset, payload: Data::payload(1) }
+}
+
+/// A store with nodes and a cut-off, before a commit and after it.
+fn store() -> Store {
+    let mut both = Both::formatted(9);
+    for place in 0..12 {
+        both.done(&[write(place, place % 8), write(13, 7)]);
+    }
+    both.done(&[Call::Commit { noise: Data::noise(7) }]);
+    both.done(&[write(0, 0), write(2, 23), Call::CutOff { file: 1, offset: 1 }, write(3, 3)]);
+    both.0
+}
+
+/// The first page with such a header.
+fn page_of(store: &Store, kind: u8, from: usize) -> usize {
+    let pages = store.image.len() / PAGE;
+    (from..pages).find(|page| store.image[PAGE * page] == kind).expect("there is such a page")
+}
+
+/// Where a byte counts: in headers and closings of all kinds, in letters and in entries.
+fn places(store: &Store) -> Vec<usize> {
+    let commit = store.record.numbers.commit as usize * PAGES_IN_BLOCK;
+    let keys = store.record.numbers.keys1 as usize * PAGES_IN_BLOCK;
+    let node = page_of(store, b'N', usize::from(store.record.map[0]));
+    let old = page_of(store, b'N', 0);
+    let cut_off = page_of(store, b'D', 0);
+    let mut places = Vec::new();
+    for page in [keys, keys + 10, commit, commit + 9, node, old, cut_off] {
+        places.extend((0..HEADER).chain(PAGE - 2..PAGE).map(|at| PAGE * page + at));
+    }
+    places.extend((0..3 * ENTRY).map(|at| PAGE * (commit + 2) + HEADER + at));
+    places.extend([0, 1, 223].map(|at| PAGE * commit + HEADER + at));
+    places.extend([0, 255].map(|at| PAGE * (commit + 12) + at));
+    places
+}
+
+#[test]
+fn any_byte_changed() {
+    let Some(floor) = Floor::open() else {
+        println!("the floor has no cipher: to have it, install the Debian package libnettle8");
+        return;
+    };
+    let store = store();
+    let mut tally = Tally::default();
+    for at in places(&store) {
+        let mut changed = store.clone();
+        for byte in 0..=255 {
+            changed.image[at] = byte;
+            for call in [Call::MOUNT, READ] {
+                match floor.compare(&changed, call) {
+                    Ok(reply) => tally.count(call.name(), reply),
+                    Err(why) => panic!("byte {} of block {}: {why}", at % BLOCK, at / BLOCK),
+                }
+            }
+        }
+    }
+    tally.require("mount", &[0, 12, 13, 14]);
+    tally.require("read", &[0, 7]);
+}

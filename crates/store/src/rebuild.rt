@@ -151,7 +151,9 @@ pub fn rebuild_record(
     requires { ⌜ (sizeRight (now image) ≡ true) × ((e : ℕ) × (kindOf (now image) c ≡ Kind.Commit e covered)) ⌝ }
     requires { ⌜ (length (now map) ≡ mapSize) × (length (now letters)
         ≡ positions) × (length (now scratch) ≡ places) × (now events ≡ replicate mostBlocks 0) ⌝ }
-    ensures { λ r. ⌜ (r ≡ rebuiltOf (old image) c) × (mountFits (old image) c ≡ true → Rebuilding (old image) c (new map) (new letters) (new scratch) (new events)) × (mountFits (old image) c ≡ false → Cleared (new map) (new letters) (new scratch)) ⌝ }
+    ensures { λ r. ⌜ (r ≡ rebuiltOf (old image) c)
+        × (mountFits (old image) c ≡ true → Rebuilding (old image) c (new map) (new letters) (new scratch) (new events))
+        × (mountFits (old image) c ≡ false → Cleared (new map) (new letters) (new scratch)) ⌝ }
 {
     match replay_fit(image, c, covered, map, letters, scratch, events) {
         Rebuilt::Fits(highest) => Rebuilt::Fits(highest),

@@ -59,7 +59,10 @@ fn shorten(
 ) -> Progress
     requires { ⌜ Ready (now image) (recordOf (now map) (now letters) numbers)
         × Planned file offset × (numbers .epoch ≤ lastNumber) × (1 ≤ emptyBlocks (now image)) ⌝ }
-    ensures { λ r. ⌜ (atWork r (new image) ≡ after (powerFor n k) (old image) (removedFirst (old image) (recordOf (old map) (old letters) numbers) file offset)) × (recordOf (new map) (new letters) (r .numbers) ≡ removedFirst (old image) (recordOf (old map) (old letters) numbers) file offset .after) ⌝ }
+    ensures { λ r. ⌜ (atWork r (new image)
+        ≡ after (powerFor n k) (old image) (removedFirst (old image) (recordOf (old map) (old letters) numbers) file offset))
+        × (recordOf (new map) (new letters) (r .numbers)
+        ≡ removedFirst (old image) (recordOf (old map) (old letters) numbers) file offset .after) ⌝ }
 {
     record::remove(map, letters, file, offset);
     let begun = stages::begin(numbers, n, k);

@@ -10,6 +10,7 @@
 --   Pages         the bytes of a page: length, what reads back, what a cut program leaves
 --   FormLaws      page forms: the form of a page that was programmed whole or in part
 --   WordLaws      several bytes as one number: compared, taken from a list, written into one
+--   Spellings     four columns as the word that code makes of them
 --   HeaderTests   headers and pages held against fields that they must have, byte for byte
 pub mod Slices
 pub mod Column
@@ -22,4 +23,5 @@ pub mod Commits
 pub mod Pages
 pub mod FormLaws
 pub mod WordLaws
+pub mod Spellings
 pub mod HeaderTests

@@ -2,8 +2,8 @@
 use crate::Form;
 use crate::Frame;
 use crate::Header;
-use crate::bytes;
 use crate::headers;
+use crate::words;
 ghost use mathlib.Core.Path.{_≡_};
 ghost use mathlib.Core.Bool.{true};
 ghost use lib.ListN.{length};
@@ -43,7 +43,7 @@ fn is_closed(page: &[u8]) -> bool
     requires { ⌜ length (now page) ≡ pageSize ⌝ }
     ensures { λ r. ⌜ r ≡ closed (old page) ⌝ }
 {
-    bytes::same(&page[Frame::CLOSING_AT..Frame::PAGE], b"\r\n")
+    words::same2(page, Frame::CLOSING_AT, b"\r\n", 0)
 }
 
 // The form of a page.

@@ -15,7 +15,7 @@ use Rattle.base.proofs.Parts.{part-part, part-length}
 use Rattle.base.proofs.Eachs.{same-true, same-refl}
 use Rattle.page.specs.Frame.{headerSize, colonSpace}
 use Rattle.page.specs.Column.{spell, digit, valueAfter, numberIn, numberThen}
-use Rattle.page.specs.Header.{nodeLetter, lastNumber, nodeFrame, inRange, headerBytes, headerOf, sameFrame, headerWith, nodeWith}
+use Rattle.page.specs.Header.{nodeLetter, lastNumber, nodeFrame, inRange, headerBytes, headerOf, sameFrame, headerWith, nodeWith, withPart, headerLike}
 use Rattle.page.specs.Form.{isEmpty, closed, formOf, wholeWith, wholeNode}
 use Rattle.page.specs.declared.Number.{Number}
 use Rattle.page.specs.declared.Number.the-variants.{Is as IsNumber, Misspelt}
@@ -65,12 +65,9 @@ pub with-whole : (h : Frame) (m : Form) → m ≡ Whole h → wholeWith h m ≡ 
 with-whole h m e = rw e (frame-same h h refl)
 
 -- ---- a field put into a header's bytes
--- a header with another unit, part or key
+-- a header with another unit or key
 abbrev withUnit : ℕ → Frame → Frame
 withUnit n f = record { kind = f .kind; number = f .number; unit = n; part = f .part; key = f .key; second = f .second }
-
-abbrev withPart : ℕ → Frame → Frame
-withPart n f = record { kind = f .kind; number = f .number; unit = f .unit; part = n; key = f .key; second = f .second }
 
 abbrev withKey : ℕ → Frame → Frame
 withKey n f = record { kind = f .kind; number = f .number; unit = f .unit; part = f .part; key = n; second = f .second }
@@ -92,7 +89,7 @@ module _ (f : Frame) (n : ℕ) where
   unfolding headerBytes
   put-unit = splice-middle (f .kind ∷ spell 8 (f .number)) (spell 3 (f .unit)) _ (spell 3 n) 9 before-unit (widths 3 (f .unit) n (omega arith))
 
-  put-part : splice (headerBytes f) 12 (spell 4 n) ≡ headerBytes (withPart n f)
+  pub put-part : splice (headerBytes f) 12 (spell 4 n) ≡ headerBytes (withPart n f)
   unfolding headerBytes
   put-part =
       let tail = spell 4 (f .key) ++ (spell 8 (f .second) ++ colonSpace) in

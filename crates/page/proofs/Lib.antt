@@ -12,6 +12,7 @@
 --   WordLaws      several bytes as one number: compared, taken from a list, written into one
 --   Spellings     four columns as the word that code makes of them
 --   HeaderTests   headers and pages held against fields that they must have, byte for byte
+--   HeaderParts   headers compared in parts of eight, four and two bytes
 pub mod Slices
 pub mod Column
 pub mod ColumnReading
@@ -25,3 +26,4 @@ pub mod FormLaws
 pub mod WordLaws
 pub mod Spellings
 pub mod HeaderTests
+pub mod HeaderParts

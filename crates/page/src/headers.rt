@@ -6,14 +6,18 @@ use crate::bytes;
 use crate::columns;
 use crate::keys;
 use crate::plan;
+use crate::words;
 ghost use mathlib.Core.Path.{_≡_};
 ghost use mathlib.Core.Bool.{true, _||_};
+ghost use Prim.Native.Nat.{_<_};
 ghost use lib.ListN.{length};
 ghost use Rattle.base.specs.Lent.{old, new};
-ghost use Rattle.base.specs.Part.{part};
+ghost use Rattle.base.specs.Part.{part, splice};
 ghost use Rattle.base.specs.Each.{same};
 ghost use Rattle.page.specs.Frame.{headerSize, colonSpace};
-ghost use Rattle.page.specs.Header.{lastNumber, isKind, within, inPlan, nodeRanges, cutOffRanges, keysRanges, commitRanges, inRange, nodeFrame, headerBytes, headerOf, headerWith, nodeWith};
+ghost use Rattle.page.specs.Header.{lastNumber, isKind, within, inPlan, nodeRanges, cutOffRanges, keysRanges, commitRanges, inRange, nodeFrame, headerBytes, headerOf, headerWith, nodeWith, partAt, partWidth, withPart, headerLike};
+ghost use Rattle.page.specs.Column.{spell};
+ghost use Rattle.page.specs.declared.Frame.{Frame as HeaderFrame};
 
 // Where each number's columns start and how many there are; the kind letter is before them, colon and space after them.
 const NUMBER_AT: usize = 1;
@@ -224,4 +228,26 @@ pub fn is_node_of(src: &[u8], file: u32, offset: u32, position: u32) -> bool
             &expected[UNIT_AT..Frame::HEADER],
         )
         & columns::is_from_one(&src[NUMBER_AT..UNIT_AT])
+}
+
+// Whether 30 bytes are the header that first are, but for the part: all others are compared with theirs.
+pub fn is_header_like(first: &[u8], src: &[u8], part: u32) -> bool
+    requires { ⌜ (length (now first) ≡ headerSize) × (length (now src) ≡ headerSize) × (part < 10_000) ⌝ }
+    requires { ⌜ ((f : HeaderFrame) × (headerOf (now first) ≡ Header.Is f) × (inRange (withPart part f) ≡ true)) ⌝ }
+    ensures { λ r. ⌜ r ≡ headerLike (headerOf (old first)) part (headerOf (old src)) ⌝ }
+{
+    words::same8(src, 0, first, 0)
+        & words::same4(src, 8, first, 8)
+        & words::is_word4(src, PART_AT, columns::spelt4(part))
+        & words::same8(src, KEY_AT, first, KEY_AT)
+        & words::same4(src, 24, first, 24)
+        & words::same2(src, END_AT, first, END_AT)
+}
+
+// Puts a part into the 30 bytes of a header.
+pub fn put_part(dst: &mut [u8], part: u32)
+    requires { ⌜ (length (now dst) ≡ headerSize) × (part < 10_000) ⌝ }
+    ensures { λ _. ⌜ new dst ≡ splice (old dst) partAt (spell partWidth part) ⌝ }
+{
+    words::put_word4(dst, PART_AT, columns::spelt4(part));
 }

@@ -77,7 +77,7 @@ digit-lt b = go (ltb b zeroDigit) (ltb (zeroDigit + 9) b) refl
     go false false e = omega (arith, ltb-false)
 
 -- a digit's byte has the digit's value
-digit-of-digit : (d : ℕ) → d < 10 → digit (zeroDigit + d) ≡ d
+pub digit-of-digit : (d : ℕ) → d < 10 → digit (zeroDigit + d) ≡ d
 digit-of-digit d h = rw (le-ltb (zeroDigit + d) zeroDigit (omega arith), le-ltb (zeroDigit + 9) (zeroDigit + d) (omega arith)) (omega arith)
 
 pub value-column : (m : ℕ) → m / 10 * 10 + digit (column m) ≡ m

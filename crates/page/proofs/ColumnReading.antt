@@ -19,7 +19,7 @@ use Rattle.page.proofs.Column.{drop-columns, last-column, last-differs,
 
 -- ---- one byte
 -- a digit is the byte of its value
-digit-byte : (b : ℕ) → isDigit b ≡ true → zeroDigit + digit b ≡ b
+pub digit-byte : (b : ℕ) → isDigit b ≡ true → zeroDigit + digit b ≡ b
 digit-byte b h =
     let t = and-true (leb zeroDigit b) (leb b (zeroDigit + 9)) h in
     let low : zeroDigit ≤ b = leb-true zeroDigit b (t .0) in
@@ -35,13 +35,13 @@ digit-none b h = go (leb zeroDigit b) (leb b (zeroDigit + 9)) refl refl h
     go false t p q h = rw (lt-ltb b zeroDigit (leb-false zeroDigit b p))
 
 -- the bytes of the digits are digits
-digit-is : (d : ℕ) → d < 10 → isDigit (zeroDigit + d) ≡ true
+pub digit-is : (d : ℕ) → d < 10 → isDigit (zeroDigit + d) ≡ true
 digit-is d h =
     and-intro (leb zeroDigit (zeroDigit + d)) (leb (zeroDigit + d) (zeroDigit + 9)) (le-leb zeroDigit (zeroDigit + d) (omega arith))
     (le-leb (zeroDigit + d) (zeroDigit + 9) (omega arith))
 
 -- where something is left, a column is a digit
-column-some : (m : ℕ) → (m ≡ 0 → ⊥) → column m ≡ zeroDigit + m % 10
+pub column-some : (m : ℕ) → (m ≡ 0 → ⊥) → column m ≡ zeroDigit + m % 10
 column-some m h = rw (ne-eqb m 0 h)
 
 -- a digit that is no leading zero is the column of m and itself
@@ -61,7 +61,7 @@ column-other m b t k e = go (eqb (m * 10 + digit b) 0) refl e
 
 -- ---- values
 -- a value after i digits is below 10 ^ i
-value-lt : (xs : List ℕ) (n i : ℕ) → n < 10 ^ i → valueAfter n xs < 10 ^ (i + length xs)
+pub value-lt : (xs : List ℕ) (n i : ℕ) → n < 10 ^ i → valueAfter n xs < 10 ^ (i + length xs)
 unfolding valueAfter
 value-lt [] n i h = subst (λ (k : ℕ). n < 10 ^ k) (omega arith) h
 value-lt (b ∷ bs) n i h =

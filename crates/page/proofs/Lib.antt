@@ -2,6 +2,7 @@
 --   Slices        parts of lists that are joined, and parts that are lent
 --   Column        decimal columns: what is written is what is read, and a number has one spelling
 --   ColumnReading columns read from the left: which byte may come next, and when they are a spelling
+--   Counted       columns that hold a number from 1 on: spaces, a digit that is not 0, digits
 --   Plans         the file plan: a node has one place, and a place one node
 --   Ranges        the ranges of a header's fields for each kind, and that there are four kinds
 --   HeaderLaws    headers: what is written is what is read, and a header has one spelling
@@ -11,11 +12,14 @@
 --   FormLaws      page forms: the form of a page that was programmed whole or in part
 --   WordLaws      several bytes as one number: compared, taken from a list, written into one
 --   Spellings     four columns as the word that code makes of them
+--   Lanes         numbers made of lanes: operations that work on each lane apart
+--   CountedWords  eight columns as one word: whether they hold a number from 1 on
 --   HeaderTests   headers and pages held against fields that they must have, byte for byte
 --   HeaderParts   headers compared in parts of eight, four and two bytes
 pub mod Slices
 pub mod Column
 pub mod ColumnReading
+pub mod Counted
 pub mod Plans
 pub mod Ranges
 pub mod HeaderLaws
@@ -25,5 +29,7 @@ pub mod Pages
 pub mod FormLaws
 pub mod WordLaws
 pub mod Spellings
+pub mod Lanes
+pub mod CountedWords
 pub mod HeaderTests
 pub mod HeaderParts

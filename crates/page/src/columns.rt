@@ -17,6 +17,18 @@ const ZERO: u8 = 0x30;
 
 const NINE: u8 = 0x39;
 
+// The same byte in each byte of a word: the digit 0, the bit in which a space differs from it, the lower and the upper half of a
+// byte, and what carries 10 to 15 from the lower half into the upper.
+const ZEROS: u64 = 0x3030303030303030;
+
+const SPACE_BITS: u64 = 0x1010101010101010;
+
+const LOW_HALVES: u64 = 0x0f0f0f0f0f0f0f0f;
+
+const HIGH_HALVES: u64 = 0xf0f0f0f0f0f0f0f0;
+
+const SIXES: u64 = 0x0606060606060606;
+
 // The digit of a number below 10.
 fn digit_byte(n: u32) -> u8
     requires { ⌜ n < 10 ⌝ }
@@ -155,4 +167,18 @@ pub fn is_from_one(src: &[u8]) -> bool
         Number::Is(n) => 1 <= n,
         Number::Misspelt => false,
     }
+}
+
+// Whether the eight columns of a word hold a number from 1 on: below the lowest digit that is not 0 spaces, above it digits.
+pub fn is_counted(v: u64) -> bool
+    ensures { λ r. ⌜ r ≡ numberThen (numberIn (wordBytes 8 v)) false (leb 1) ⌝ }
+{
+    let changed = v ^ ZEROS;
+    let spaces = changed & SPACE_BITS;
+    let digits = changed ^ spaces;
+    if digits == 0 {
+        return false;
+    }
+    let over = digits | ((digits & LOW_HALVES) + SIXES);
+    (over & HIGH_HALVES == 0) & (spaces == (digits ^ (digits - 1)) & SPACE_BITS)
 }

@@ -12,6 +12,8 @@ ghost use Rattle.base.specs.Lent.{old};
 ghost use Rattle.page.specs.Frame.{pageSize};
 ghost use Rattle.page.specs.declared.Frame.{Frame as HeaderFrame};
 ghost use Rattle.page.specs.Header.{nodeFrame, inRange, withPart};
+ghost use Rattle.page.specs.Column.{spell};
+ghost use Rattle.page.specs.Word.{wordBytes};
 ghost use Rattle.page.specs.Form.{isEmpty, closed, formOf, wholeWith, wholeNode, wholeLike};
 
 // Whether all bytes are FFh. The loop has no other way out, so that it goes over many bytes at once.
@@ -79,12 +81,12 @@ pub fn is_whole_with(page: &[u8], f: Frame) -> bool
     headers::is_header_of(&page[0..Frame::HEADER], f) & is_closed(page)
 }
 
-// Whether a page is a whole node with these fields, of any sequence.
-pub fn is_whole_node(page: &[u8], file: u32, offset: u32, position: u32) -> bool
-    requires { ⌜ (length (now page) ≡ pageSize) × (inRange (nodeFrame 1 file offset position) ≡ true) ⌝ }
+// Whether a page is a whole node with these fields, of any sequence. The file's columns are given as they are spelt.
+pub fn is_whole_node(page: &[u8], file: u32, text: u32, offset: u32, position: u32) -> bool
+    requires { ⌜ (length (now page) ≡ pageSize) × (inRange (nodeFrame 1 file offset position) ≡ true) × (wordBytes 4 text ≡ spell 4 file) ⌝ }
     ensures { λ r. ⌜ r ≡ wholeNode file offset position (formOf (old page)) ⌝ }
 {
-    headers::is_node_of(&page[0..Frame::HEADER], file, offset, position) & is_closed(page)
+    headers::is_node_of(&page[0..Frame::HEADER], file, text, offset, position) & is_closed(page)
 }
 
 // Whether a page is whole, with the header of the first page, which is whole, but for the part.

@@ -16,7 +16,8 @@ use Rattle.page.specs.Plan.{places}
 use Rattle.page.specs.Key.{positions}
 use Rattle.page.specs.Entry.{usedLetter}
 use Rattle.store.specs.Record.{keyOf, namedTimes, keysApart}
-use Rattle.store.proofs.Names.{Tallied, tallied-none, tallied-next, tallied-twice, tallied-all, tallied-apart}
+use Rattle.store.specs.Testing.{Tallied}
+use Rattle.store.proofs.Names.{tallied-none, tallied-next, tallied-twice, tallied-all, tallied-apart}
 
 -- ---- letters as a table: 1 at u, else 0
 abbrev mark : ℕ → ℕ

@@ -8,7 +8,7 @@ ghost use lib.ListN.{length};
 ghost use Rattle.base.specs.Lent.{old};
 ghost use Rattle.page.specs.Frame.{pageSize, payloadSize};
 ghost use Rattle.page.specs.Page.{payloadOf};
-ghost use Rattle.image.specs.Size.{blockSize, blocks, pages as pagesIn, sizeRight};
+ghost use Rattle.image.specs.Size.{blockSize, blocks as blocksIn, pages as pagesIn, sizeRight};
 ghost use Rattle.image.specs.Look.{pageAt, letterAt, formAt, pageEmpty, blockEmpty, lowestEmpty, emptyBlocks};
 
 // A block has 4,096 bytes, 16 pages.
@@ -68,6 +68,13 @@ pub fn pages(image: &[u8]) -> usize
     image.len() / Frame::PAGE
 }
 
+// How many blocks the image has.
+pub fn blocks(image: &[u8]) -> usize
+    ensures { λ r. ⌜ r ≡ blocksIn (old image) ⌝ }
+{
+    image.len() / BLOCK_SIZE
+}
+
 // The payload of page g.
 pub fn payload_at<'a>(image: &'a [u8], g: usize) -> &'a [u8]
     requires { ⌜ g * pageSize + pageSize ≤ length (now image) ⌝ }
@@ -104,7 +111,7 @@ pub fn block_empty(image: &[u8], b: usize) -> bool
 
 // The lowest empty block, or the number of blocks where there is none.
 pub fn lowest_empty(image: &[u8]) -> usize
-    ensures { λ r. ⌜ (r ≡ lowestEmpty (old image)) × (r ≤ blocks (old image)) ⌝ }
+    ensures { λ r. ⌜ (r ≡ lowestEmpty (old image)) × (r ≤ blocksIn (old image)) ⌝ }
 {
     let n = image.len() / BLOCK_SIZE;
     let mut b = 0;
@@ -119,7 +126,7 @@ pub fn lowest_empty(image: &[u8]) -> usize
 
 // How many blocks are empty.
 pub fn empty_blocks(image: &[u8]) -> usize
-    ensures { λ r. ⌜ (r ≡ emptyBlocks (old image)) × (r ≤ blocks (old image)) ⌝ }
+    ensures { λ r. ⌜ (r ≡ emptyBlocks (old image)) × (r ≤ blocksIn (old image)) ⌝ }
 {
     let n = image.len() / BLOCK_SIZE;
     let mut b = 0;

@@ -9,6 +9,7 @@
 --   Commits       a commit's payloads: an entry has one spelling, letters and entries read back
 --   Pages         the bytes of a page: length, what reads back, what a cut program leaves
 --   FormLaws      page forms: the form of a page that was programmed whole or in part
+--   WordLaws      several bytes as one number: compared, taken from a list, written into one
 --   HeaderTests   headers and pages held against fields that they must have, byte for byte
 pub mod Slices
 pub mod Column
@@ -20,4 +21,5 @@ pub mod Positions
 pub mod Commits
 pub mod Pages
 pub mod FormLaws
+pub mod WordLaws
 pub mod HeaderTests

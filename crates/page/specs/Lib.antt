@@ -6,6 +6,7 @@
 --   Form     empty, whole, torn, spoilt
 --   Key      where a key position stands
 --   Entry    a commit's letters and entries, and the payload of each of its parts
+--   Word     bytes taken together as one number, for code that looks at several at once
 --   Page     the 256 bytes of a node, a cut-off, a key page and a commit page, and a page cut at byte k
 -- Letters used throughout: p a key position, x a place, i a part or a page of a block, k a number of bytes.
 pub mod Frame
@@ -15,4 +16,5 @@ pub mod Header
 pub mod Form
 pub mod Key
 pub mod Entry
+pub mod Word
 pub mod Page

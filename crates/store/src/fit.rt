@@ -2,6 +2,7 @@
 use crate::Numbers;
 use crate::kinds;
 use image::look;
+use page::columns;
 use page::entries;
 use page::forms;
 use page::keys;
@@ -15,6 +16,8 @@ ghost use lib.ListN.{length, getD, set, replicate};
 ghost use lib.Dec.{eqb, leb, ltb};
 ghost use Rattle.base.specs.Lent.{old, new};
 ghost use Rattle.base.specs.Search.{allFrom};
+ghost use Rattle.page.specs.Column.{spell};
+ghost use Rattle.page.specs.Word.{wordBytes};
 ghost use Rattle.page.specs.Plan.{filePlan, lastFile, places, countOf, startOf};
 ghost use Rattle.page.specs.Header.{lastNumber, within};
 ghost use Rattle.page.specs.Key.{positions};
@@ -75,9 +78,10 @@ fn blocks_fit(image: &[u8], numbers: Numbers) -> bool
     is_commit(image, numbers.commit)
 }
 
-// Whether a page is one of the image and a whole N page of this file, offset and key.
-fn node_fits(image: &[u8], file: u32, offset: u32, page: u16, key: u16) -> bool
-    requires { ⌜ (length (now image) % blockSize ≡ 0) × (file ≤ lastFile) × (offset < countOf filePlan file) ⌝ }
+// Whether a page is one of the image and a whole N page of this file, offset and key. The file's columns are given as they are spelt.
+fn node_fits(image: &[u8], file: u32, text: u32, offset: u32, page: u16, key: u16) -> bool
+    requires { ⌜ (length (now image) % blockSize ≡ 0) × (file ≤ lastFile) × (offset < countOf filePlan file)
+        × (wordBytes 4 text ≡ spell 4 file) ⌝ }
     ensures { λ r. ⌜ r ≡ nodeAt (startOf filePlan file + offset) key (formAt (old image) page) ⌝ }
 {
     if look::pages(image) <= page as usize {
@@ -89,6 +93,7 @@ fn node_fits(image: &[u8], file: u32, offset: u32, page: u16, key: u16) -> bool
     forms::is_whole_node(
         look::page_at(image, page as usize),
         file,
+        text,
         offset,
         key as u32,
     )
@@ -105,7 +110,8 @@ pub fn place_fits(image: &[u8], map: &[u16], x: usize) -> bool
         return true;
     }
     let file = plan::file_at(x);
-    node_fits(image, file, x as u32 - plan::start(file), page, key)
+    let text = columns::spelt4(file);
+    node_fits(image, file, text, x as u32 - plan::start(file), page, key)
 }
 
 // Whether the run of places from x on is vacant. The loop has no other way out, so that it goes over many places at once.
@@ -166,11 +172,13 @@ fn pass_place(
     map: &[u16],
     named: &mut [u8],
     file: u32,
+    text: u32,
     first: usize,
     x: usize,
 ) -> bool
     requires { ⌜ (length (now image) % blockSize ≡ 0) × (length (now map) ≡ mapSize)
-        × InFile file first x (x + 1) × Tested (now image) (now map) (now named) x ⌝ }
+        × InFile file first x (x + 1) × Tested (now image) (now map) (now named) x
+        × (wordBytes 4 text ≡ spell 4 file) ⌝ }
     ensures { λ r. ⌜ Testing (old image) (old map) (new named) (x + 1) r ⌝ }
 {
     let page = map[x];
@@ -178,7 +186,7 @@ fn pass_place(
     if (page == entries::NONE) & (key == entries::NONE) {
         return true;
     }
-    if !node_fits(image, file, (x - first) as u32, page, key) {
+    if !node_fits(image, file, text, (x - first) as u32, page, key) {
         return false;
     }
     name(named, key)
@@ -198,9 +206,10 @@ fn run_fits(
         × InFile file first from end × Tested (now image) (now map) (now named) from ⌝ }
     ensures { λ r. ⌜ Testing (old image) (old map) (new named) end r ⌝ }
 {
+    let text = columns::spelt4(file);
     let mut x: usize = from;
     while x < end {
-        if !pass_place(image, map, named, file, first, x) {
+        if !pass_place(image, map, named, file, text, first, x) {
             return false;
         }
         x += 1;

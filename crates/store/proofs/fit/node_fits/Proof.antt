@@ -46,6 +46,7 @@ is-whole-node-requires c κs =
         position = omega arith;
         second = refl;
       }),
+      s .pre .3,
     )
 
 returns-3 : tie.Need-returns-3

@@ -34,6 +34,9 @@ returns c =
 file-at-requires : tie.Need-file-at-requires
 file-at-requires c κs = search needs
 
+spelt4-requires : tie.Need-spelt4-requires
+spelt4-requires c κs = omega (arith, c .file-at .ensures .0)
+
 cast-node-fits : tie.Need-cast-node-fits
 cast-node-fits c = search needs
 
@@ -48,11 +51,11 @@ node-fits-requires c κs = search needs
 
 returns-2 : tie.Need-returns-2
 returns-2 c =
-    let a = c .before .before .before .before .before .before .before .before .args in
-    let file = c .before .before .file-at in
+    let a = c .before .before .before .before .before .before .before .before .before .args in
+    let file = c .before .before .before .file-at in
     let start = c .before .start in
     let place : startOf filePlan (file .result) + (a .x - start .result) ≡ a .x = omega (arith, file .ensures .1, start .ensures) in
-    sym (node-read (a .map .now) (a .x) (omega arith) (omega arith) (a .image .now) _ (c .node-fits .result) (c .before .before .before .if1 .left) place (c .node-fits .ensures))
+    sym (node-read (a .map .now) (a .x) (omega arith) (omega arith) (a .image .now) _ (c .node-fits .result) (c .before .before .before .before .if1 .left) place (c .node-fits .ensures))
 
 pub place-fits-spec : {M : Type 1} → statement M
 place-fits-spec =
@@ -65,6 +68,7 @@ place-fits-spec =
     shared-slice-read-key
     returns
     file-at-requires
+    spelt4-requires
     cast-node-fits
     start-requires
     sub-node-fits

@@ -11,21 +11,24 @@ use Rattle.store.proofs.fit.run_fits.Statement.{statement}
 use Rattle.store.proofs.fit.run_fits.Tie as tie
 
 abbrev Inv-loop : tie.InvT-loop
-Inv-loop image map named₀ file first from end x₀ named x =
+Inv-loop image map named₀ file first from end text x₀ named x =
     (from ≤ x) × (x ≤ end) × (length named ≡ length named₀) × Tested image map named x
 
 abbrev μ-loop : tie.MeasureT-loop
-μ-loop image map named₀ file first from end x₀ named x = end - x
+μ-loop image map named₀ file first from end text x₀ named x = end - x
+
+spelt4-requires : tie.Need-spelt4-requires Inv-loop μ-loop
+spelt4-requires c κs = let i = c .before .before .before .pre .2 in omega (arith, i .known)
 
 loop-holds : tie.Need-loop-holds Inv-loop μ-loop
 loop-holds c = search needs
 
 pass-place-requires : tie.Need-pass-place-requires Inv-loop μ-loop
 pass-place-requires c κs =
-    let s = c .before .before .before .before .before .before in
+    let s = c .before .before .before .before .before .before .before in
     let l = c .before .before .loop in
     let i = s .pre .2 in
-    (s .pre .0, s .pre .1, record { known = i .known; start = i .start; after = omega arith; row = omega arith; before = omega arith }, l .inv .3)
+    (s .pre .0, s .pre .1, record { known = i .known; start = i .start; after = omega arith; row = omega arith; before = omega arith }, l .inv .3, c .before .before .before .spelt4 .ensures)
 
 same-length : tie.Need-same-length Inv-loop μ-loop
 same-length c = search needs
@@ -53,7 +56,7 @@ same-length-2 c = search needs
 returns-2 : tie.Need-returns-2 Inv-loop μ-loop
 returns-2 c =
     let l = c .before .loop in
-    let s = c .before .before .before .before .before in
+    let s = c .before .before .before .before .before .before in
     let e : l .x ≡ s .args .end = omega arith in
     record { right = λ _. rw e at (l .inv .3); wrong = λ f. absurd (true-false refl f) }
 
@@ -63,6 +66,7 @@ run-fits-spec =
     (tie.spec
     Inv-loop
     μ-loop
+    spelt4-requires
     loop-holds
     pass-place-requires
     same-length

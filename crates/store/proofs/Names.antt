@@ -1,22 +1,23 @@
 -- A table of the positions that the places of a map name, filled place by place: what it says so far, and of the whole map.
-use Prim.Native.Nat.{ℕ, _+_, _<_, _≤_}
+use Prim.Native.Nat.{ℕ, zero, suc, _+_, _<_, _≤_}
 use native.Mathlib.Omega.{arith}
 use native.Mathlib.Decide.{ℕ-discrete, decLt}
 use native.Mathlib.Nat.{zero-add, add-zero}
+use native.Mathlib.Numerals.{add-one}
 use mathlib.Core.Path.{_≡_, refl, sym, ap, _∙_}
 use mathlib.Core.Bool.{Bool, true, false, cond, Bool·beq, _&&_}
 use mathlib.Core.List.{List}
 use lib.Dec.{eqb, leb}
 use lib.ListN.{length, getD, set, replicate, length-set, length-replicate, getD-replicate, List·getD-eq-default}
 use lib.Seq.{getD-set-same, getD-set-other, set-out}
-use borrow.Author.Tests.{eq-eqb, ne-eqb, le-leb, lt-leb}
+use borrow.Author.Tests.{eqb-true, eq-eqb, ne-eqb, le-leb, lt-leb}
 use Rattle.base.specs.Search.{allFrom}
-use Rattle.base.proofs.Choice.{true-false}
+use Rattle.base.proofs.Choice.{and-true, true-false}
 use Rattle.base.proofs.Searches.{count-next, count-none, all-holds, all-intro, all-agree}
 use Rattle.page.specs.Plan.{places}
 use Rattle.page.specs.Key.{positions}
 use Rattle.page.specs.Entry.{none, isLetter, usedLetter}
-use Rattle.store.specs.Record.{keyOf, namedTimes, keysApart, lettersFit}
+use Rattle.store.specs.Record.{pageOf, keyOf, vacantAt, namedTimes, keysApart, lettersFit}
 use Rattle.store.specs.Testing.{namedFrom, Tallied}
 
 -- ---- before the first place
@@ -83,6 +84,16 @@ module _ (map named : List ℕ) (x : ℕ) (inside : x < places) (tallied : Talli
       go : (b : Bool) → allFrom (λ p. leb (namedTimes map p) 1) positions 0 ≡ b → b ≡ false
       go true e = absurd (true-false (all-holds (λ p. leb (namedTimes map p) 1) positions 0 k e (omega arith) (omega (arith, position))) (lt-leb _ _ twice))
       go false e = refl
+
+-- vacant places in a row
+pub tallied-run : (map named : List ℕ) (n x : ℕ) → x + n ≤ places → allFrom (vacantAt map) n x ≡ true → Tallied map named x → Tallied map named (x + n)
+unfolding allFrom
+tallied-run map named zero x h e t = rw add-zero t
+tallied-run map named (suc n) x h e t =
+    let a = and-true (vacantAt map x) (allFrom (vacantAt map) n (suc x)) e in
+    let key = eqb-true _ _ (and-true (eqb (pageOf map x) none) (eqb (keyOf map x) none) (a .0) .1) in
+    let k : x + suc n ≡ suc x + n = omega arith in
+    rw k (tallied-run map named n (suc x) (omega arith) (a .1) (rw add-one at (tallied-unnamed map named x (omega arith) t key)))
 
 -- ---- after the last place: no key is named twice, and the table says how often each position is
 pub tallied-all : (map named : List ℕ) (x : ℕ) → places ≤ x → Tallied map named x → (p : ℕ) → p < positions → namedTimes map p ≡ getD named p 0

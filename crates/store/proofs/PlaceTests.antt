@@ -1,16 +1,15 @@
 -- The test of all places, place by place and run by run: how far it has come, and what its answer says.
-use Prim.Native.Nat.{ℕ, zero, suc, _+_, _<_, _≤_}
+use Prim.Native.Nat.{ℕ, _+_, _-_, _<_, _≤_}
 use native.Mathlib.Omega.{arith}
-use native.Mathlib.Nat.{add-zero}
-use native.Mathlib.Numerals.{add-one}
+use native.Mathlib.Decide.{decLt}
 use mathlib.Core.Path.{_≡_, refl, sym, _∙_}
-use mathlib.Core.Bool.{Bool, true, false, _&&_}
+use mathlib.Core.Bool.{Bool, true, false, not, _&&_, _||_}
 use mathlib.Core.List.{List}
 use lib.Dec.{eqb}
 use lib.ListN.{length, getD, set, replicate}
 use borrow.Author.Tests.{eqb-true}
 use Rattle.base.specs.Search.{allFrom}
-use Rattle.base.proofs.Choice.{and-true, and-intro, true-false}
+use Rattle.base.proofs.Choice.{and-true, and-intro, both-ways, true-false}
 use Rattle.base.proofs.Searches.{below-suc, all-holds, all-intro}
 use Rattle.page.specs.Plan.{filePlan, lastFile, places, countOf, startOf}
 use Rattle.page.specs.Key.{positions}
@@ -20,7 +19,7 @@ use Rattle.page.proofs.Slices.{getD-there}
 use Rattle.image.specs.Look.{formAt}
 use Rattle.store.specs.Record.{mapSize, pageOf, keyOf, vacantAt, nodeAt, placeFits, namedTimes, keysApart}
 use Rattle.store.specs.Testing.{InFile, placesFit, Tested}
-use Rattle.store.proofs.Names.{tallied-none, tallied-next, tallied-unnamed, tallied-twice, tallied-all, tallied-apart}
+use Rattle.store.proofs.Names.{tallied-none, tallied-next, tallied-unnamed, tallied-run, tallied-twice, tallied-all, tallied-apart}
 
 -- ---- a file's places are places of the plan
 pub file-end : (file : ℕ) → file ≤ lastFile → startOf filePlan file + countOf filePlan file ≤ places
@@ -41,6 +40,10 @@ module _ (map : List ℕ) (x : ℕ) (size : length map ≡ mapSize) (inside : x 
       let w : vacantAt map x ≡ false = sym vacant-read ∙ v in
       rw (w, getD-there map x none 0 (omega arith), getD-there map (places + x) none 0 (omega arith)) (sym (rw e at n))
 
+pub vacant-place : (img map : List ℕ) (x : ℕ) → vacantAt map x ≡ true → placeFits img map x ≡ true
+unfolding placeFits
+vacant-place img map x v = rw v
+
 -- ---- before the first place
 pub tested-none : (img map named : List ℕ) → named ≡ replicate positions 0 → Tested img map named 0
 tested-none img map named e = record { fit = λ y h. absurd (omega arith); tallied = tallied-none map named e }
@@ -51,10 +54,9 @@ module _ (img map named : List ℕ) (x : ℕ) (inside : x < places) (tested : Te
   fit-next e y h = below-suc (λ y. placeFits img map y ≡ true) x (tested .fit) e y (omega arith)
 
   pub tested-vacant : vacantAt map x ≡ true → Tested img map named (x + 1)
-  unfolding placeFits
   tested-vacant v =
       record {
-        fit = fit-next (rw v);
+        fit = fit-next (vacant-place img map x v);
         tallied = tallied-unnamed map named x inside (tested .tallied) (eqb-true _ _ (and-true (eqb (pageOf map x) none) (eqb (keyOf map x) none) v .1));
       }
 
@@ -78,13 +80,40 @@ unfit-place img map x h e = go (allFrom (placeFits img map) places 0) refl
     go false t = refl
 
 -- ---- vacant places in a row
-pub tested-run : (img map named : List ℕ) (n x : ℕ) → x + n ≤ places → allFrom (vacantAt map) n x ≡ true → Tested img map named x → Tested img map named (x + n)
-unfolding allFrom
-tested-run img map named zero x h e t = rw add-zero t
-tested-run img map named (suc n) x h e t =
-    let a = and-true (vacantAt map x) (allFrom (vacantAt map) n (suc x)) e in
-    let k : x + suc n ≡ suc x + n = omega arith in
-    rw k (tested-run img map named n (suc x) (omega arith) (a .1) (rw add-one at (tested-vacant img map named x (omega arith) t (a .0))))
+module _ (img map : List ℕ) (n x : ℕ) (vacant : allFrom (vacantAt map) n x ≡ true) where
+  run-fits : (y : ℕ) → x ≤ y → y < x + n → placeFits img map y ≡ true
+  run-fits y a b = vacant-place img map y (all-holds (vacantAt map) n x y vacant a b)
+
+  pub tested-run : (named : List ℕ) → x + n ≤ places → Tested img map named x → Tested img map named (x + n)
+  tested-run named h t =
+      record {
+        fit = λ y b. elim (decLt y x) [ yes l ↦ t .fit y l | no l ↦ run-fits y (omega arith) b ];
+        tallied = tallied-run map named n x h vacant (t .tallied);
+      }
+
+  pub entries-run : (scratch : List ℕ) → allFrom (λ y. not (eqb (getD scratch y 0) 0) || placeFits img map y) n x ≡ true
+  entries-run scratch = all-intro (λ y. not (eqb (getD scratch y 0) 0) || placeFits img map y) n x (λ y a b. either (not (eqb (getD scratch y 0) 0)) (run-fits y a b))
+    where
+      either : (s : Bool) {t : Bool} → t ≡ true → s || t ≡ true
+      either true e = refl
+      either false e = e
+
+-- ---- a test of all, run by run
+module _ (p : ℕ → Bool) (n x end : ℕ) (h : x ≤ end) (k : end ≤ n) where
+  pub all-run-passes : allFrom p (end - x) x ≡ true → allFrom p (n - x) x ≡ allFrom p (n - end) end
+  all-run-passes r =
+      both-ways _ _ (λ e. all-intro p (n - end) end (λ y a b. all-holds p (n - x) x y e (omega arith) (omega arith)))
+      (λ e. all-intro p (n - x) x (λ y a b. elim (decLt y end) [
+        | yes l ↦ all-holds p (end - x) x y r a (omega arith)
+        | no l ↦ all-holds p (n - end) end y e (omega arith) (omega arith)
+      ]))
+
+  pub all-run-fails : allFrom p (end - x) x ≡ false → allFrom p (n - x) x ≡ false
+  all-run-fails r = go (allFrom p (n - x) x) refl
+    where
+      go : (t : Bool) → allFrom p (n - x) x ≡ t → t ≡ false
+      go true e = absurd (true-false (all-intro p (end - x) x (λ y a b. all-holds p (n - x) x y e a (omega arith))) r)
+      go false e = refl
 
 -- ---- after the last place
 module _ (img map named : List ℕ) (tested : Tested img map named places) where

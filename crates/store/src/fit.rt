@@ -10,7 +10,7 @@ use page::keys::POSITIONS;
 use page::plan;
 use page::plan::PLACES;
 ghost use mathlib.Core.Path.{_≡_};
-ghost use mathlib.Core.Bool.{true, cond, Bool·beq, _&&_};
+ghost use mathlib.Core.Bool.{true, Bool·beq, _&&_};
 ghost use Prim.Native.Nat.{ℕ, _≤_, _<_, _+_, _%_, min};
 ghost use lib.ListN.{length, getD, set, replicate};
 ghost use lib.Dec.{eqb, leb, ltb};

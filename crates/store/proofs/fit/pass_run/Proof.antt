@@ -26,7 +26,7 @@ returns c =
     let v = and-true (eqb (a .end) (a .from + runLength)) (allFrom (vacantAt (a .map .now)) runLength (a .from)) (sym (c .before .is-vacant-run .ensures) ∙ c .if1 .taken) in
     let e = eqb-true (a .end) (a .from + runLength) (v .0) in
     record {
-      right = λ _. rw e (tested-run (a .image .now) (a .map .now) (a .named .now) runLength (a .from) (omega arith) (v .1) (s .pre .3));
+      right = λ _. rw e (tested-run (a .image .now) (a .map .now) runLength (a .from) (v .1) (a .named .now) (omega arith) (s .pre .3));
       wrong = λ f. absurd (true-false refl f);
     }
 

@@ -13,6 +13,7 @@
 --   WordLaws      several bytes as one number: compared, taken from a list, written into one
 --   Lanes         numbers made of lanes: operations that work on each lane apart
 --   CountedWords  eight columns as one word: whether they hold a number from 1 on
+--   ColumnValues  eight columns as one word: the number that they hold
 --   HeaderTests   headers and pages held against fields that they must have, byte for byte
 pub mod Slices
 pub mod Column
@@ -28,4 +29,5 @@ pub mod FormLaws
 pub mod WordLaws
 pub mod Lanes
 pub mod CountedWords
+pub mod ColumnValues
 pub mod HeaderTests

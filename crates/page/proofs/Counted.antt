@@ -8,7 +8,7 @@ use mathlib.Core.Bool.{Bool, true, false, cond, _&&_}
 use lib.ListN.{length}
 use lib.Dec.{eqb, leb}
 use borrow.Author.Tests.{eqb-true, eqb-false, leb-true, le-leb, ne-eqb}
-use Rattle.base.specs.Each.{same}
+use Rattle.base.specs.Each.{Each, same}
 use Rattle.base.proofs.Choice.{and-true, and-intro, true-false, both-ways}
 use Rattle.base.proofs.Eachs.{same-true, same-refl}
 use Rattle.page.specs.Frame.{space}
@@ -136,3 +136,26 @@ counted cs =
         subst (λ (l : List ℕ). fromOne l ≡ true) (same-true (spell (length cs) v) cs e)
         (spell-from-one (length cs) v (leb-true 1 v t) (subst (λ (k : ℕ). v < 10 ^ k) (zero-add (length cs)) (value-lt cs 0 0 (omega arith))))
     go false e t = absurd (true-false t refl)
+
+-- ---- a digit's value is its lower half, and a space's lower half is 0
+abbrev pub Low : List ℕ → Type 0
+Low cs = Each (λ (c : ℕ). c % 16 ≡ digit c) cs
+
+low-digit : (c : ℕ) → isDigit c ≡ true → c % 16 ≡ digit c
+low-digit c h = omega (arith, digit-lt c, digit-byte c h)
+
+low-digits : (cs : List ℕ) → allDigits cs ≡ true → Low cs
+unfolding allDigits
+low-digits [] h = tt
+low-digits (c ∷ cs) h = let a = and-true (isDigit c) (allDigits cs) h in (low-digit c (a .0), low-digits cs (a .1))
+
+pub low-from-one : (cs : List ℕ) → fromOne cs ≡ true → Low cs
+unfolding fromOne
+low-from-one [] h = tt
+low-from-one (c ∷ cs) h = go (eqb c space) refl h (low-from-one cs)
+  where
+    go : (z : Bool) → eqb c space ≡ z → cond z (fromOne cs) (isFirst c && allDigits cs) ≡ true → (fromOne cs ≡ true → Low cs) → Low (c ∷ cs)
+    go true e k ih = (rw (eqb-true c space e), ih k)
+    go false e k ih =
+        let a = and-true (isFirst c) (allDigits cs) k in
+        (low-digit c (and-true (isDigit c) (leb 1 (digit c)) (a .0) .0), low-digits cs (a .1))

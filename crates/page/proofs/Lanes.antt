@@ -1,12 +1,13 @@
 -- Laws of numbers made of lanes, each of k bits, the first lane the lowest: operations that work on each lane apart.
-use Prim.Native.Nat.{ℕ, zero, suc, _+_, _*_, _/_, _^_, _<_}
+use Prim.Native.Nat.{ℕ, zero, suc, _+_, _*_, _-_, _/_, _%_, _^_, _<_, _≤_}
 use native.Mathlib.Omega.{arith}
-use native.Mathlib.Nat.{pow-suc, add-mul}
-use mathlib.Core.Path.{_≡_, refl, ap, _∙_}
+use native.Mathlib.Nat.{pow-suc, add-mul, pow-le-pow-right}
+use mathlib.Core.Path.{_≡_, refl, ap, ap₂, _∙_}
 use mathlib.Core.List.{List, [], _∷_}
 use mathlib.Core.Bool.{_&&_}
-use lib.Bits.{bitAnd, bitOr, bitXor, and-block, or-block, xor-block}
+use lib.Bits.{bitAnd, bitOr, bitXor, and-block, or-block, xor-block, and-mask}
 use lib.Dec.{eqb}
+use lib.Pow.{pow-pos}
 use borrow.Author.Tests.{eqb-true, eq-eqb}
 use Rattle.base.specs.Each.{Each, Bytes}
 use Rattle.base.proofs.Choice.{and-true, and-intro, both-ways}
@@ -50,6 +51,14 @@ module _ (k : ℕ) (f g : ℕ → ℕ) (p : Keeps k f) (q : Keeps k g) (xs : Lis
 
   pub sum-lanes : lanes k f xs + lanes k g xs ≡ lanes k (λ x. f x + g x) xs
   sum-lanes = op-lanes (λ a b. a + b) sum-block refl k f g p q xs b
+
+-- the lower bits of each lane
+pub mask-lanes : (k j : ℕ) → j ≤ k → (xs : List ℕ) → Fit k xs → bitAnd (lanes k (λ x. x) xs) (lanes k (λ x. 2 ^ j - 1) xs) ≡ lanes k (λ x. x % 2 ^ j) xs
+unfolding lanes
+mask-lanes k j h [] b = refl
+mask-lanes k j h (x ∷ xs) b =
+    and-block k (lanes k (λ x. x) xs) (lanes k (λ x. 2 ^ j - 1) xs) x (2 ^ j - 1) (b .0) (omega (arith, pow-pos j, pow-le-pow-right {n = 2} (omega arith) {i = j} {j = k} h))
+    ∙ ap₂ (λ (m n : ℕ). m * 2 ^ k + n) (mask-lanes k j h xs (b .1)) (and-mask x j)
 
 -- ---- words
 pub word-lanes : (n v : ℕ) → v < 256 ^ n → lanes 8 (λ x. x) (wordBytes n v) ≡ v

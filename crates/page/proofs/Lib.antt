@@ -14,6 +14,7 @@
 --   Spellings     four columns as the word that code makes of them
 --   Lanes         numbers made of lanes: operations that work on each lane apart
 --   CountedWords  eight columns as one word: whether they hold a number from 1 on
+--   ColumnValues  eight columns as one word: the number that they hold
 --   HeaderTests   headers and pages held against fields that they must have, byte for byte
 --   HeaderParts   headers compared in parts of eight, four and two bytes
 pub mod Slices
@@ -31,5 +32,6 @@ pub mod WordLaws
 pub mod Spellings
 pub mod Lanes
 pub mod CountedWords
+pub mod ColumnValues
 pub mod HeaderTests
 pub mod HeaderParts

@@ -72,6 +72,14 @@ module _ (xs : List ℕ) (at : ℕ) where
   unfolding part
   part-two h = ap (take 2) (next at (at + 1) (omega arith) (omega arith) ∙ cons-eq refl (next (at + 1) (at + 2) (omega arith) (omega arith)))
 
+  pub part-three : at + 3 ≤ length xs → part xs at 3 ≡ getD xs at 0 ∷ getD xs (at + 1) 0 ∷ getD xs (at + 2) 0 ∷ []
+  unfolding part
+  part-three h =
+      ap (take 3)
+      (next at (at + 1) (omega arith) (omega arith)
+      ∙ cons-eq refl
+      (next (at + 1) (at + 2) (omega arith) (omega arith) ∙ cons-eq refl (next (at + 2) (at + 3) (omega arith) (omega arith))))
+
   pub part-four : at + 4 ≤ length xs → part xs at 4 ≡ getD xs at 0 ∷ getD xs (at + 1) 0 ∷ getD xs (at + 2) 0 ∷ getD xs (at + 3) 0 ∷ []
   unfolding part
   part-four h =

@@ -1,7 +1,8 @@
 // Decimal columns: a number right-justified with spaces, without leading zeros.
 use crate::Number;
+use crate::words;
 ghost use mathlib.Core.Path.{_≡_};
-ghost use mathlib.Core.Bool.{false, _&&_};
+ghost use mathlib.Core.Bool.{true, false};
 ghost use Prim.Native.Nat.{suc, _+_, _≤_, _<_};
 ghost use lib.ListN.{length, getD, drop};
 ghost use lib.Dec.{leb};
@@ -9,7 +10,7 @@ ghost use Rattle.base.specs.Lent.{old, new};
 ghost use Rattle.base.specs.Part.{part, splice};
 ghost use Rattle.page.specs.Frame.{space};
 ghost use Rattle.page.specs.Word.{wordBytes};
-ghost use Rattle.page.specs.Column.{zeroDigit, column, columns, spell, digit, isDigit, numberIn, numberThen};
+ghost use Rattle.page.specs.Column.{zeroDigit, column, columns, spell, digit, isDigit, valueAfter, numberIn, numberThen};
 
 const SPACE: u8 = 0x20;
 
@@ -28,6 +29,16 @@ const LOW_HALVES: u64 = 0x0f0f0f0f0f0f0f0f;
 const HIGH_HALVES: u64 = 0xf0f0f0f0f0f0f0f0;
 
 const SIXES: u64 = 0x0606060606060606;
+
+// Every other byte of a word, and every other two.
+const EVEN_BYTES: u64 = 0x00ff00ff00ff00ff;
+
+const EVEN_PAIRS: u64 = 0x0000ffff0000ffff;
+
+// Four columns of spaces, and the number 0 in eight columns, as words.
+const SPACES: u32 = 0x20202020;
+
+const SPELT_ZERO: u64 = 0x3020202020202020;
 
 // The digit of a number below 10.
 fn digit_byte(n: u32) -> u8
@@ -181,4 +192,55 @@ pub fn is_counted(v: u64) -> bool
     }
     let over = digits | ((digits & LOW_HALVES) + SIXES);
     (over & HIGH_HALVES == 0) & (spaces == (digits ^ (digits - 1)) & SPACE_BITS)
+}
+
+// The number that the eight columns of a word hold, if it is one from 1 on: digits are joined to pairs, pairs to fours.
+fn value_of(v: u64) -> u32
+    requires { ⌜ numberThen (numberIn (wordBytes 8 v)) false (leb 1) ≡ true ⌝ }
+    ensures { λ r. ⌜ r ≡ valueAfter 0 (wordBytes 8 v) ⌝ }
+{
+    let digits = v & LOW_HALVES;
+    let pairs = ((digits & EVEN_BYTES) * 10 + digits / 0x100) & EVEN_BYTES;
+    let fours = ((pairs & EVEN_PAIRS) * 100 + pairs / 0x10000) & EVEN_PAIRS;
+    ((fours % 0x100000000) * 10000 + fours / 0x100000000) as u32
+}
+
+// The number that the eight columns of a word hold.
+fn number_of(v: u64) -> Number
+    ensures { λ r. ⌜ r ≡ numberIn (wordBytes 8 v) ⌝ }
+{
+    if v == SPELT_ZERO {
+        return Number::Is(0);
+    }
+    if !is_counted(v) {
+        return Number::Misspelt;
+    }
+    Number::Is(value_of(v))
+}
+
+// The number that the eight columns of src from at on hold.
+pub fn get8(src: &[u8], at: usize) -> Number
+    requires { ⌜ at + 8 ≤ length (now src) ⌝ }
+    ensures { λ r. ⌜ r ≡ numberIn (part (old src) at 8) ⌝ }
+{
+    number_of(words::word8(src, at))
+}
+
+// The number that the four columns of src from at on hold, as eight columns with spaces before them.
+pub fn get4(src: &[u8], at: usize) -> Number
+    requires { ⌜ at + 4 ≤ length (now src) ⌝ }
+    ensures { λ r. ⌜ r ≡ numberIn (part (old src) at 4) ⌝ }
+{
+    number_of(words::eight(SPACES, words::word4(src, at)))
+}
+
+// The number that the three columns of src from at on hold, in the same way.
+pub fn get3(src: &[u8], at: usize) -> Number
+    requires { ⌜ at + 3 ≤ length (now src) ⌝ }
+    ensures { λ r. ⌜ r ≡ numberIn (part (old src) at 3) ⌝ }
+{
+    number_of(words::eight(
+        SPACES,
+        words::four(SPACE, src[at], src[at + 1], src[at + 2]),
+    ))
 }

@@ -78,10 +78,10 @@ pub fn read_entry(src: &[u8]) -> Entry
     if is_vacant(src) {
         return Entry::Vacant;
     }
-    let Number::Is(page) = columns::get(&src[0..4]) else {
+    let Number::Is(page) = columns::get4(src, 0) else {
         return Entry::Misspelt;
     };
-    let Number::Is(key) = columns::get(&src[4..8]) else {
+    let Number::Is(key) = columns::get4(src, 4) else {
         return Entry::Misspelt;
     };
     if LAST_PAGE < page {

@@ -152,19 +152,19 @@ fn read_fields(src: &[u8]) -> Header
     ensures { λ r. ⌜ r ≡ headerOf (old src) ⌝ }
 {
     let kind = src[0];
-    let Number::Is(number) = columns::get_at(src, NUMBER_AT, NUMBER_COLUMNS) else {
+    let Number::Is(number) = columns::get8(src, NUMBER_AT) else {
         return Header::Invalid;
     };
-    let Number::Is(unit) = columns::get_at(src, UNIT_AT, UNIT_COLUMNS) else {
+    let Number::Is(unit) = columns::get3(src, UNIT_AT) else {
         return Header::Invalid;
     };
-    let Number::Is(part) = columns::get_at(src, PART_AT, PART_COLUMNS) else {
+    let Number::Is(part) = columns::get4(src, PART_AT) else {
         return Header::Invalid;
     };
-    let Number::Is(key) = columns::get_at(src, KEY_AT, KEY_COLUMNS) else {
+    let Number::Is(key) = columns::get4(src, KEY_AT) else {
         return Header::Invalid;
     };
-    let Number::Is(second) = columns::get_at(src, SECOND_AT, SECOND_COLUMNS) else {
+    let Number::Is(second) = columns::get8(src, SECOND_AT) else {
         return Header::Invalid;
     };
     let f = Frame {

@@ -16,14 +16,14 @@ fn two(a: u8, b: u8) -> u32
 }
 
 // The number of four bytes.
-fn four(a: u8, b: u8, c: u8, d: u8) -> u32
+pub fn four(a: u8, b: u8, c: u8, d: u8) -> u32
     ensures { λ r. ⌜ wordBytes 4 r ≡ a ∷ b ∷ c ∷ d ∷ [] ⌝ }
 {
     (a as u32) + (b as u32) * 0x100 + (c as u32) * 0x10000 + (d as u32) * 0x1000000
 }
 
 // The number of eight bytes, by their halves.
-fn eight(low: u32, high: u32) -> u64
+pub fn eight(low: u32, high: u32) -> u64
     ensures { λ r. ⌜ wordBytes 8 r ≡ wordBytes 4 low ++ wordBytes 4 high ⌝ }
 {
     (low as u64) + (high as u64) * 0x100000000

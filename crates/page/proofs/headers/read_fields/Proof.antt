@@ -7,8 +7,8 @@ use Rattle.page.proofs.headers.read_fields.Tie as tie
 shared-slice-read-kind : tie.Need-shared-slice-read-kind
 shared-slice-read-kind c = search needs
 
-get-at-requires : tie.Need-get-at-requires
-get-at-requires c κs = search needs
+get8-requires : tie.Need-get8-requires
+get8-requires c κs = search needs
 
 enum-known-number : tie.Need-enum-known-number
 enum-known-number c = search needs
@@ -18,10 +18,10 @@ enum-told c = search needs
 
 returns : tie.Need-returns
 unfolding headerOf
-returns c = rw (← c .before .before .get-at .ensures, c .enum-told .given .1)
+returns c = rw (← c .before .before .get8 .ensures, c .enum-told .given .1)
 
-get-at-requires-2 : tie.Need-get-at-requires-2
-get-at-requires-2 c κs = search needs
+get3-requires : tie.Need-get3-requires
+get3-requires c κs = search needs
 
 enum-known-unit : tie.Need-enum-known-unit
 enum-known-unit c = search needs
@@ -34,14 +34,14 @@ unfolding headerOf
 returns-2 c =
     let number = c .before .before .before .before in
     rw (
-      ← number .before .before .get-at .ensures,
+      ← number .before .before .get8 .ensures,
       number .number .given .1,
-      ← c .before .before .get-at2 .ensures,
+      ← c .before .before .get3 .ensures,
       c .enum-told2 .given .1,
     )
 
-get-at-requires-3 : tie.Need-get-at-requires-3
-get-at-requires-3 c κs = search needs
+get4-requires : tie.Need-get4-requires
+get4-requires c κs = search needs
 
 enum-known-part : tie.Need-enum-known-part
 enum-known-part c = search needs
@@ -55,16 +55,16 @@ returns-3 c =
     let unit = c .before .before .before .before in
     let number = unit .before .before .before .before in
     rw (
-      ← number .before .before .get-at .ensures,
+      ← number .before .before .get8 .ensures,
       number .number .given .1,
-      ← unit .before .before .get-at2 .ensures,
+      ← unit .before .before .get3 .ensures,
       unit .unit .given .1,
-      ← c .before .before .get-at3 .ensures,
+      ← c .before .before .get4 .ensures,
       c .enum-told3 .given .1,
     )
 
-get-at-requires-4 : tie.Need-get-at-requires-4
-get-at-requires-4 c κs = search needs
+get4-requires-2 : tie.Need-get4-requires-2
+get4-requires-2 c κs = search needs
 
 enum-known-key : tie.Need-enum-known-key
 enum-known-key c = search needs
@@ -79,18 +79,18 @@ returns-4 c =
     let unit = part' .before .before .before .before in
     let number = unit .before .before .before .before in
     rw (
-      ← number .before .before .get-at .ensures,
+      ← number .before .before .get8 .ensures,
       number .number .given .1,
-      ← unit .before .before .get-at2 .ensures,
+      ← unit .before .before .get3 .ensures,
       unit .unit .given .1,
-      ← part' .before .before .get-at3 .ensures,
+      ← part' .before .before .get4 .ensures,
       part' .part .given .1,
-      ← c .before .before .get-at4 .ensures,
+      ← c .before .before .get42 .ensures,
       c .enum-told4 .given .1,
     )
 
-get-at-requires-5 : tie.Need-get-at-requires-5
-get-at-requires-5 c κs = search needs
+get8-requires-2 : tie.Need-get8-requires-2
+get8-requires-2 c κs = search needs
 
 enum-known-second : tie.Need-enum-known-second
 enum-known-second c = search needs
@@ -106,15 +106,15 @@ returns-5 c =
     let unit = part' .before .before .before .before in
     let number = unit .before .before .before .before in
     rw (
-      ← number .before .before .get-at .ensures,
+      ← number .before .before .get8 .ensures,
       number .number .given .1,
-      ← unit .before .before .get-at2 .ensures,
+      ← unit .before .before .get3 .ensures,
       unit .unit .given .1,
-      ← part' .before .before .get-at3 .ensures,
+      ← part' .before .before .get4 .ensures,
       part' .part .given .1,
-      ← key .before .before .get-at4 .ensures,
+      ← key .before .before .get42 .ensures,
       key .key .given .1,
-      ← c .before .before .get-at5 .ensures,
+      ← c .before .before .get82 .ensures,
       c .enum-told5 .given .1,
     )
 
@@ -130,15 +130,15 @@ returns-6 c =
     let unit = part' .before .before .before .before in
     let number = unit .before .before .before .before in
     rw (
-      ← number .before .before .get-at .ensures,
+      ← number .before .before .get8 .ensures,
       number .number .given .1,
-      ← unit .before .before .get-at2 .ensures,
+      ← unit .before .before .get3 .ensures,
       unit .unit .given .1,
-      ← part' .before .before .get-at3 .ensures,
+      ← part' .before .before .get4 .ensures,
       part' .part .given .1,
-      ← key .before .before .get-at4 .ensures,
+      ← key .before .before .get42 .ensures,
       key .key .given .1,
-      ← second .before .before .get-at5 .ensures,
+      ← second .before .before .get82 .ensures,
       second .second .given .1,
       number .before .before .before .before .before .pre .1,
       ← c .before .in-range .ensures,
@@ -154,15 +154,15 @@ returns-7 c =
     let unit = part' .before .before .before .before in
     let number = unit .before .before .before .before in
     rw (
-      ← number .before .before .get-at .ensures,
+      ← number .before .before .get8 .ensures,
       number .number .given .1,
-      ← unit .before .before .get-at2 .ensures,
+      ← unit .before .before .get3 .ensures,
       unit .unit .given .1,
-      ← part' .before .before .get-at3 .ensures,
+      ← part' .before .before .get4 .ensures,
       part' .part .given .1,
-      ← key .before .before .get-at4 .ensures,
+      ← key .before .before .get42 .ensures,
       key .key .given .1,
-      ← second .before .before .get-at5 .ensures,
+      ← second .before .before .get82 .ensures,
       second .second .given .1,
       number .before .before .before .before .before .pre .1,
       ← c .before .in-range .ensures,
@@ -174,23 +174,23 @@ read-fields-spec =
     tie.close
     (tie.spec
     shared-slice-read-kind
-    get-at-requires
+    get8-requires
     enum-known-number
     enum-told
     returns
-    get-at-requires-2
+    get3-requires
     enum-known-unit
     enum-told-2
     returns-2
-    get-at-requires-3
+    get4-requires
     enum-known-part
     enum-told-3
     returns-3
-    get-at-requires-4
+    get4-requires-2
     enum-known-key
     enum-told-4
     returns-4
-    get-at-requires-5
+    get8-requires-2
     enum-known-second
     enum-told-5
     returns-5

@@ -161,7 +161,7 @@ fn kind_by(image: &[u8], b: usize, f: Frame) -> Kind
 }
 
 // Whether a kind letter is K or C.
-fn is_block_letter(kind: u8) -> bool
+pub fn is_block_letter(kind: u8) -> bool
     ensures { λ r. ⌜ r ≡ isBlockLetter kind ⌝ }
 {
     (kind == Frame::KEYS_LETTER) | (kind == Frame::COMMIT_LETTER)

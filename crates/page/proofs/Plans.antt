@@ -5,10 +5,9 @@ use native.Mathlib.Decide.{decLt}
 use mathlib.Core.Path.{_≡_, refl, ap, _∙_}
 use mathlib.Core.Bool.{Bool, true, false, cond}
 use mathlib.Core.List.{List, [], _∷_}
-use lib.ListN.{length, getD, List·getD-eq-default}
-use lib.Dec.{eqb, ltb, eqb→eq}
+use lib.ListN.{length, List·getD-eq-default}
+use lib.Dec.{ltb}
 use borrow.Author.Tests.{lt-ltb, ltb-true}
-use Rattle.base.proofs.Eachs.{table-rule}
 use Rattle.page.specs.Plan.{filePlan, lastFile, places, countOf, startOf, placeOf}
 use Rattle.page.specs.declared.Place.the-variants.{At, Outside}
 
@@ -118,11 +117,29 @@ plan-below file offset x e = rw plan-sum at (place-below filePlan file offset x 
 pub plan-some : (x : ℕ) → x < places → (file : ℕ) × (offset : ℕ) × (placeOf filePlan file offset ≡ At x)
 plan-some x h = place-some filePlan x (rw plan-sum h)
 
--- for each file the sum of the counts before it, as a table
-abbrev pub starts : List ℕ
-starts = 0 ∷ 32 ∷ 64 ∷ 88 ∷ 112 ∷ 128 ∷ 144 ∷ 160 ∷ 176 ∷ 184 ∷ 192 ∷ 200 ∷ 208 ∷ 216 ∷ []
+-- ---- the last file, where it is none of those before it
+up : (n k : ℕ) → k ≤ n → (n ≡ k → ⊥) → suc k ≤ n
+up n k g h = omega arith
 
-pub starts-rule : (file : ℕ) → file ≤ lastFile → getD starts file 0 ≡ startOf filePlan file
-unfolding startOf
-starts-rule file h =
-    eqb→eq (getD starts file 0) (startOf filePlan file) (table-rule (λ k x. eqb x (startOf filePlan k)) starts tt file (omega arith))
+least : (n : ℕ) → 0 ≤ n
+least n = omega arith
+
+meet : (n k : ℕ) → n ≤ k → k ≤ n → n ≡ k
+meet n k g h = omega arith
+
+pub last-file : (n : ℕ) → n ≤ lastFile → ((((((((((((Unit {0} × (n ≡ 0 → ⊥)) × (n ≡ 1 → ⊥)) × (n ≡ 2 → ⊥)) × (n ≡ 3 → ⊥)) × (n ≡ 4 → ⊥)) × (n ≡ 5 → ⊥)) × (n ≡ 6 → ⊥)) × (n ≡ 7 → ⊥)) × (n ≡ 8 → ⊥)) × (n ≡ 9 → ⊥)) × (n ≡ 10 → ⊥)) × (n ≡ 11 → ⊥)) × (n ≡ 12 → ⊥) → n ≡ lastFile
+last-file n h r =
+    let s1 = up n 0 (least n) (r .0 .0 .0 .0 .0 .0 .0 .0 .0 .0 .0 .0 .1) in
+    let s2 = up n 1 s1 (r .0 .0 .0 .0 .0 .0 .0 .0 .0 .0 .0 .1) in
+    let s3 = up n 2 s2 (r .0 .0 .0 .0 .0 .0 .0 .0 .0 .0 .1) in
+    let s4 = up n 3 s3 (r .0 .0 .0 .0 .0 .0 .0 .0 .0 .1) in
+    let s5 = up n 4 s4 (r .0 .0 .0 .0 .0 .0 .0 .0 .1) in
+    let s6 = up n 5 s5 (r .0 .0 .0 .0 .0 .0 .0 .1) in
+    let s7 = up n 6 s6 (r .0 .0 .0 .0 .0 .0 .1) in
+    let s8 = up n 7 s7 (r .0 .0 .0 .0 .0 .1) in
+    let s9 = up n 8 s8 (r .0 .0 .0 .0 .1) in
+    let s10 = up n 9 s9 (r .0 .0 .0 .1) in
+    let s11 = up n 10 s10 (r .0 .0 .1) in
+    let s12 = up n 11 s11 (r .0 .1) in
+    let s13 = up n 12 s12 (r .1) in
+    meet n lastFile h s13

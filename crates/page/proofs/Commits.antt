@@ -15,6 +15,7 @@ use borrow.Author.Tests.{ne-eqb, lt-ltb, le-ltb, le-leb, leb-true}
 use borrow.Rule.Slice.PartMut.{putMid}
 use Rattle.base.specs.Part.{part}
 use Rattle.base.specs.Each.{same}
+use Rattle.base.specs.Search.{allFrom}
 use Rattle.base.proofs.Choice.{and-true}
 use Rattle.base.proofs.Eachs.{same-true, same-false}
 use Rattle.base.proofs.Parts.{part-length, part-at, put-next}
@@ -112,6 +113,14 @@ module _ (xs : List ℕ) where
       go false NoNumber n s e = absurd (let z : _≡_ {A = ℕ} 0 1 = cc in omega arith)
       go false (IsNumber m) NoNumber s e = absurd (let z : _≡_ {A = ℕ} 0 1 = cc in omega arith)
       go false (IsNumber m) (IsNumber n) s e = within m n (leb m lastPage && leb n lastPosition) e
+
+-- ---- vacant entries
+pub vacant-entries : (payload : List ℕ) → allFrom (λ j. same (part payload (entrySize * j) entrySize) vacantEntry) entriesInPart 0 ≡ true
+    → allFrom (λ j. isEntry (entryOf (part payload (entrySize * j) entrySize))) entriesInPart 0 ≡ true
+unfolding entryOf
+vacant-entries payload t =
+    all-intro (λ j. isEntry (entryOf (part payload (entrySize * j) entrySize))) entriesInPart 0
+    (λ j g h. rw (all-holds (λ j. same (part payload (entrySize * j) entrySize) vacantEntry) entriesInPart 0 j t g h))
 
 -- ---- the entries of a map
 -- a map's entry of place x

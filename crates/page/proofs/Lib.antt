@@ -17,6 +17,7 @@
 --   ColumnValues  eight columns as one word: the number that they hold
 --   HeaderTests   headers and pages held against fields that they must have, byte for byte
 --   HeaderParts   headers compared in parts of eight, four and two bytes
+--   Repeats       lists that are their first elements again and again
 pub mod Slices
 pub mod Column
 pub mod ColumnReading
@@ -35,3 +36,4 @@ pub mod CountedWords
 pub mod ColumnValues
 pub mod HeaderTests
 pub mod HeaderParts
+pub mod Repeats

@@ -168,12 +168,27 @@ fn is_entry(src: &[u8]) -> bool
     }
 }
 
-// Whether a payload holds entries throughout.
+// Whether every entry of a payload is vacant: the first is, and each byte is as the one an entry before it.
+fn all_vacant(payload: &[u8]) -> bool
+    requires { ⌜ length (now payload) ≡ payloadSize ⌝ }
+    ensures { λ r. ⌜ r ≡ allFrom (λ j. same (part (old payload) (entrySize * j) entrySize) vacantEntry) entriesInPart 0 ⌝ }
+{
+    bytes::same(
+        &payload[ENTRY_SIZE..Frame::PAYLOAD],
+        &payload[0..Frame::PAYLOAD - ENTRY_SIZE],
+    )
+        & words::same8(payload, 0, b"   -   -", 0)
+}
+
+// Whether a payload holds entries throughout. Most hold vacant ones only.
 fn all_entries(payload: &[u8]) -> bool
     requires { ⌜ length (now payload) ≡ payloadSize ⌝ }
     ensures { λ r. ⌜ r
         ≡ allFrom (λ j. isEntry (entryOf (part (old payload) (entrySize * j) entrySize))) entriesInPart 0 ⌝ }
 {
+    if all_vacant(payload) {
+        return true;
+    }
     let mut j = 0;
     while j < ENTRIES_IN_PART {
         let at = ENTRY_SIZE * j;

@@ -12,6 +12,7 @@ use Rattle.base.specs.Search.{allFrom}
 use Rattle.base.proofs.Searches.{all-next, all-fails, all-none}
 use Rattle.page.specs.Entry.{entrySize, entriesInPart, entryOf, isEntry}
 use Rattle.page.proofs.Slices.{lent-part}
+use Rattle.page.proofs.Commits.{vacant-entries}
 use Rattle.page.proofs.entries.all_entries.Statement.{statement}
 use Rattle.page.proofs.entries.all_entries.Tie as tie
 
@@ -28,6 +29,13 @@ Inv-loop payload j₀ j = (j ≤ entriesInPart) × (allFrom (entryAtPlace payloa
 
 abbrev μ-loop : tie.MeasureT-loop
 μ-loop payload j₀ j = entriesInPart - j
+
+all-vacant-requires : tie.Need-all-vacant-requires Inv-loop μ-loop
+all-vacant-requires c κs = search needs
+
+returns : tie.Need-returns Inv-loop μ-loop
+returns c =
+    sym (vacant-entries (c .before .before .before .args .payload .now) (sym (c .before .all-vacant .ensures) ∙ c .if1 .taken))
 
 loop-holds : tie.Need-loop-holds Inv-loop μ-loop
 loop-holds c = (omega arith, refl)
@@ -50,10 +58,10 @@ part-is-entry-end c = search needs
 is-entry-requires : tie.Need-is-entry-requires Inv-loop μ-loop
 is-entry-requires c κs = search needs
 
-returns : tie.Need-returns Inv-loop μ-loop
-returns c =
+returns-2 : tie.Need-returns-2 Inv-loop μ-loop
+returns-2 c =
     let l = c .before .before .before .before .loop in
-    sym (l .inv .1 ∙ all-fails _ entriesInPart (l .j) (omega arith) (sym (read-at (c .before .before .before .before .before .before .args .payload .now) (l .j) _ (c .before .is-entry .ensures)) ∙ not-true _ (c .if1 .taken)))
+    sym (l .inv .1 ∙ all-fails _ entriesInPart (l .j) (omega arith) (sym (read-at (c .before .before .before .before .before .before .before .before .args .payload .now) (l .j) _ (c .before .is-entry .ensures)) ∙ not-true _ (c .if2 .taken)))
 
 add-j : tie.Need-add-j Inv-loop μ-loop
 add-j c = search needs
@@ -64,10 +72,10 @@ loop-less c = search needs
 loop-again : tie.Need-loop-again Inv-loop μ-loop
 loop-again c =
     let l = c .before .before .before .before .loop in
-    (omega arith, l .inv .1 ∙ all-next _ entriesInPart (l .j) (omega arith) (sym (read-at (c .before .before .before .before .before .before .args .payload .now) (l .j) _ (c .before .is-entry .ensures)) ∙ not-false _ (c .if1 .left)))
+    (omega arith, l .inv .1 ∙ all-next _ entriesInPart (l .j) (omega arith) (sym (read-at (c .before .before .before .before .before .before .before .before .args .payload .now) (l .j) _ (c .before .is-entry .ensures)) ∙ not-false _ (c .if2 .left)))
 
-returns-2 : tie.Need-returns-2 Inv-loop μ-loop
-returns-2 c = sym (c .before .loop .inv .1 ∙ all-none _ entriesInPart (c .before .loop .j) (c .loop-test .left))
+returns-3 : tie.Need-returns-3 Inv-loop μ-loop
+returns-3 c = sym (c .before .loop .inv .1 ∙ all-none _ entriesInPart (c .before .loop .j) (c .loop-test .left))
 
 pub all-entries-spec : {M : Type 1} → statement M
 all-entries-spec =
@@ -75,6 +83,8 @@ all-entries-spec =
     (tie.spec
     Inv-loop
     μ-loop
+    all-vacant-requires
+    returns
     loop-holds
     mul-at
     add-is-entry
@@ -82,8 +92,8 @@ all-entries-spec =
     part-is-entry-start
     part-is-entry-end
     is-entry-requires
-    returns
+    returns-2
     add-j
     loop-less
     loop-again
-    returns-2)
+    returns-3)

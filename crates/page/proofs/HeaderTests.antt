@@ -15,7 +15,7 @@ use Rattle.base.proofs.Parts.{part-part, part-length}
 use Rattle.base.proofs.Eachs.{same-true, same-refl}
 use Rattle.page.specs.Frame.{headerSize, colonSpace}
 use Rattle.page.specs.Column.{spell, digit, valueAfter, numberIn, numberThen}
-use Rattle.page.specs.Header.{nodeLetter, lastNumber, nodeFrame, inRange, headerBytes, headerOf, sameFrame, headerWith, nodeWith}
+use Rattle.page.specs.Header.{nodeLetter, lastNumber, nodeFrame, inRange, headerBytes, headerOf, sameFrame, headerWith, nodeWith, withPart, headerLike}
 use Rattle.page.specs.Form.{isEmpty, closed, formOf, wholeWith, wholeNode}
 use Rattle.page.specs.declared.Number.{Number}
 use Rattle.page.specs.declared.Number.the-variants.{Is as IsNumber, Misspelt}
@@ -65,16 +65,6 @@ pub with-whole : (h : Frame) (m : Form) → m ≡ Whole h → wholeWith h m ≡ 
 with-whole h m e = rw e (frame-same h h refl)
 
 -- ---- a field put into a header's bytes
--- a header with another unit, part or key
-abbrev withUnit : ℕ → Frame → Frame
-withUnit n f = record { kind = f .kind; number = f .number; unit = n; part = f .part; key = f .key; second = f .second }
-
-abbrev withPart : ℕ → Frame → Frame
-withPart n f = record { kind = f .kind; number = f .number; unit = f .unit; part = n; key = f .key; second = f .second }
-
-abbrev withKey : ℕ → Frame → Frame
-withKey n f = record { kind = f .kind; number = f .number; unit = f .unit; part = f .part; key = n; second = f .second }
-
 module _ (f : Frame) (n : ℕ) where
   before-unit : length (f .kind ∷ spell 8 (f .number)) ≡ 9
   before-unit = omega (arith, length-spell 8 (f .number) (omega arith))
@@ -82,17 +72,10 @@ module _ (f : Frame) (n : ℕ) where
   before-part : length (f .kind ∷ (spell 8 (f .number) ++ spell 3 (f .unit))) ≡ 12
   before-part = simp length-append (omega (arith, before-unit, length-spell 3 (f .unit) (omega arith)))
 
-  before-key : length (f .kind ∷ (spell 8 (f .number) ++ (spell 3 (f .unit) ++ spell 4 (f .part)))) ≡ 16
-  before-key = simp length-append (omega (arith, before-unit, length-spell 3 (f .unit) (omega arith), length-spell 4 (f .part) (omega arith)))
-
   widths : (w a b : ℕ) → 1 ≤ w → length (spell w a) ≡ length (spell w b)
   widths w a b h = length-spell w a h ∙ sym (length-spell w b h)
 
-  put-unit : splice (headerBytes f) 9 (spell 3 n) ≡ headerBytes (withUnit n f)
-  unfolding headerBytes
-  put-unit = splice-middle (f .kind ∷ spell 8 (f .number)) (spell 3 (f .unit)) _ (spell 3 n) 9 before-unit (widths 3 (f .unit) n (omega arith))
-
-  put-part : splice (headerBytes f) 12 (spell 4 n) ≡ headerBytes (withPart n f)
+  pub put-part : splice (headerBytes f) 12 (spell 4 n) ≡ headerBytes (withPart n f)
   unfolding headerBytes
   put-part =
       let tail = spell 4 (f .key) ++ (spell 8 (f .second) ++ colonSpace) in
@@ -102,25 +85,6 @@ module _ (f : Frame) (n : ℕ) where
       ap (λ (t : List ℕ). splice t 12 (spell 4 n)) (split (spell 4 (f .part)))
       ∙ splice-middle p (spell 4 (f .part)) tail (spell 4 n) 12 before-part (widths 4 (f .part) n (omega arith))
       ∙ sym (split (spell 4 n))
-
-  put-key : splice (headerBytes f) 16 (spell 4 n) ≡ headerBytes (withKey n f)
-  unfolding headerBytes
-  put-key =
-      let tail = spell 8 (f .second) ++ colonSpace in
-      let p = f .kind ∷ (spell 8 (f .number) ++ (spell 3 (f .unit) ++ spell 4 (f .part))) in
-      let split : (q : List ℕ) → f .kind ∷ (spell 8 (f .number) ++ (spell 3 (f .unit) ++ (spell 4 (f .part) ++ (q ++ tail)))) ≡ p ++ (q ++ tail) =
-      λ q. ap (λ (t : List ℕ). f .kind ∷ t)
-      (ap (λ (t : List ℕ). spell 8 (f .number) ++ t) (sym (append-assoc (spell 3 (f .unit)) (spell 4 (f .part)) (q ++ tail)))
-      ∙ sym (append-assoc (spell 8 (f .number)) (spell 3 (f .unit) ++ spell 4 (f .part)) (q ++ tail))) in
-      ap (λ (t : List ℕ). splice t 16 (spell 4 n)) (split (spell 4 (f .key)))
-      ∙ splice-middle p (spell 4 (f .key)) tail (spell 4 n) 16 before-key (widths 4 (f .key) n (omega arith))
-      ∙ sym (split (spell 4 n))
-
--- the fields of a node put into the header of the first
-pub first-node : (file offset p : ℕ)
-    → splice (splice (splice (headerBytes (nodeFrame 1 0 0 0)) 9 (spell 3 file)) 12 (spell 4 offset)) 16 (spell 4 p) ≡ headerBytes (nodeFrame 1 file offset p)
-first-node file offset p =
-    rw (put-unit (nodeFrame 1 0 0 0) file, put-part (nodeFrame 1 file 0 0) offset, put-key (nodeFrame 1 file offset 0) p)
 
 -- ---- a given header, by its spelling
 header-with : (h : Frame) (m : Header) → headerWith h m ≡ true → m ≡ Is h
@@ -158,7 +122,7 @@ from-one Misspelt e = absurd (true-false e refl)
 
 -- what follows a header's number does not go by it
 module _ (f h : Frame) (u : f .unit ≡ h .unit) (p : f .part ≡ h .part) (k : f .key ≡ h .key) (s : f .second ≡ h .second) where
-  after-number : (g : Frame) → part (headerBytes g) 9 21 ≡ part (spell 3 (g .unit) ++ (spell 4 (g .part) ++ (spell 4 (g .key) ++ (spell 8 (g .second) ++ colonSpace)))) 0 21
+  pub after-number : (g : Frame) → part (headerBytes g) 9 21 ≡ part (spell 3 (g .unit) ++ (spell 4 (g .part) ++ (spell 4 (g .key) ++ (spell 8 (g .second) ++ colonSpace)))) 0 21
   unfolding headerBytes
   after-number g = part-past (g .kind ∷ []) _ 1 8 21 refl ∙ part-past (spell 8 (g .number)) _ 8 0 21 (length-spell 8 (g .number) (omega arith))
 

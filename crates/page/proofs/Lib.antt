@@ -11,10 +11,12 @@
 --   Pages         the bytes of a page: length, what reads back, what a cut program leaves
 --   FormLaws      page forms: the form of a page that was programmed whole or in part
 --   WordLaws      several bytes as one number: compared, taken from a list, written into one
+--   Spellings     four columns as the word that code makes of them
 --   Lanes         numbers made of lanes: operations that work on each lane apart
 --   CountedWords  eight columns as one word: whether they hold a number from 1 on
 --   ColumnValues  eight columns as one word: the number that they hold
 --   HeaderTests   headers and pages held against fields that they must have, byte for byte
+--   HeaderParts   headers compared in parts of eight, four and two bytes
 pub mod Slices
 pub mod Column
 pub mod ColumnReading
@@ -27,7 +29,9 @@ pub mod Commits
 pub mod Pages
 pub mod FormLaws
 pub mod WordLaws
+pub mod Spellings
 pub mod Lanes
 pub mod CountedWords
 pub mod ColumnValues
 pub mod HeaderTests
+pub mod HeaderParts

@@ -20,6 +20,10 @@ pub part-front : (p q : List ℕ) (n : ℕ) → length p ≡ n → part (p ++ q)
 unfolding part
 part-front p q n e = take-at p q n e
 
+pub part-all : (xs : List ℕ) (n : ℕ) → length xs ≡ n → part xs 0 n ≡ xs
+unfolding part
+part-all xs n e = take-all n xs (omega arith)
+
 pub part-past : (p q : List ℕ) (i j n : ℕ) → length p ≡ i → part (p ++ q) (i + j) n ≡ part q j n
 unfolding part
 part-past p q i j n e = rw (← e, drop-append-add)

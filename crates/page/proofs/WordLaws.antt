@@ -3,6 +3,7 @@ use Prim.Native.Nat.{ℕ, zero, suc, _+_, _*_, _/_, _%_, _^_, _<_, _≤_}
 use native.Mathlib.Omega.{arith}
 use native.Mathlib.Nat.{pow-suc, zero-add, suc-add}
 use mathlib.Core.Path.{_≡_, refl, ap, _∙_}
+use mathlib.Core.Bool.{Bool, _&&_}
 use mathlib.Core.List.{List, [], _∷_, _++_, append-assoc}
 use lib.ListN.{length, getD, set, take, drop}
 use lib.Seq.{drop-cons, drop-drop, take-nil, sets-eq}
@@ -10,7 +11,7 @@ use lib.Dec.{eqb}
 use borrow.Author.Tests.{eqb-true, eq-eqb}
 use Rattle.base.specs.Part.{part, splice}
 use Rattle.base.specs.Each.{same}
-use Rattle.base.proofs.Choice.{both-ways}
+use Rattle.base.proofs.Choice.{and-assoc, both-ways}
 use Rattle.base.proofs.Eachs.{same-true, same-refl}
 use Rattle.page.specs.Word.{wordBytes}
 
@@ -41,6 +42,11 @@ bytes-joined (suc n) m k low high e h =
     let r : (low + high * 256 ^ suc n) % 256 ≡ low % 256 = rw q (omega arith) in
     let s : (low + high * 256 ^ suc n) / 256 ≡ low / 256 + high * 256 ^ n = rw q (omega arith) in
     rw f (cons-eq r (ap (wordBytes (n + m)) s ∙ bytes-joined n m (n + m) (low / 256) high refl (omega (arith, p))))
+
+pub word-length : (n w : ℕ) → length (wordBytes n w) ≡ n
+unfolding wordBytes
+word-length zero w = refl
+word-length (suc n) w = ap suc (word-length n (w / 256))
 
 -- ---- numbers of n bytes are the same where their bytes are
 pub word-is : (n v w : ℕ) → v < 256 ^ n → w < 256 ^ n → wordBytes n v ≡ wordBytes n w → v ≡ w
@@ -103,3 +109,11 @@ take-join (suc m) n (y ∷ ys) = rw (suc-add m n) (cons-eq refl (take-join m n y
 pub part-join : (xs : List ℕ) (a m n : ℕ) → part xs a m ++ part xs (a + m) n ≡ part xs a (m + n)
 unfolding part
 part-join xs a m n = rw (← drop-drop m a xs) (take-join m n (drop a xs))
+
+-- ---- lists compared in two parts
+pub same-append : (a b c d : List ℕ) → length a ≡ length c → same (a ++ b) (c ++ d) ≡ same a c && same b d
+unfolding same
+same-append [] b [] d e = refl
+same-append [] b (y ∷ ys) d e = absurd (omega arith)
+same-append (x ∷ xs) b [] d e = absurd (omega arith)
+same-append (x ∷ xs) b (y ∷ ys) d e = ap (λ (t : Bool). eqb x y && t) (same-append xs b ys d (omega arith)) ∙ and-assoc (eqb x y) (same xs ys) (same b d)

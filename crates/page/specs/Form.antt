@@ -5,7 +5,7 @@ use mathlib.Core.List.{List}
 use Rattle.base.specs.Part.{part}
 use Rattle.base.specs.Each.{same, allAre}
 use Rattle.page.specs.Frame.{headerSize, closingAt, closingSize, closing, erased}
-use Rattle.page.specs.Header.{headerOf, headerWith, nodeWith}
+use Rattle.page.specs.Header.{headerOf, headerWith, nodeWith, withPart}
 use Rattle.page.specs.declared.Header.{Header}
 use Rattle.page.specs.declared.Header.the-variants.{Is, Invalid}
 use Rattle.page.specs.declared.Frame.{Frame}
@@ -43,3 +43,10 @@ wholeNode file offset p Empty = false
 wholeNode file offset p (Whole f) = nodeWith file offset p (Is f)
 wholeNode file offset p (Torn f) = false
 wholeNode file offset p Spoilt = false
+
+-- a whole page with the header of another whole page, but for the part
+abbrev pub wholeLike : Form → ℕ → Form → Bool
+wholeLike Empty n m = false
+wholeLike (Whole f) n m = wholeWith (withPart n f) m
+wholeLike (Torn f) n m = false
+wholeLike Spoilt n m = false

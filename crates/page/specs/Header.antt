@@ -170,3 +170,12 @@ headerWith h Invalid = false
 abbrev pub nodeWith : ℕ → ℕ → ℕ → Header → Bool
 nodeWith file offset p (Is f) = eqb (f .kind) nodeLetter && eqb (f .unit) file && eqb (f .part) offset && eqb (f .key) p
 nodeWith file offset p Invalid = false
+
+-- a header with another part
+abbrev pub withPart : ℕ → Frame → Frame
+withPart n f = record { kind = f .kind; number = f .number; unit = f .unit; part = n; key = f .key; second = f .second }
+
+-- the header that another is, but for the part
+abbrev pub headerLike : Header → ℕ → Header → Bool
+headerLike (Is f) n h = headerWith (withPart n f) h
+headerLike Invalid n h = false

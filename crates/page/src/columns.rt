@@ -78,6 +78,26 @@ pub fn put_at(dst: &mut [u8], at: usize, w: usize, n: u32)
     put(&mut dst[at..at + w], w, n);
 }
 
+// The four columns of a number below 10,000, as one word.
+pub fn spelt4(n: u32) -> u32
+    requires { ⌜ n < 10_000 ⌝ }
+    ensures { λ r. ⌜ wordBytes 4 r ≡ spell 4 n ⌝ }
+{
+    if n < 10 {
+        return 0x30202020 + n * 0x1000000;
+    }
+    let low = n % 100;
+    let tail = 0x30300000 + low / 10 * 0x10000 + low % 10 * 0x1000000;
+    if n < 100 {
+        return tail + 0x2020;
+    }
+    let high = n / 100;
+    if n < 1000 {
+        return tail + 0x3020 + high * 0x100;
+    }
+    tail + 0x3030 + high / 10 + high % 10 * 0x100
+}
+
 // A digit's value; 0 for any other byte.
 fn digit_of(b: u8) -> u32
     ensures { λ r. ⌜ r ≡ digit b ⌝ }

@@ -6,6 +6,7 @@ use crate::bytes;
 use crate::columns;
 use crate::keys;
 use crate::plan;
+use crate::words;
 ghost use mathlib.Core.Path.{_≡_};
 ghost use Prim.Native.Nat.{_≤_, _<_, _+_, _*_};
 ghost use lib.ListN.{length, getD};
@@ -66,7 +67,7 @@ fn is_vacant(src: &[u8]) -> bool
     requires { ⌜ length (now src) ≡ entrySize ⌝ }
     ensures { λ r. ⌜ r ≡ same (old src) vacantEntry ⌝ }
 {
-    bytes::same(src, b"   -   -")
+    words::same8(src, 0, b"   -   -", 0)
 }
 
 // The entry that 8 bytes are.

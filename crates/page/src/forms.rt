@@ -2,15 +2,19 @@
 use crate::Form;
 use crate::Frame;
 use crate::Header;
-use crate::bytes;
 use crate::headers;
+use crate::words;
 ghost use mathlib.Core.Path.{_≡_};
 ghost use mathlib.Core.Bool.{true};
+ghost use Prim.Native.Nat.{_<_};
 ghost use lib.ListN.{length};
 ghost use Rattle.base.specs.Lent.{old};
 ghost use Rattle.page.specs.Frame.{pageSize};
-ghost use Rattle.page.specs.Header.{nodeFrame, inRange};
-ghost use Rattle.page.specs.Form.{isEmpty, closed, formOf, wholeWith, wholeNode};
+ghost use Rattle.page.specs.declared.Frame.{Frame as HeaderFrame};
+ghost use Rattle.page.specs.Header.{nodeFrame, inRange, withPart};
+ghost use Rattle.page.specs.Column.{spell};
+ghost use Rattle.page.specs.Word.{wordBytes};
+ghost use Rattle.page.specs.Form.{isEmpty, closed, formOf, wholeWith, wholeNode, wholeLike};
 
 // Whether all bytes are FFh. The loop has no other way out, so that it goes over many bytes at once.
 fn all_erased(bytes: &[u8]) -> bool
@@ -43,7 +47,7 @@ fn is_closed(page: &[u8]) -> bool
     requires { ⌜ length (now page) ≡ pageSize ⌝ }
     ensures { λ r. ⌜ r ≡ closed (old page) ⌝ }
 {
-    bytes::same(&page[Frame::CLOSING_AT..Frame::PAGE], b"\r\n")
+    words::same2(page, Frame::CLOSING_AT, b"\r\n", 0)
 }
 
 // The form of a page.
@@ -77,10 +81,20 @@ pub fn is_whole_with(page: &[u8], f: Frame) -> bool
     headers::is_header_of(&page[0..Frame::HEADER], f) & is_closed(page)
 }
 
-// Whether a page is a whole node with these fields, of any sequence.
-pub fn is_whole_node(page: &[u8], file: u32, offset: u32, position: u32) -> bool
-    requires { ⌜ (length (now page) ≡ pageSize) × (inRange (nodeFrame 1 file offset position) ≡ true) ⌝ }
+// Whether a page is a whole node with these fields, of any sequence. The file's columns are given as they are spelt.
+pub fn is_whole_node(page: &[u8], file: u32, text: u32, offset: u32, position: u32) -> bool
+    requires { ⌜ (length (now page) ≡ pageSize) × (inRange (nodeFrame 1 file offset position) ≡ true) × (wordBytes 4 text ≡ spell 4 file) ⌝ }
     ensures { λ r. ⌜ r ≡ wholeNode file offset position (formOf (old page)) ⌝ }
 {
-    headers::is_node_of(&page[0..Frame::HEADER], file, offset, position) & is_closed(page)
+    headers::is_node_of(&page[0..Frame::HEADER], file, text, offset, position) & is_closed(page)
+}
+
+// Whether a page is whole, with the header of the first page, which is whole, but for the part.
+pub fn is_whole_like(first: &[u8], page: &[u8], part: u32) -> bool
+    requires { ⌜ (length (now first) ≡ pageSize) × (length (now page) ≡ pageSize) × (part < 10_000) ⌝ }
+    requires { ⌜ ((f : HeaderFrame) × (formOf (now first) ≡ Form.Whole f) × (inRange (withPart part f) ≡ true)) ⌝ }
+    ensures { λ r. ⌜ r ≡ wholeLike (formOf (old first)) part (formOf (old page)) ⌝ }
+{
+    headers::is_header_like(&first[0..Frame::HEADER], &page[0..Frame::HEADER], part)
+        & is_closed(page)
 }

@@ -6,14 +6,20 @@ use crate::bytes;
 use crate::columns;
 use crate::keys;
 use crate::plan;
+use crate::words;
 ghost use mathlib.Core.Path.{_≡_};
 ghost use mathlib.Core.Bool.{true, _||_};
+ghost use mathlib.Core.List.{_++_};
+ghost use Prim.Native.Nat.{_<_};
 ghost use lib.ListN.{length};
 ghost use Rattle.base.specs.Lent.{old, new};
-ghost use Rattle.base.specs.Part.{part};
+ghost use Rattle.base.specs.Part.{part, splice};
 ghost use Rattle.base.specs.Each.{same};
 ghost use Rattle.page.specs.Frame.{headerSize, colonSpace};
-ghost use Rattle.page.specs.Header.{lastNumber, isKind, within, inPlan, nodeRanges, cutOffRanges, keysRanges, commitRanges, inRange, nodeFrame, headerBytes, headerOf, headerWith, nodeWith};
+ghost use Rattle.page.specs.Header.{lastNumber, isKind, within, inPlan, nodeRanges, cutOffRanges, keysRanges, commitRanges, inRange, nodeFrame, headerBytes, headerOf, headerWith, nodeWith, unitAt, unitWidth, partAt, partWidth, withPart, headerLike};
+ghost use Rattle.page.specs.Word.{wordBytes};
+ghost use Rattle.page.specs.Column.{spell};
+ghost use Rattle.page.specs.declared.Frame.{Frame as HeaderFrame};
 
 // Where each number's columns start and how many there are; the kind letter is before them, colon and space after them.
 const NUMBER_AT: usize = 1;
@@ -190,17 +196,6 @@ pub fn read_header(src: &[u8]) -> Header
     read_fields(src)
 }
 
-// Writes the header of a node of sequence 1: only file, offset and position are spelt.
-fn write_first_node(dst: &mut [u8], file: u32, offset: u32, position: u32)
-    requires { ⌜ length (now dst) ≡ headerSize ⌝ }
-    ensures { λ _. ⌜ new dst ≡ headerBytes (nodeFrame 1 file offset position) ⌝ }
-{
-    bytes::copy(dst, b"N       1  0   0   0       0: ");
-    columns::put_at(dst, UNIT_AT, UNIT_COLUMNS, file);
-    columns::put_at(dst, PART_AT, PART_COLUMNS, offset);
-    columns::put_at(dst, KEY_AT, KEY_COLUMNS, position);
-}
-
 // Whether 30 bytes are the header of f: they are compared with its spelling.
 pub fn is_header_of(src: &[u8], f: Frame) -> bool
     requires { ⌜ (length (now src) ≡ headerSize) × (inRange f ≡ true) ⌝ }
@@ -211,17 +206,46 @@ pub fn is_header_of(src: &[u8], f: Frame) -> bool
     bytes::same(src, &expected)
 }
 
-// Whether 30 bytes are the header of a node with these fields: only the sequence is read.
-pub fn is_node_of(src: &[u8], file: u32, offset: u32, position: u32) -> bool
-    requires { ⌜ (length (now src) ≡ headerSize) × (inRange (nodeFrame 1 file offset position) ≡ true) ⌝ }
+// Whether the columns of a header are those of a file and an offset. The file's are given as they are spelt.
+fn is_place(src: &[u8], file: u32, text: u32, offset: u32) -> bool
+    requires { ⌜ (length (now src) ≡ headerSize) × (wordBytes 4 text ≡ spell 4 file) × (offset < 10_000) ⌝ }
+    ensures { λ r. ⌜ r ≡ same (part (old src) unitAt 7) (spell unitWidth file ++ spell partWidth offset) ⌝ }
+{
+    let place = (text / 0x100) as u64 + (columns::spelt4(offset) as u64) * 0x1000000;
+    words::word8(src, UNIT_AT - 1) / 0x100 == place
+}
+
+// Whether 30 bytes are the header of a node with these fields: only the sequence is read. The file's columns are given as they are spelt.
+pub fn is_node_of(src: &[u8], file: u32, text: u32, offset: u32, position: u32) -> bool
+    requires { ⌜ (length (now src) ≡ headerSize) × (inRange (nodeFrame 1 file offset position) ≡ true) × (wordBytes 4 text ≡ spell 4 file) ⌝ }
     ensures { λ r. ⌜ r ≡ nodeWith file offset position (headerOf (old src)) ⌝ }
 {
-    let mut expected = [0u8; Frame::HEADER];
-    write_first_node(&mut expected, file, offset, position);
     (src[0] == Frame::NODE_LETTER)
-        & bytes::same(
-            &src[UNIT_AT..Frame::HEADER],
-            &expected[UNIT_AT..Frame::HEADER],
-        )
-        & columns::is_from_one(&src[NUMBER_AT..UNIT_AT])
+        & is_place(src, file, text, offset)
+        & words::is_word4(src, KEY_AT, columns::spelt4(position))
+        & words::same8(src, SECOND_AT, b"       0: ", 0)
+        & words::same2(src, END_AT, b"       0: ", 8)
+        & columns::is_counted(words::word8(src, NUMBER_AT))
+}
+
+// Whether 30 bytes are the header that first are, but for the part: all others are compared with theirs.
+pub fn is_header_like(first: &[u8], src: &[u8], part: u32) -> bool
+    requires { ⌜ (length (now first) ≡ headerSize) × (length (now src) ≡ headerSize) × (part < 10_000) ⌝ }
+    requires { ⌜ ((f : HeaderFrame) × (headerOf (now first) ≡ Header.Is f) × (inRange (withPart part f) ≡ true)) ⌝ }
+    ensures { λ r. ⌜ r ≡ headerLike (headerOf (old first)) part (headerOf (old src)) ⌝ }
+{
+    words::same8(src, 0, first, 0)
+        & words::same4(src, 8, first, 8)
+        & words::is_word4(src, PART_AT, columns::spelt4(part))
+        & words::same8(src, KEY_AT, first, KEY_AT)
+        & words::same4(src, 24, first, 24)
+        & words::same2(src, END_AT, first, END_AT)
+}
+
+// Puts a part into the 30 bytes of a header.
+pub fn put_part(dst: &mut [u8], part: u32)
+    requires { ⌜ (length (now dst) ≡ headerSize) × (part < 10_000) ⌝ }
+    ensures { λ _. ⌜ new dst ≡ splice (old dst) partAt (spell partWidth part) ⌝ }
+{
+    words::put_word4(dst, PART_AT, columns::spelt4(part));
 }

@@ -5,6 +5,7 @@ ghost use Prim.Native.Nat.{_≤_, _<_, _+_};
 ghost use lib.ListN.{length};
 ghost use Rattle.base.specs.Lent.{old, new};
 ghost use Rattle.base.specs.Part.{part, splice};
+ghost use Rattle.base.specs.Each.{same};
 ghost use Rattle.page.specs.Word.{wordBytes};
 
 // The number of two bytes.
@@ -50,6 +51,38 @@ pub fn word8(src: &[u8], at: usize) -> u64
     ensures { λ r. ⌜ wordBytes 8 r ≡ part (old src) at 8 ⌝ }
 {
     eight(word4(src, at), word4(src, at + 4))
+}
+
+// Whether two bytes of a from i on are those of b from j on.
+pub fn same2(a: &[u8], i: usize, b: &[u8], j: usize) -> bool
+    requires { ⌜ (i + 2 ≤ length (now a)) × (j + 2 ≤ length (now b)) ⌝ }
+    ensures { λ r. ⌜ r ≡ same (part (old a) i 2) (part (old b) j 2) ⌝ }
+{
+    word2(a, i) == word2(b, j)
+}
+
+// The same of four bytes.
+pub fn same4(a: &[u8], i: usize, b: &[u8], j: usize) -> bool
+    requires { ⌜ (i + 4 ≤ length (now a)) × (j + 4 ≤ length (now b)) ⌝ }
+    ensures { λ r. ⌜ r ≡ same (part (old a) i 4) (part (old b) j 4) ⌝ }
+{
+    word4(a, i) == word4(b, j)
+}
+
+// The same of eight bytes.
+pub fn same8(a: &[u8], i: usize, b: &[u8], j: usize) -> bool
+    requires { ⌜ (i + 8 ≤ length (now a)) × (j + 8 ≤ length (now b)) ⌝ }
+    ensures { λ r. ⌜ r ≡ same (part (old a) i 8) (part (old b) j 8) ⌝ }
+{
+    word8(a, i) == word8(b, j)
+}
+
+// Whether four bytes of a from i on are those of the word w.
+pub fn is_word4(a: &[u8], i: usize, w: u32) -> bool
+    requires { ⌜ i + 4 ≤ length (now a) ⌝ }
+    ensures { λ r. ⌜ r ≡ same (part (old a) i 4) (wordBytes 4 w) ⌝ }
+{
+    word4(a, i) == w
 }
 
 // Writes the four bytes of w into dst from at on.

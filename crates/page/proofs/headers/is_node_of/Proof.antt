@@ -1,77 +1,73 @@
 -- `page::headers::is_node_of` meets its contract: all but the sequence is compared with its spelling.
-use borrow.Author.Needs.{needs}
 use denote.Ref.{now}
 use Rattle.base.specs.Part.{part}
-use Rattle.page.proofs.HeaderTests.{fields-decide}
+use Rattle.page.specs.Column.{spell, columns}
+use Rattle.page.proofs.HeaderParts.{node-decides, node-small}
+use borrow.Author.Needs.{needs}
 use Rattle.page.proofs.headers.is_node_of.Statement.{statement}
 use Rattle.page.proofs.headers.is_node_of.Tie as tie
-
-slice-aggregate-write-first-node : tie.Need-slice-aggregate-write-first-node
-slice-aggregate-write-first-node c = search needs
-
-write-first-node-requires : tie.Need-write-first-node-requires
-write-first-node-requires c κs = search needs
 
 shared-slice-read-result : tie.Need-shared-slice-read-result
 shared-slice-read-result c = search needs
 
-sub-same : tie.Need-sub-same
-sub-same c = search needs
+is-place-requires : tie.Need-is-place-requires
+is-place-requires c κs =
+    let s = c .before .before in
+    (s .pre .0, s .pre .2, node-small (now (s .args .src)) (s .args .file) (s .args .offset) (s .args .position) (s .pre .0) (s .pre .1) .0)
 
-part-same-start : tie.Need-part-same-start
-part-same-start c = search needs
+spelt4-requires : tie.Need-spelt4-requires
+spelt4-requires c κs =
+    let s = c .before .before .before in
+    node-small (now (s .args .src)) (s .args .file) (s .args .offset) (s .args .position) (s .pre .0) (s .pre .1) .1
 
-part-same-end : tie.Need-part-same-end
-part-same-end c = search needs
+is-word4-requires : tie.Need-is-word4-requires
+is-word4-requires c κs = search needs
 
-sub-same-2 : tie.Need-sub-same-2
-sub-same-2 c = search needs
+slice-aggregate-same8 : tie.Need-slice-aggregate-same8
+slice-aggregate-same8 c = search needs
 
-part-same-start-2 : tie.Need-part-same-start-2
-part-same-start-2 c = search needs
+same8-requires : tie.Need-same8-requires
+same8-requires c κs = search needs
 
-part-same-end-2 : tie.Need-part-same-end-2
-part-same-end-2 c = search needs
+slice-aggregate-same2 : tie.Need-slice-aggregate-same2
+slice-aggregate-same2 c = search needs
 
-same-requires : tie.Need-same-requires
-same-requires c κs = search needs
+same2-requires : tie.Need-same2-requires
+same2-requires c κs = search needs
 
-sub-is-from-one : tie.Need-sub-is-from-one
-sub-is-from-one c = search needs
+word8-requires : tie.Need-word8-requires
+word8-requires c κs = search needs
 
-part-is-from-one-start : tie.Need-part-is-from-one-start
-part-is-from-one-start c = search needs
-
-part-is-from-one-end : tie.Need-part-is-from-one-end
-part-is-from-one-end c = search needs
-
-is-from-one-requires : tie.Need-is-from-one-requires
-is-from-one-requires c κs = search needs
+is-counted-requires : tie.Need-is-counted-requires
+is-counted-requires c κs = search needs
 
 returns : tie.Need-returns
-unfolding part
+unfolding part spell columns
 returns c =
     let s = c .before .before .before .before .before .before .before .before .before .before .before in
-    let w = c .before .before .before .before .before .before .before .before in
-    rw (c .before .before .same .ensures, c .is-from-one .ensures, w .write-first-node .ensures)
-    (fields-decide (now (s .args .src)) (s .args .file) (s .args .offset) (s .args .position) (s .pre .0) (s .pre .1))
+    rw (
+      c .before .before .before .before .before .before .before .before .is-place .ensures,
+      c .before .before .before .before .before .before .is-word4 .ensures,
+      c .before .before .before .before .before .before .before .spelt4 .ensures,
+      c .before .before .before .before .same8 .ensures,
+      c .before .before .same2 .ensures,
+      c .is-counted .ensures,
+      c .before .word8 .ensures,
+    )
+    (node-decides (now (s .args .src)) (s .args .file) (s .args .offset) (s .args .position) (s .pre .0) (s .pre .1))
 
 pub is-node-of-spec : {M : Type 1} → statement M
 is-node-of-spec =
     tie.close
     (tie.spec
-    slice-aggregate-write-first-node
-    write-first-node-requires
     shared-slice-read-result
-    sub-same
-    part-same-start
-    part-same-end
-    sub-same-2
-    part-same-start-2
-    part-same-end-2
-    same-requires
-    sub-is-from-one
-    part-is-from-one-start
-    part-is-from-one-end
-    is-from-one-requires
+    is-place-requires
+    spelt4-requires
+    is-word4-requires
+    slice-aggregate-same8
+    same8-requires
+    slice-aggregate-same2
+    same2-requires
+    word8-requires
+    is-counted-requires
     returns)

@@ -93,6 +93,24 @@ impl Edit {
         Ok(())
     }
 
+    /// Whether it changes nothing but the body of the function that it names. What a function is held to is
+    /// its own code and the contracts of those that it calls, so no other function's proof sees such an edit.
+    pub fn is_in_body(&self, folder: &Path) -> bool {
+        self.replacements.iter().all(|Replacement { file, old, .. }| {
+            let text = fs::read_to_string(folder.join(file)).unwrap_or_default();
+            let function = text.find(old.as_str()).and_then(|at| function_at(&text, at));
+            let module = file.strip_prefix("src/").and_then(|path| path.strip_suffix(".rt"));
+            let path = match (module, function) {
+                (Some("lib"), Some(function)) => function.to_string(),
+                (Some(module), Some(function)) => {
+                    format!("{}::{function}", module.replace('/', "::"))
+                }
+                _ => return false,
+            };
+            self.place.split_once("::").is_some_and(|(_, place)| place == path)
+        })
+    }
+
     /// Makes the edit in the crate's folder. Gives each file as it was before a replacement in it.
     pub fn make(&self, folder: &Path) -> Result<Made, String> {
         let mut made = Made { before: Vec::new(), code: false };
@@ -138,6 +156,20 @@ impl Edit {
         }
     }
 
+    /// Whether the prover's account shows a failure that is at the place of none of the edits and does not
+    /// follow from another.
+    pub fn fails_elsewhere(edits: &[&Edit], account: &str) -> bool {
+        let at_error = |error: &Failure| {
+            let here = edits.iter().any(|edit| error.path.ends_with(&edit.file()));
+            !here && !is_consequence(&error.text)
+        };
+        let at_line = |line: &str| {
+            let here = edits.iter().any(|edit| unclosed(line, &edit.place).is_some());
+            !here && line.starts_with("fn ") && line.contains(NOT_FOUND)
+        };
+        Failure::all(account).iter().any(at_error) || account.lines().any(at_line)
+    }
+
     /// The file of proofs of the place.
     fn file(&self) -> String {
         match self.place.split_once("::") {
@@ -148,6 +180,11 @@ impl Edit {
 }
 
 impl Verdict {
+    /// Whether a fact fails, if what a program does with the edit does not speak against it.
+    pub fn counts_if_run(&self) -> bool {
+        matches!(self, Verdict::Refused(_) | Verdict::Useless(_))
+    }
+
     /// The verdict once the program over the libraries was run with the edit: whether it then does
     /// something else; nothing where the edit cannot be run.
     pub fn with_run(self, differs: Option<bool>) -> Verdict {
@@ -199,6 +236,24 @@ fn code_of(text: &str) -> Vec<&str> {
     text.lines().filter(is_run).collect()
 }
 
+/// The function, at the top of a module, whose body has this byte of a source.
+fn function_at(text: &str, at: usize) -> Option<&str> {
+    let (mut function, mut inside, mut start) = (None, false, 0);
+    for line in text.split_inclusive('\n') {
+        let head =
+            line.split_once("fn ").filter(|(head, _)| head.is_empty() || head.ends_with(' '));
+        if let (Some((_, rest)), false) = (head, line.starts_with([' ', '/'])) {
+            function = rest.split(['(', '<']).next();
+        }
+        inside = (inside || line == "{\n") && line != "}\n";
+        start += line.len();
+        if at < start {
+            return function.filter(|_| inside);
+        }
+    }
+    None
+}
+
 // ---- The prover's account
 
 /// An error of an account: `PATH:LINE:COLUMN: error: TEXT`, and the lines set in below it.
@@ -238,6 +293,9 @@ fn unclosed(line: &str, function: &str) -> Option<String> {
     Some(text.split("; ").last().unwrap_or(text).to_string())
 }
 
+/// How it is said that nothing is found that proves what is asked of a function without a file of proofs.
+const NOT_FOUND: &str = "`search` does not close";
+
 /// Whether an error only follows from another.
 fn is_consequence(text: &str) -> bool {
     text.contains("so this cannot be checked")
@@ -262,7 +320,7 @@ fn is_fact(text: &str) -> bool {
     let (name, said) = text.split_once(": ").unwrap_or(("", text));
     let of_a_loop = name.starts_with("`Inv-") || name.starts_with("`μ-");
     let fact = FACTS.iter().any(|fact| said.contains(fact));
-    let not_found = text.starts_with("`search` does not close");
+    let not_found = text.starts_with(NOT_FOUND);
     (fact || not_found) && !of_a_loop && !said.contains("`tie.Need-")
 }
 
@@ -274,7 +332,7 @@ fn is_useless(text: &str) -> bool {
 
 #[cfg(test)]
 mod tests {
-    use super::{code_of, Edit, Verdict};
+    use super::{code_of, function_at, Edit, Verdict};
 
     fn edit(place: &str) -> Edit {
         let text = format!("refused: {place}\nfile: src/lib.rt\nold: a\nnew: b\n");
@@ -317,6 +375,37 @@ mod tests {
         assert_eq!(code_of(source), ["fn f() -> u8", "{", "    1", "}"]);
         let one_line = "    ensures { λ r. ⌜ r ≡ a ⌝ }\n{\n}\n";
         assert_eq!(code_of(one_line), ["{", "}"]);
+    }
+
+    #[test]
+    fn functions_by_their_bodies() {
+        let function = "// A fn that\npub(crate) fn f<'a>(x: &'a u8) -> u8\n    ensures { ⌜ b ⌝ }\n{\n    c\n}\n";
+        let method = "impl D {\n    fn g() {\n        e\n    }\n}\n";
+        let source = ["const A: u8 = 1;\n", function, method, "fn h()\n{\n    i\n}\n"].join("\n");
+        let around = |text: &str| function_at(&source, source.find(text).expect("it stands there"));
+        assert_eq!(around("    c\n"), Some("f"));
+        assert_eq!(around("    i\n"), Some("h"));
+        for text in ["A: u8", "⌜ b", "    e\n"] {
+            assert_eq!(around(text), None, "{text}");
+        }
+    }
+
+    #[test]
+    fn failures_elsewhere() {
+        let edit = edit("page::keys::slot_of");
+        let fails = |text: &str| Edit::fails_elsewhere(&[&edit], text);
+        let of = |path: &str, text: &str| {
+            format!("/tmp/crates/page/proofs/{path}/Proof.antt:1:2: error: `returns`: {text}")
+        };
+        let consequence = "`close` was not admitted (it was rejected), so this cannot be checked";
+        assert!(!fails(&of("keys/slot_of", "the two types first differ where")));
+        assert!(!fails(&of("keys/page_of", consequence)));
+        assert!(fails(&of("keys/page_of", "the two types first differ where")));
+        let search = |function: &str| {
+            format!("fn page::keys::{function}: no proof: expected it; `search` does not close `returns`")
+        };
+        assert!(!fails(&search("slot_of")));
+        assert!(fails(&search("page_of")));
     }
 
     #[test]

@@ -9,7 +9,7 @@ ghost use Rattle.base.specs.Lent.{old};
 ghost use Rattle.page.specs.Frame.{pageSize, payloadSize};
 ghost use Rattle.page.specs.Page.{payloadOf};
 ghost use Rattle.image.specs.Size.{blockSize, blocks as blocksIn, pages as pagesIn, sizeRight};
-ghost use Rattle.image.specs.Look.{pageAt, letterAt, formAt, pageEmpty, blockEmpty, lowestEmpty, emptyBlocks};
+ghost use Rattle.image.specs.Look.{pageAt, letterAt, formAt, pageEmpty, blockEmpty, lowestEmpty};
 
 // A block has 4,096 bytes, 16 pages.
 pub const BLOCK_SIZE: usize = 4096;
@@ -122,20 +122,4 @@ pub fn lowest_empty(image: &[u8]) -> usize
         b += 1;
     }
     b
-}
-
-// How many blocks are empty.
-pub fn empty_blocks(image: &[u8]) -> usize
-    ensures { λ r. ⌜ (r ≡ emptyBlocks (old image)) × (r ≤ blocksIn (old image)) ⌝ }
-{
-    let n = image.len() / BLOCK_SIZE;
-    let mut b = 0;
-    let mut count = 0;
-    while b < n {
-        if block_empty(image, b) {
-            count += 1;
-        }
-        b += 1;
-    }
-    count
 }

@@ -7,7 +7,7 @@ use mathlib.Core.Bool.{Bool, true, false, cond}
 use mathlib.Core.List.{List, [], _∷_}
 use lib.ListN.{length, getD, List·getD-eq-default}
 use lib.Dec.{eqb, ltb, eqb→eq}
-use borrow.Author.Tests.{lt-ltb, le-ltb, ltb-true}
+use borrow.Author.Tests.{lt-ltb, ltb-true}
 use Rattle.base.proofs.Eachs.{table-rule}
 use Rattle.page.specs.Plan.{filePlan, lastFile, places, countOf, startOf, placeOf}
 use Rattle.page.specs.declared.Place.the-variants.{At, Outside}
@@ -43,10 +43,6 @@ module _ (plan : List ℕ) (file offset : ℕ) where
   pub place-at : offset < countOf plan file → placeOf plan file offset ≡ At (startOf plan file + offset)
   unfolding placeOf
   place-at h = rw (lt-ltb offset (countOf plan file) h)
-
-  pub place-outside : countOf plan file ≤ offset → placeOf plan file offset ≡ Outside
-  unfolding placeOf
-  place-outside h = rw (le-ltb offset (countOf plan file) h)
 
   -- what it says that a node has the place x
   pub place-is : (x : ℕ) → placeOf plan file offset ≡ At x → (offset < countOf plan file) × (startOf plan file + offset ≡ x)

@@ -1,8 +1,7 @@
-// The file plan: how many nodes each file holds, and a node's place.
-use crate::Place;
+// The file plan: how many nodes each file holds, and the file of a place.
 ghost use mathlib.Core.Path.{_≡_};
 ghost use Prim.Native.Nat.{_≤_, _<_, _+_};
-ghost use Rattle.page.specs.Plan.{filePlan, lastFile, places, countOf, startOf, placeOf};
+ghost use Rattle.page.specs.Plan.{filePlan, lastFile, places, countOf, startOf};
 
 // The counts of files 0 to 13, and for each file the sum of the counts before it.
 const COUNTS: [u32; 14] = [32, 32, 24, 24, 16, 16, 16, 16, 8, 8, 8, 8, 8, 8];
@@ -48,17 +47,6 @@ pub fn start(file: u32) -> u32
     ensures { λ r. ⌜ r ≡ startOf filePlan file ⌝ }
 {
     STARTS[file as usize]
-}
-
-// The place of a node.
-pub fn place(file: u32, offset: u32) -> Place
-    ensures { λ r. ⌜ r ≡ placeOf filePlan file offset ⌝ }
-{
-    if offset < count(file) {
-        Place::At((start(file) + offset) as usize)
-    } else {
-        Place::Outside
-    }
 }
 
 // The file of a place.

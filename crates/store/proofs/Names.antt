@@ -1,32 +1,24 @@
 -- A table of the positions that the places of a map name, filled place by place: what it says so far, and of the whole map.
-use Prim.Native.Nat.{ℕ, _+_, _-_, _<_, _≤_}
+use Prim.Native.Nat.{ℕ, zero, suc, _+_, _<_, _≤_}
 use native.Mathlib.Omega.{arith}
 use native.Mathlib.Decide.{ℕ-discrete, decLt}
 use native.Mathlib.Nat.{zero-add, add-zero}
+use native.Mathlib.Numerals.{add-one}
 use mathlib.Core.Path.{_≡_, refl, sym, ap, _∙_}
 use mathlib.Core.Bool.{Bool, true, false, cond, Bool·beq, _&&_}
 use mathlib.Core.List.{List}
 use lib.Dec.{eqb, leb}
 use lib.ListN.{length, getD, set, replicate, length-set, length-replicate, getD-replicate, List·getD-eq-default}
-use lib.Seq.{getD-set-same, getD-set-other}
-use borrow.Author.Tests.{eq-eqb, ne-eqb, le-leb, lt-leb}
-use Rattle.base.specs.Search.{countFrom, allFrom}
-use Rattle.base.proofs.Choice.{true-false}
+use lib.Seq.{getD-set-same, getD-set-other, set-out}
+use borrow.Author.Tests.{eqb-true, eq-eqb, ne-eqb, le-leb, lt-leb}
+use Rattle.base.specs.Search.{allFrom}
+use Rattle.base.proofs.Choice.{and-true, true-false}
 use Rattle.base.proofs.Searches.{count-next, count-none, all-holds, all-intro, all-agree}
 use Rattle.page.specs.Plan.{places}
 use Rattle.page.specs.Key.{positions}
-use Rattle.page.specs.Entry.{isLetter, usedLetter}
-use Rattle.store.specs.Record.{keyOf, namedTimes, keysApart, lettersFit}
-
--- how many of the places from x on name position p
-abbrev left : List ℕ → ℕ → ℕ → ℕ
-left map x p = countFrom (λ y. eqb (keyOf map y) p) (places - x) x
-
--- the places before x name each position as often as the table says, and that is once at most
-pub record Tallied (map named : List ℕ) (x : ℕ) : Type 0 where
-  pub size : length named ≡ positions
-  pub few : (p : ℕ) → p < positions → getD named p 0 ≤ 1
-  pub times : (p : ℕ) → p < positions → namedTimes map p ≡ getD named p 0 + left map x p
+use Rattle.page.specs.Entry.{none, isLetter, usedLetter}
+use Rattle.store.specs.Record.{pageOf, keyOf, vacantAt, namedTimes, keysApart, lettersFit}
+use Rattle.store.specs.Testing.{namedFrom, Tallied}
 
 -- ---- before the first place
 zeros : (n : ℕ) (named : List ℕ) → named ≡ replicate n 0 → (length named ≡ n) × ((p : ℕ) → p < n → getD named p 0 ≡ 0)
@@ -45,7 +37,7 @@ tallied-none map named e =
 -- ---- place x, whose key is k
 module _ (map named : List ℕ) (x : ℕ) (inside : x < places) (tallied : Tallied map named x) where
   marked : (p : ℕ) → p < positions → getD named (keyOf map x) 0 ≡ 0 → Dec (p ≡ keyOf map x)
-      → (getD (set named (keyOf map x) 1) p 0 ≤ 1) × (namedTimes map p ≡ getD (set named (keyOf map x) 1) p 0 + left map (x + 1) p)
+      → (getD (set named (keyOf map x) 1) p 0 ≤ 1) × (namedTimes map p ≡ getD (set named (keyOf map x) 1) p 0 + namedFrom map (x + 1) p)
   marked p h z (yes e) =
       let size = tallied .size in
       let now : getD (set named (keyOf map x) 1) p 0 ≡ 1 = rw e (getD-set-same named (keyOf map x) 1 0 (omega arith)) in
@@ -62,9 +54,15 @@ module _ (map named : List ℕ) (x : ℕ) (inside : x < places) (tallied : Talli
   tallied-next next k a z e =
       rw (e, a)
       (let y : getD named (keyOf map x) 0 ≡ 0 = rw a at z in
-      let m : (p : ℕ) → p < positions → (getD (set named (keyOf map x) 1) p 0 ≤ 1) × (namedTimes map p ≡ getD (set named (keyOf map x) 1) p 0 + left map (x + 1) p)
+      let m : (p : ℕ) → p < positions → (getD (set named (keyOf map x) 1) p 0 ≤ 1) × (namedTimes map p ≡ getD (set named (keyOf map x) 1) p 0 + namedFrom map (x + 1) p)
       = λ p h. marked p h y (ℕ-discrete p (keyOf map x)) in
       record { size = length-set named (keyOf map x) 1 ∙ tallied .size; few = λ p h. m p h .0; times = λ p h. m p h .1 })
+
+  -- a key that is none is no position: nothing is marked
+  pub tallied-unnamed : keyOf map x ≡ none → Tallied map named (x + 1)
+  tallied-unnamed e =
+      let size = tallied .size in
+      tallied-next named (keyOf map x) refl (List·getD-eq-default named 0 (omega arith)) (sym (set-out named (keyOf map x) 1 (omega arith)))
 
   -- named before: a key is named twice
   pub tallied-twice : (k : ℕ) → k ≡ keyOf map x → (getD named k 0 ≡ 0 → ⊥) → keysApart map ≡ false
@@ -87,6 +85,16 @@ module _ (map named : List ℕ) (x : ℕ) (inside : x < places) (tallied : Talli
       go true e = absurd (true-false (all-holds (λ p. leb (namedTimes map p) 1) positions 0 k e (omega arith) (omega (arith, position))) (lt-leb _ _ twice))
       go false e = refl
 
+-- vacant places in a row
+pub tallied-run : (map named : List ℕ) (n x : ℕ) → x + n ≤ places → allFrom (vacantAt map) n x ≡ true → Tallied map named x → Tallied map named (x + n)
+unfolding allFrom
+tallied-run map named zero x h e t = rw add-zero t
+tallied-run map named (suc n) x h e t =
+    let a = and-true (vacantAt map x) (allFrom (vacantAt map) n (suc x)) e in
+    let key = eqb-true _ _ (and-true (eqb (pageOf map x) none) (eqb (keyOf map x) none) (a .0) .1) in
+    let k : x + suc n ≡ suc x + n = omega arith in
+    rw k (tallied-run map named n (suc x) (omega arith) (a .1) (rw add-one at (tallied-unnamed map named x (omega arith) t key)))
+
 -- ---- after the last place: no key is named twice, and the table says how often each position is
 pub tallied-all : (map named : List ℕ) (x : ℕ) → places ≤ x → Tallied map named x → (p : ℕ) → p < positions → namedTimes map p ≡ getD named p 0
 tallied-all map named x l t p h =
@@ -106,12 +114,3 @@ pub letters-by-table : (map letters named : List ℕ) → ((p : ℕ) → p < pos
 unfolding lettersFit
 letters-by-table map letters named t =
     all-agree _ _ positions 0 (λ p a b. let h : p < positions = omega arith in rw (t p h))
-
--- ---- the tests of a record in another order
-pub letters-unfit : (x k l : Bool) → k && l ≡ false → x && k && l ≡ false
-letters-unfit true k l e = e
-letters-unfit false k l e = refl
-
-pub letters-right : (x k l : Bool) → k && l ≡ true → x && k && l ≡ x
-letters-right true k l e = e
-letters-right false k l e = refl

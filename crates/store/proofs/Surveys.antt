@@ -1,22 +1,28 @@
 -- One pass over the blocks, block by block: the first state, each step, and what it found at the end.
-use Prim.Native.Nat.{ℕ, _+_, suc, max}
+use Prim.Native.Nat.{ℕ, zero, suc, _+_, _-_, _*_, _≤_, max}
 use native.Mathlib.Omega.{arith}
 use native.Mathlib.Nat.{zero-add}
 use native.Mathlib.Numerals.{add-one}
-use mathlib.Core.Path.{_≡_, sym, ap, _∙_}
-use mathlib.Core.Bool.{cond}
+use mathlib.Core.Path.{_≡_, refl, sym, ap, _∙_}
+use mathlib.Core.Bool.{Bool, true, false, cond}
 use mathlib.Core.List.{List}
+use lib.ListN.{getD}
 use lib.Dec.{ltb}
-use Rattle.base.specs.Search.{highestFrom}
+use borrow.Author.Tests.{le-ltb}
+use Rattle.base.specs.Search.{firstFrom, highestFrom}
 use Rattle.base.proofs.Choice.{cond-ap}
-use Rattle.base.proofs.Searches.{highest-join}
-use Rattle.store.specs.Kind.{kindOf, keysEpoch, commitEpoch, coveredBy}
+use Rattle.base.proofs.Searches.{first-bounds, highest-join}
+use Rattle.page.specs.Frame.{pageSize}
+use Rattle.image.specs.Size.{blockSize, pagesInBlock, blocks}
+use Rattle.store.specs.Kind.{isBlockLetter, kindOf, keysEpoch, commitEpoch, coveredBy}
 use Rattle.store.specs.Mount.{rankOf, foremost, coveredIn, epochOf}
-use Rattle.store.specs.Survey.{bestOf, coveredAt, surveyOf, noBest, betterBy, noSurvey, surveyNext}
+use Rattle.store.specs.Survey.{bestOf, coveredAt, surveyOf, noBest, betterBy, noSurvey, surveyNext, isLettered, nextLettered}
 use Rattle.store.specs.declared.Found.{Found}
 use Rattle.store.specs.declared.Found.the-variants.{At}
+use Rattle.store.specs.declared.Kind.the-variants.{Other}
 use Rattle.store.specs.declared.survey.Best.{Best}
 use Rattle.store.specs.declared.survey.Survey.{Survey}
+use Rattle.store.proofs.BlockKinds.{kind-unlettered}
 use Rattle.store.proofs.Choices.{foremost-none, foremost-next}
 
 -- ---- the highest value, with one number more after the others
@@ -59,3 +65,38 @@ survey-next img b =
     rw add-one
     (same-parts (best-next (λ a. commitEpoch (kindOf img a)) b) (covered-next img b) (best-next (λ a. keysEpoch 0 (kindOf img a)) b) (best-next (λ a. keysEpoch 1 (kindOf img a)) b)
     (sym (highest-next (epochOf img) b)))
+
+-- ---- a block that begins with another byte than K and C leaves the survey as it is
+unlettered-other : (img : List ℕ) (b : ℕ) → isLettered img b ≡ false → kindOf img b ≡ Other
+unlettered-other img b e =
+    let at : b * pagesInBlock * pageSize ≡ b * blockSize = omega arith in
+    kind-unlettered img b (ap (λ (i : ℕ). isBlockLetter (getD img i 0)) (sym at) ∙ e)
+
+other-stays : (s : Survey) (b : ℕ) → surveyNext s b Other ≡ s
+unfolding surveyNext
+other-stays s b =
+    rw (le-ltb (s .commit .epoch) 0 (omega arith), le-ltb (s .keys0 .epoch) 0 (omega arith), le-ltb (s .keys1 .epoch) 0 (omega arith))
+    (same-parts refl refl refl refl (omega arith))
+
+survey-idle : (img : List ℕ) (b : ℕ) → isLettered img b ≡ false → surveyOf img (b + 1) ≡ surveyOf img b
+survey-idle img b e =
+    sym (survey-next img b) ∙ ap (surveyNext (surveyOf img b) b) (unlettered-other img b e) ∙ other-stays (surveyOf img b) b
+
+survey-first : (img : List ℕ) (n i : ℕ) → surveyOf img (firstFrom (isLettered img) n i) ≡ surveyOf img i
+unfolding firstFrom
+survey-first img zero i = refl
+survey-first img (suc n) i = go (isLettered img i) refl (survey-first img n (suc i))
+  where
+    go : (t : Bool) → isLettered img i ≡ t → surveyOf img (firstFrom (isLettered img) n (suc i)) ≡ surveyOf img (suc i)
+        → surveyOf img (cond t i (firstFrom (isLettered img) n (suc i))) ≡ surveyOf img i
+    go true e r = refl
+    go false e r = r ∙ rw add-one at (survey-idle img i e)
+
+-- so a pass may go from one block that begins so to the next
+pub survey-leap : (img : List ℕ) (i : ℕ) → surveyOf img i ≡ surveyOf img (nextLettered img i)
+unfolding nextLettered
+survey-leap img i = sym (survey-first img (blocks img - i) i)
+
+pub next-lettered-most : (img : List ℕ) (i : ℕ) → i ≤ blocks img → (i ≤ nextLettered img i) × (nextLettered img i ≤ blocks img)
+unfolding nextLettered
+next-lettered-most img i h = let f = first-bounds (isLettered img) (blocks img - i) i in (f .0, omega (arith, f .1))

@@ -2,6 +2,7 @@
 --   Reply     the replies and their numbers; tests in order
 --   Kind      whole key blocks, whole commit blocks, data blocks
 --   Record    the working record, and when it fits
+--   Testing   the test of all places, place by place
 --   Outcome   what a call leaves: reply, flash steps, record and lent buffer; and the same where the power fails
 --   Find      the lowest free key and the page that a write takes
 --   Format, Mount, Write, Read, CutOff, Commit, Wipe   the outcome of each call
@@ -14,6 +15,7 @@
 pub mod Reply
 pub mod Kind
 pub mod Record
+pub mod Testing
 pub mod Outcome
 pub mod Find
 pub mod Format

@@ -2,17 +2,19 @@
 use Prim.Native.Nat.{ℕ, _<_}
 use mathlib.Core.Path.{_≡_}
 use mathlib.Core.Bool.{Bool, cond, _&&_}
-use mathlib.Core.List.{List}
+use mathlib.Core.List.{List, map as each}
+use lib.Dec.{eqb}
 use lib.ListN.{getD, replicate}
 use Rattle.base.specs.Search.{highestFrom}
 use Rattle.base.specs.Fold.{listFrom}
 use Rattle.page.specs.Plan.{places}
 use Rattle.page.specs.Key.{positions}
-use Rattle.page.specs.Entry.{none, deletedLetter}
+use Rattle.page.specs.Entry.{none, usedLetter, deletedLetter}
 use Rattle.image.specs.Size.{blocks, pages}
 use Rattle.image.specs.Look.{formAt}
 use Rattle.store.specs.Kind.{hasEvents}
 use Rattle.store.specs.Record.{mapSize, keysApart}
+use Rattle.store.specs.Testing.{Tallied}
 use Rattle.store.specs.Mount.{mountMap, mountScratch, entriesFit, mountLetter, sequenceOf}
 use Rattle.store.specs.declared.rebuild.Rebuilt.{Rebuilt}
 use Rattle.store.specs.declared.rebuild.Rebuilt.the-variants.{Fits, Unfit}
@@ -27,6 +29,18 @@ highestSequence img = highestFrom (λ g. sequenceOf (formAt img g)) (pages img) 
 
 unfoldable pub rebuiltOf : List ℕ → ℕ → Rebuilt
 rebuiltOf img c = cond (mountFits img c) (Fits (highestSequence img)) Unfit
+
+-- letters as a table: 1 at u, else 0
+abbrev pub mark : ℕ → ℕ
+mark l = cond (eqb l usedLetter) 1 0
+
+abbrev pub marks : List ℕ → List ℕ
+marks letters = each mark letters
+
+-- the letters where u has been put at the positions that the places before x name, and the others are as they were given
+pub record Marked (map given letters : List ℕ) (x : ℕ) : Type 0 where
+  pub tallied : Tallied map (marks letters) x
+  pub kept : (p : ℕ) → p < positions → getD letters p 0 ≡ cond (eqb (getD letters p 0) usedLetter) usedLetter (getD given p 0)
 
 -- the lent lists after that; the events say of each block, by 1 or 0, whether an event stands in it
 pub record Rebuilding (img : List ℕ) (c : ℕ) (map letters scratch events : List ℕ) : Type 0 where

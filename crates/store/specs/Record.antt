@@ -41,6 +41,10 @@ keyOf map x = getD map (places + x) none
 abbrev pub live : List ℕ → ℕ → Bool
 live map x = ltb (pageOf map x) none
 
+-- a place that is none in both halves
+abbrev pub vacantAt : List ℕ → ℕ → Bool
+vacantAt map x = eqb (pageOf map x) none && eqb (keyOf map x) none
+
 abbrev pub isAt : ℕ → Place → Bool
 isAt x (At y) = eqb y x
 isAt x Outside = false
@@ -54,8 +58,7 @@ nodeAt x p Spoilt = false
 
 -- a place is vacant in both halves, or has a whole node of its own, under the key that the node names
 unfoldable pub placeFits : List ℕ → List ℕ → ℕ → Bool
-placeFits img map x =
-    cond (eqb (pageOf map x) none && eqb (keyOf map x) none) true (nodeAt x (keyOf map x) (formAt img (pageOf map x)))
+placeFits img map x = cond (vacantAt map x) true (nodeAt x (keyOf map x) (formAt img (pageOf map x)))
 
 -- how many places name key position p
 unfoldable pub namedTimes : List ℕ → ℕ → ℕ

@@ -1,12 +1,13 @@
 -- Document 01, "Calls and their refusals", Mount: what one pass over the blocks finds, block by block.
-use Prim.Native.Nat.{ℕ, _+_, _<_, _≤_, max}
-use mathlib.Core.Bool.{cond}
+use Prim.Native.Nat.{ℕ, _+_, _*_, _-_, _<_, _≤_, max}
+use mathlib.Core.Bool.{Bool, cond}
 use mathlib.Core.List.{List}
 use lib.Dec.{ltb}
-use Rattle.base.specs.Search.{highestFrom}
+use Rattle.base.specs.Search.{firstFrom, highestFrom}
 use Rattle.page.specs.Header.{lastNumber}
-use Rattle.image.specs.Size.{mostBlocks}
-use Rattle.store.specs.Kind.{kindOf, keysEpoch, commitEpoch, coveredBy}
+use Rattle.image.specs.Size.{pagesInBlock, mostBlocks, blocks}
+use Rattle.image.specs.Look.{letterAt}
+use Rattle.store.specs.Kind.{isBlockLetter, kindOf, keysEpoch, commitEpoch, coveredBy}
 use Rattle.store.specs.Find.{foundAt}
 use Rattle.store.specs.Mount.{rankOf, foremost, coveredIn, epochOf}
 use Rattle.store.specs.declared.Kind.{Kind}
@@ -62,6 +63,14 @@ surveyNext s b k =
       keys1 = betterBy (s .keys1) b (keysEpoch 1 k);
       highest = max (s .highest) (epochIn k);
     }
+
+-- ---- the blocks that can be whole: those that begin with K or C
+abbrev pub isLettered : List ℕ → ℕ → Bool
+isLettered img b = isBlockLetter (letterAt img (b * pagesInBlock))
+
+-- the first of them from a block on, or the number of blocks where there is none
+unfoldable pub nextLettered : List ℕ → ℕ → ℕ
+nextLettered img from = firstFrom (isLettered img) (blocks img - from) from
 
 -- ---- the record's numbers: one above the highest sequence and epoch, and the chosen blocks
 unfoldable pub surveyNumbers : Survey → ℕ → Numbers

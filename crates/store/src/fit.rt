@@ -1,7 +1,8 @@
-// Whether a working record fits the image. Cheap tests come first; each page that the map names is looked at once.
+// Whether a working record fits the image. Each page that the map names is looked at once.
 use crate::Numbers;
 use crate::kinds;
 use image::look;
+use page::columns;
 use page::entries;
 use page::forms;
 use page::keys;
@@ -9,24 +10,29 @@ use page::keys::POSITIONS;
 use page::plan;
 use page::plan::PLACES;
 ghost use mathlib.Core.Path.{_≡_};
-ghost use mathlib.Core.Bool.{true, cond, Bool·beq, _&&_};
-ghost use Prim.Native.Nat.{ℕ, _≤_, _<_, _+_, _*_, _%_};
+ghost use mathlib.Core.Bool.{true, Bool·beq, _&&_};
+ghost use Prim.Native.Nat.{ℕ, _≤_, _<_, _+_, _%_, min};
 ghost use lib.ListN.{length, getD, set, replicate};
 ghost use lib.Dec.{eqb, leb, ltb};
 ghost use Rattle.base.specs.Lent.{old, new};
 ghost use Rattle.base.specs.Search.{allFrom};
-ghost use Rattle.page.specs.Plan.{places};
-ghost use Rattle.page.specs.Frame.{pageSize};
-ghost use Rattle.page.specs.Header.{lastNumber, lastPosition, within};
+ghost use Rattle.page.specs.Column.{spell};
+ghost use Rattle.page.specs.Word.{wordBytes};
+ghost use Rattle.page.specs.Plan.{filePlan, lastFile, places, countOf, startOf};
+ghost use Rattle.page.specs.Header.{lastNumber, within};
 ghost use Rattle.page.specs.Key.{positions};
 ghost use Rattle.page.specs.Entry.{none, isLetter, usedLetter};
 ghost use Rattle.image.specs.Size.{blockSize, sizeRight};
 ghost use Rattle.image.specs.Look.{formAt};
 ghost use Rattle.store.specs.Kind.{kindOf, keysEpoch, commitEpoch};
-ghost use Rattle.store.specs.Record.{recordOf, mapSize, nodeAt, placeFits, namedTimes, keysApart, lettersFit, numbersFit, blocksFit, fits as recordFits};
+ghost use Rattle.store.specs.Record.{recordOf, mapSize, vacantAt, nodeAt, placeFits, namedTimes, numbersFit, blocksFit, fits as recordFits};
+ghost use Rattle.store.specs.Testing.{runLength, InFile, placesFit, Tested, Testing};
 
 // One above the last sequence and the last epoch.
 const LAST_NEXT: u32 = 100_000_000;
+
+// Vacant places are passed in runs of so many.
+const RUN_LENGTH: usize = 8;
 
 // Whether n is a next sequence or a next epoch.
 fn is_next(n: u32) -> bool
@@ -72,20 +78,11 @@ fn blocks_fit(image: &[u8], numbers: Numbers) -> bool
     is_commit(image, numbers.commit)
 }
 
-// Whether page g is a whole N page of place x and key position p.
-fn node_at(image: &[u8], g: usize, x: usize, p: u32) -> bool
-    requires { ⌜ (g * pageSize + pageSize ≤ length (now image)) × (x < places) × (p ≤ lastPosition) ⌝ }
-    ensures { λ r. ⌜ r ≡ nodeAt x p (formAt (old image) g) ⌝ }
-{
-    let file = plan::file_at(x);
-    let offset = x as u32 - plan::start(file);
-    forms::is_whole_node(look::page_at(image, g), file, offset, p)
-}
-
-// Whether a page is one of the image and a whole N page of place x and this key.
-fn node_fits(image: &[u8], x: usize, page: u16, key: u16) -> bool
-    requires { ⌜ (length (now image) % blockSize ≡ 0) × (x < places) ⌝ }
-    ensures { λ r. ⌜ r ≡ nodeAt x key (formAt (old image) page) ⌝ }
+// Whether a page is one of the image and a whole N page of this file, offset and key. The file's columns are given as they are spelt.
+fn node_fits(image: &[u8], file: u32, text: u32, offset: u32, page: u16, key: u16) -> bool
+    requires { ⌜ (length (now image) % blockSize ≡ 0) × (file ≤ lastFile) × (offset < countOf filePlan file)
+        × (wordBytes 4 text ≡ spell 4 file) ⌝ }
+    ensures { λ r. ⌜ r ≡ nodeAt (startOf filePlan file + offset) key (formAt (old image) page) ⌝ }
 {
     if look::pages(image) <= page as usize {
         return false;
@@ -93,7 +90,13 @@ fn node_fits(image: &[u8], x: usize, page: u16, key: u16) -> bool
     if keys::LAST_POSITION < key as u32 {
         return false;
     }
-    node_at(image, page as usize, x, key as u32)
+    forms::is_whole_node(
+        look::page_at(image, page as usize),
+        file,
+        text,
+        offset,
+        key as u32,
+    )
 }
 
 // Whether place x fits: none, or a whole N page of its file, offset and key.
@@ -106,22 +109,45 @@ pub fn place_fits(image: &[u8], map: &[u16], x: usize) -> bool
     if (page == entries::NONE) & (key == entries::NONE) {
         return true;
     }
-    node_fits(image, x, page, key)
+    let file = plan::file_at(x);
+    let text = columns::spelt4(file);
+    node_fits(image, file, text, x as u32 - plan::start(file), page, key)
 }
 
-// Whether every place fits.
-fn places_fit(image: &[u8], map: &[u16]) -> bool
-    requires { ⌜ (length (now image) % blockSize ≡ 0) × (length (now map) ≡ mapSize) ⌝ }
-    ensures { λ r. ⌜ r ≡ allFrom (placeFits (old image) (old map)) places 0 ⌝ }
+// Whether the run of places from x on is vacant. The loop has no other way out, so that it goes over many places at once.
+fn run_vacant(map: &[u16], x: usize) -> bool
+    requires { ⌜ (length (now map) ≡ mapSize) × (x + runLength ≤ places) ⌝ }
+    ensures { λ r. ⌜ r ≡ allFrom (vacantAt (old map)) runLength x ⌝ }
 {
-    let mut x: usize = 0;
-    while x < PLACES {
-        if !place_fits(image, map, x) {
-            return false;
-        }
-        x += 1;
+    let mut all = true;
+    let mut i = 0;
+    while i < RUN_LENGTH {
+        all = all & (map[x + i] == entries::NONE) & (map[PLACES + x + i] == entries::NONE);
+        i += 1;
     }
-    true
+    all
+}
+
+// Where the run from x on ends, at end at the latest.
+pub fn run_end(x: usize, end: usize) -> usize
+    requires { ⌜ (x ≤ end) × (end ≤ places) ⌝ }
+    ensures { λ r. ⌜ r ≡ min (x + runLength) end ⌝ }
+{
+    if end < x + RUN_LENGTH {
+        return end;
+    }
+    x + RUN_LENGTH
+}
+
+// Whether the places from x to end are a whole run, and vacant.
+pub fn is_vacant_run(map: &[u16], x: usize, end: usize) -> bool
+    requires { ⌜ (length (now map) ≡ mapSize) × (x ≤ end) × (end ≤ places) ⌝ }
+    ensures { λ r. ⌜ r ≡ eqb end (x + runLength) && allFrom (vacantAt (old map)) runLength x ⌝ }
+{
+    if end != x + RUN_LENGTH {
+        return false;
+    }
+    run_vacant(map, x)
 }
 
 // Marks the position of a key as named; false where it was named before. A key that is none has no position.
@@ -140,18 +166,109 @@ fn name(named: &mut [u8], key: u16) -> bool
     true
 }
 
-// Whether no key is named twice; where none is, named says how often each position is, 0 or 1.
-pub fn keys_apart(map: &[u16], named: &mut [u8]) -> bool
-    requires { ⌜ (length (now map) ≡ mapSize) × (now named ≡ replicate positions 0) ⌝ }
-    ensures { λ r. ⌜ (r ≡ keysApart (old map))
-        × (r ≡ true → (p : ℕ) → p < positions → namedTimes (old map) p ≡ getD (new named) p 0) ⌝ }
+// Whether place x of a file fits and its key was not named before; the key is named.
+fn pass_place(
+    image: &[u8],
+    map: &[u16],
+    named: &mut [u8],
+    file: u32,
+    text: u32,
+    first: usize,
+    x: usize,
+) -> bool
+    requires { ⌜ (length (now image) % blockSize ≡ 0) × (length (now map) ≡ mapSize)
+        × InFile file first x (x + 1) × Tested (now image) (now map) (now named) x
+        × (wordBytes 4 text ≡ spell 4 file) ⌝ }
+    ensures { λ r. ⌜ Testing (old image) (old map) (new named) (x + 1) r ⌝ }
 {
-    let mut x: usize = 0;
-    while x < PLACES {
-        if !name(named, map[PLACES + x]) {
+    let page = map[x];
+    let key = map[PLACES + x];
+    if (page == entries::NONE) & (key == entries::NONE) {
+        return true;
+    }
+    if !node_fits(image, file, text, (x - first) as u32, page, key) {
+        return false;
+    }
+    name(named, key)
+}
+
+// Whether the places of a file from a place to end fit and name no key again; their keys are named.
+fn run_fits(
+    image: &[u8],
+    map: &[u16],
+    named: &mut [u8],
+    file: u32,
+    first: usize,
+    from: usize,
+    end: usize,
+) -> bool
+    requires { ⌜ (length (now image) % blockSize ≡ 0) × (length (now map) ≡ mapSize)
+        × InFile file first from end × Tested (now image) (now map) (now named) from ⌝ }
+    ensures { λ r. ⌜ Testing (old image) (old map) (new named) end r ⌝ }
+{
+    let text = columns::spelt4(file);
+    let mut x: usize = from;
+    while x < end {
+        if !pass_place(image, map, named, file, text, first, x) {
             return false;
         }
         x += 1;
+    }
+    true
+}
+
+// The same, at once where the places are a whole run and vacant.
+fn pass_run(
+    image: &[u8],
+    map: &[u16],
+    named: &mut [u8],
+    file: u32,
+    first: usize,
+    from: usize,
+    end: usize,
+) -> bool
+    requires { ⌜ (length (now image) % blockSize ≡ 0) × (length (now map) ≡ mapSize)
+        × InFile file first from end × Tested (now image) (now map) (now named) from ⌝ }
+    ensures { λ r. ⌜ Testing (old image) (old map) (new named) end r ⌝ }
+{
+    if is_vacant_run(map, from, end) {
+        return true;
+    }
+    run_fits(image, map, named, file, first, from, end)
+}
+
+// Whether the places of a file fit and name no key again; their keys are named.
+fn file_fits(image: &[u8], map: &[u16], named: &mut [u8], file: u32) -> bool
+    requires { ⌜ (length (now image) % blockSize ≡ 0) × (length (now map) ≡ mapSize)
+        × (file ≤ lastFile) × Tested (now image) (now map) (now named) (startOf filePlan file) ⌝ }
+    ensures { λ r. ⌜ Testing (old image) (old map) (new named) (startOf filePlan file + countOf filePlan file) r ⌝ }
+{
+    let first = plan::start(file) as usize;
+    let end = first + plan::count(file) as usize;
+    let mut x: usize = first;
+    while x < end {
+        let next = run_end(x, end);
+        if !pass_run(image, map, named, file, first, x, next) {
+            return false;
+        }
+        x = next;
+    }
+    true
+}
+
+// Whether every place fits and no key is named twice; where so, named says how often each position is, 0 or 1.
+fn places_fit(image: &[u8], map: &[u16], named: &mut [u8]) -> bool
+    requires { ⌜ (length (now image) % blockSize
+        ≡ 0) × (length (now map) ≡ mapSize) × (now named ≡ replicate positions 0) ⌝ }
+    ensures { λ r. ⌜ (r ≡ placesFit (old image) (old map))
+        × (r ≡ true → (p : ℕ) → p < positions → namedTimes (old map) p ≡ getD (new named) p 0) ⌝ }
+{
+    let mut file: u32 = 0;
+    while file <= plan::LAST_FILE {
+        if !file_fits(image, map, named, file) {
+            return false;
+        }
+        file += 1;
     }
     true
 }
@@ -178,18 +295,6 @@ fn letters_fit(letters: &[u8], named: &[u8]) -> bool
     all
 }
 
-// Whether map and letters agree: no key is named twice, every letter is one, and u stands at exactly the named positions.
-fn letters_match(map: &[u16], letters: &[u8]) -> bool
-    requires { ⌜ (length (now map) ≡ mapSize) × (length (now letters) ≡ positions) ⌝ }
-    ensures { λ r. ⌜ r ≡ keysApart (old map) && lettersFit (old map) (old letters) ⌝ }
-{
-    let mut named = [0u8; POSITIONS];
-    if !keys_apart(map, &mut named) {
-        return false;
-    }
-    letters_fit(letters, &named)
-}
-
 // Whether the record fits.
 pub fn fits(image: &[u8], map: &[u16], letters: &[u8], numbers: Numbers) -> bool
     requires { ⌜ (sizeRight (now image) ≡ true) × (length (now map) ≡ mapSize) × (length (now letters) ≡ positions) ⌝ }
@@ -198,11 +303,12 @@ pub fn fits(image: &[u8], map: &[u16], letters: &[u8], numbers: Numbers) -> bool
     if !numbers_fit(numbers) {
         return false;
     }
-    if !letters_match(map, letters) {
-        return false;
-    }
     if !blocks_fit(image, numbers) {
         return false;
     }
-    places_fit(image, map)
+    let mut named = [0u8; POSITIONS];
+    if !places_fit(image, map, &mut named) {
+        return false;
+    }
+    letters_fit(letters, &named)
 }

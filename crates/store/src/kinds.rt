@@ -16,7 +16,9 @@ ghost use lib.ListN.{length};
 ghost use Rattle.base.specs.Lent.{old};
 ghost use Rattle.base.specs.Search.{allFrom};
 ghost use Rattle.page.specs.Frame.{pageSize};
-ghost use Rattle.page.specs.Header.{commitFrame, inRange};
+ghost use Rattle.page.specs.declared.Frame.{Frame as HeaderFrame};
+ghost use Rattle.page.specs.Header.{commitFrame, inRange, withPart};
+ghost use Rattle.page.specs.Form.{wholeLike};
 ghost use Rattle.page.specs.Entry.{parts, validPayload};
 ghost use Rattle.page.specs.Page.{payloadOf};
 ghost use Rattle.image.specs.Size.{blockSize, pagesInBlock};
@@ -35,12 +37,17 @@ fn same_frame(f: Frame, h: Frame) -> bool
         & (f.second == h.second)
 }
 
-// Whether page g is whole, with this header.
-fn page_whole(image: &[u8], g: usize, h: Frame) -> bool
-    requires { ⌜ (g * pageSize + pageSize ≤ length (now image)) × (inRange h ≡ true) ⌝ }
-    ensures { λ r. ⌜ r ≡ wholeWith h (formAt (old image) g) ⌝ }
+// Whether page i of block b is whole, with the header of page 0, which is whole, but for the part i.
+fn page_like(image: &[u8], b: usize, i: usize) -> bool
+    requires { ⌜ (b * blockSize + blockSize ≤ length (now image)) × (i < pagesInBlock) ⌝ }
+    requires { ⌜ ((f : HeaderFrame) × (formAt (now image) (pageIn b 0) ≡ Form.Whole f) × (inRange (withPart i f) ≡ true)) ⌝ }
+    ensures { λ r. ⌜ r ≡ wholeLike (formAt (old image) (pageIn b 0)) i (formAt (old image) (pageIn b i)) ⌝ }
 {
-    forms::is_whole_with(look::page_at(image, g), h)
+    forms::is_whole_like(
+        look::page_at(image, b * PAGES_IN_BLOCK),
+        look::page_at(image, b * PAGES_IN_BLOCK + i),
+        i as u32,
+    )
 }
 
 // Whether block b, whose page 0 is whole with header f, is a whole key block.
@@ -55,11 +62,7 @@ fn key_block_whole(image: &[u8], b: usize, f: Frame) -> bool
     }
     let mut page: usize = 1;
     while page < PAGES_IN_BLOCK {
-        if !page_whole(
-            image,
-            b * PAGES_IN_BLOCK + page,
-            Frame::keys(e, q, page as u32),
-        ) {
+        if !page_like(image, b, page) {
             return false;
         }
         page += 1;
@@ -75,17 +78,16 @@ fn payload_valid(image: &[u8], g: usize, i: usize) -> bool
     entries::valid_payload(look::payload_at(image, g), i)
 }
 
-// Whether page i of block b is a whole part i of a commit of epoch e that covers s, with a valid payload.
+// Whether page i of block b, whose page 0 is that of a commit of epoch e that covers s, is a whole part i of it, with a valid payload.
 fn part_whole(image: &[u8], b: usize, i: usize, e: u32, s: u32) -> bool
     requires { ⌜ (b * blockSize + blockSize ≤ length (now image))
-        × (i < parts) × (inRange (commitFrame e i s) ≡ true) ⌝ }
+        × (i < parts) × (formAt (now image) (pageIn b 0) ≡ Form.Whole (commitFrame e 0 s)) ⌝ }
     ensures { λ r. ⌜ r ≡ partWhole (old image) b e s i ⌝ }
 {
-    let g = b * PAGES_IN_BLOCK + i;
-    if !page_whole(image, g, Frame::commit(e, i as u32, s)) {
+    if !page_like(image, b, i) {
         return false;
     }
-    payload_valid(image, g, i)
+    payload_valid(image, b * PAGES_IN_BLOCK + i, i)
 }
 
 // The same of page 0, which is whole with header f.
@@ -159,7 +161,7 @@ fn kind_by(image: &[u8], b: usize, f: Frame) -> Kind
 }
 
 // Whether a kind letter is K or C.
-fn is_block_letter(kind: u8) -> bool
+pub fn is_block_letter(kind: u8) -> bool
     ensures { λ r. ⌜ r ≡ isBlockLetter kind ⌝ }
 {
     (kind == Frame::KEYS_LETTER) | (kind == Frame::COMMIT_LETTER)

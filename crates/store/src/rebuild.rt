@@ -9,7 +9,7 @@ use page::keys::POSITIONS;
 use page::plan::PLACES;
 ghost use mathlib.Core.Path.{_≡_};
 ghost use mathlib.Core.Bool.{true, false, cond, not, _||_};
-ghost use Prim.Native.Nat.{ℕ, _<_, _%_};
+ghost use Prim.Native.Nat.{ℕ, _≤_, _<_, _-_, _%_};
 ghost use lib.ListN.{length, getD, set, replicate};
 ghost use lib.Dec.{eqb, leb};
 ghost use Rattle.base.specs.Lent.{old, new};
@@ -21,7 +21,8 @@ ghost use Rattle.page.specs.Entry.{usedLetter};
 ghost use Rattle.image.specs.Size.{blockSize, mostBlocks, sizeRight};
 ghost use Rattle.store.specs.Kind.{kindOf};
 ghost use Rattle.store.specs.Record.{mapSize, placeFits, namedTimes, keysApart};
-ghost use Rattle.store.specs.Rebuild.{Rebuilding, rebuiltOf, Cleared, mountFits};
+ghost use Rattle.store.specs.Testing.{Tallied};
+ghost use Rattle.store.specs.Rebuild.{Rebuilding, rebuiltOf, Cleared, mountFits, marks, Marked};
 
 // What the pages give: the highest sequence, or that an entry does not fit or a key is named twice.
 pub enum Rebuilt {
@@ -40,6 +41,26 @@ fn entry_fits(image: &[u8], map: &[u16], x: usize, sequence: u32) -> bool
     fit::place_fits(image, map, x)
 }
 
+// Whether every place from one to end fits whose entry decides. A vacant run fits as a whole.
+fn run_entries_fit(image: &[u8], map: &[u16], scratch: &[u32], from: usize, end: usize) -> bool
+    requires { ⌜ (length (now image) % blockSize ≡ 0) × (length (now map) ≡ mapSize)
+        × (length (now scratch) ≡ places) × (from ≤ end) × (end ≤ places) ⌝ }
+    ensures { λ r. ⌜ r ≡ allFrom (λ x. not (eqb (getD (old scratch) x 0) 0)
+        || placeFits (old image) (old map) x) (end - from) from ⌝ }
+{
+    if fit::is_vacant_run(map, from, end) {
+        return true;
+    }
+    let mut x: usize = from;
+    while x < end {
+        if !entry_fits(image, map, x, scratch[x]) {
+            return false;
+        }
+        x += 1;
+    }
+    true
+}
+
 // Whether every place fits whose entry decides.
 fn entries_fit(image: &[u8], map: &[u16], scratch: &[u32]) -> bool
     requires { ⌜ (length (now image) % blockSize
@@ -49,10 +70,11 @@ fn entries_fit(image: &[u8], map: &[u16], scratch: &[u32]) -> bool
 {
     let mut x: usize = 0;
     while x < PLACES {
-        if !entry_fits(image, map, x, scratch[x]) {
+        let end = fit::run_end(x, PLACES);
+        if !run_entries_fit(image, map, scratch, x, end) {
             return false;
         }
-        x += 1;
+        x = end;
     }
     true
 }
@@ -74,6 +96,25 @@ fn use_key(letters: &mut [u8], key: u16) -> bool
     true
 }
 
+// Makes the positions that the places from one to end name used; false where one was used before. A vacant run names none.
+fn use_run(map: &[u16], letters: &mut [u8], from: usize, end: usize) -> bool
+    requires { ⌜ (length (now map) ≡ mapSize) × (from ≤ end) × (end ≤ places)
+        × Tallied (now map) (marks (now letters)) from ⌝ }
+    ensures { λ r. ⌜ (r ≡ true → Marked (old map) (old letters) (new letters) end) × (r ≡ false → keysApart (old map) ≡ false) ⌝ }
+{
+    if fit::is_vacant_run(map, from, end) {
+        return true;
+    }
+    let mut x: usize = from;
+    while x < end {
+        if !use_key(letters, map[PLACES + x]) {
+            return false;
+        }
+        x += 1;
+    }
+    true
+}
+
 // Makes the positions that the map names used, where none was; whether no key is named twice.
 fn use_keys(map: &[u16], letters: &mut [u8]) -> bool
     requires { ⌜ (length (now map) ≡ mapSize)
@@ -83,10 +124,11 @@ fn use_keys(map: &[u16], letters: &mut [u8]) -> bool
 {
     let mut x: usize = 0;
     while x < PLACES {
-        if !use_key(letters, map[PLACES + x]) {
+        let end = fit::run_end(x, PLACES);
+        if !use_run(map, letters, x, end) {
             return false;
         }
-        x += 1;
+        x = end;
     }
     true
 }

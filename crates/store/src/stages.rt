@@ -12,16 +12,15 @@ use image::steps;
 use page::plan::PLACES;
 ghost use mathlib.Core.Path.{_≡_};
 ghost use mathlib.Core.Bool.{true, cond, _&&_};
-ghost use Prim.Native.Nat.{ℕ, _≤_, _<_, _+_, _*_, _/_};
+ghost use Prim.Native.Nat.{ℕ, _≤_, _<_, _+_, _*_, _-_, _/_};
 ghost use lib.ListN.{length, getD, set, replicate};
 ghost use lib.Dec.{eqb, ltb};
 ghost use Rattle.base.specs.Lent.{old, new};
-ghost use Rattle.base.specs.Search.{whichFrom};
+ghost use Rattle.base.specs.Search.{firstFrom, whichFrom};
 ghost use Rattle.page.specs.Key.{positions};
 ghost use Rattle.page.specs.Header.{lastNumber};
 ghost use Rattle.image.specs.Size.{blockSize, pagesInBlock, mostBlocks, blocks as blocksIn, sizeRight};
-ghost use Rattle.image.specs.Step.{erase};
-ghost use Rattle.image.specs.Power.{device, act, run};
+ghost use Rattle.image.specs.Power.{device, run};
 ghost use Rattle.store.specs.Kind.{isChosen, isData};
 ghost use Rattle.store.specs.Record.{mapSize};
 ghost use Rattle.store.specs.Outcome.{answered};
@@ -176,19 +175,23 @@ fn mark_live(map: &[u16], marked: &mut [u8])
     }
 }
 
-// Erases block b if it is a data block and not marked.
-fn erase_unmarked(image: &mut [u8], numbers: Numbers, b: usize, mark: u8, p: Power) -> Power
-    requires { ⌜ b * blockSize + blockSize ≤ length (now image) ⌝ }
-    ensures { λ r. ⌜ device r (new image) ≡ cond (eqb mark 0 && isData (old image) numbers b) (act (erase b)
-        (device p (old image))) (device p (old image)) ⌝ }
+// The first data block from from on that is not marked, or the number of blocks where there is none.
+fn next_unused(image: &[u8], numbers: Numbers, marked: &[u8], from: usize) -> usize
+    requires { ⌜ (blocksIn (now image) ≤ mostBlocks) × (length (now marked) ≡ mostBlocks) ⌝ }
+    ensures { λ r. ⌜ r ≡ firstFrom (λ b. eqb (getD (old marked) b 0) 0 && isData (old image) numbers b)
+        (blocksIn (old image) - from) from ⌝ }
 {
-    if mark != 0 {
-        return p;
+    let n = look::blocks(image);
+    let mut b = from;
+    while b < n {
+        if marked[b] == 0 {
+            if kinds::is_data(image, numbers, b) {
+                return b;
+            }
+        }
+        b += 1;
     }
-    if !kinds::is_data(image, numbers, b) {
-        return p;
-    }
-    steps::erase_block(image, b, p)
+    b
 }
 
 // Erases the data blocks that are not marked, in order.
@@ -197,12 +200,12 @@ fn erase_all_unmarked(image: &mut [u8], numbers: Numbers, marked: &[u8], p: Powe
     ensures { λ r. ⌜ device r (new image) ≡ run (erases (whichFrom (λ b. eqb (getD (old marked) b 0) 0 && isData
         (old image) numbers b) (blocksIn (old image)) 0)) (device p (old image)) ⌝ }
 {
-    let n = image.len() / BLOCK_SIZE;
+    let n = look::blocks(image);
     let mut q = p;
-    let mut b: usize = 0;
+    let mut b = next_unused(image, numbers, marked, 0);
     while b < n {
-        q = erase_unmarked(image, numbers, b, marked[b], q);
-        b += 1;
+        q = steps::erase_block(image, b, q);
+        b = next_unused(image, numbers, marked, b + 1);
     }
     q
 }

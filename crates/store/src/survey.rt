@@ -2,14 +2,15 @@
 use crate::Found;
 use crate::Kind;
 use crate::kinds;
-use image::look::BLOCK_SIZE;
+use image::look;
+use image::look::PAGES_IN_BLOCK;
 ghost use mathlib.Core.Path.{_≡_};
 ghost use Prim.Native.Nat.{_%_, max};
 ghost use lib.ListN.{length};
 ghost use Rattle.base.specs.Lent.{old};
 ghost use Rattle.image.specs.Size.{blockSize, blocks};
 ghost use Rattle.store.specs.Find.{isFound, foundAt};
-ghost use Rattle.store.specs.Survey.{noBest, betterBy, coveredNext, epochIn, noSurvey, surveyNext, surveyOf};
+ghost use Rattle.store.specs.Survey.{noBest, betterBy, coveredNext, epochIn, noSurvey, surveyNext, nextLettered, surveyOf};
 
 // The foremost of the blocks passed: its epoch is highest, on a tie it is the lower one. Where there is none, the epoch is 0.
 pub struct Best {
@@ -130,17 +131,32 @@ fn survey_next(s: Survey, b: usize, kind: Kind) -> Survey
     }
 }
 
-// Passes over the blocks; the kind of each is worked out once.
+// The first block from from on that begins with K or C, or the number of blocks where there is none.
+fn next_lettered(image: &[u8], from: usize) -> usize
+    ensures { λ r. ⌜ r ≡ nextLettered (old image) from ⌝ }
+{
+    let n = look::blocks(image);
+    let mut b = from;
+    while b < n {
+        if kinds::is_block_letter(look::letter_at(image, b * PAGES_IN_BLOCK)) {
+            return b;
+        }
+        b += 1;
+    }
+    b
+}
+
+// Passes over the blocks that begin with K or C, the only ones that can be whole; the kind of each is worked out once.
 pub fn survey_blocks(image: &[u8]) -> Survey
     requires { ⌜ length (now image) % blockSize ≡ 0 ⌝ }
     ensures { λ r. ⌜ r ≡ surveyOf (old image) (blocks (old image)) ⌝ }
 {
-    let n = image.len() / BLOCK_SIZE;
+    let n = look::blocks(image);
     let mut s = no_survey();
-    let mut b: usize = 0;
+    let mut b = next_lettered(image, 0);
     while b < n {
         s = survey_next(s, b, kinds::kind_of(image, b));
-        b += 1;
+        b = next_lettered(image, b + 1);
     }
     s
 }

@@ -3,10 +3,13 @@
 //!
 //! An edit is written as those of `must-fail`, which `rt ci` tries from nothing, with one line more:
 //! `refused:` and the function, or the file of proofs, that must no longer be proved. Here an edit is
-//! checked over what the proof of its crate left (`rt dev`), so that many can be tried.
+//! checked over what the proof of its crate left (`rt dev`), so that many can be tried. Edits that each
+//! change the body of one function, no two that of the same one, are checked together: a function's proof
+//! sees of the others their contracts alone. Where one of them does not count then, or a fact fails at a
+//! place that none of them names, they are checked alone.
 //!
 //! A proof can also be refused because it no longer fits the code, which a right program shows as well
-//! as a wrong one. So an edit of code counts only if the program of `tests/edits`, run with it (`rt try`),
+//! as a wrong one. So an edit of code counts only if a program of `tests/edits`, run with it (`rt try`),
 //! also does something else, and no edit counts where the prover's words are of the proof's shape. The
 //! edits of `crates/*/refused/controls` are right programs: of each the tool must say that it is not a
 //! fact.
@@ -18,23 +21,57 @@
 //!
 //! As many run at a time as the machine has processors, or `RT_JOBS`.
 
-use johvimaru_tests::edits::{Edit, Verdict};
+use johvimaru_tests::edits::{Edit, Made, Verdict};
 use std::fs;
 use std::io;
 use std::path::{Path, PathBuf};
 use std::process::{Command, ExitCode};
+use std::slice;
 use std::sync::Mutex;
 use std::thread;
-use std::time::Instant;
+use std::time::{Duration, Instant};
 
-/// The program over the libraries, the name of its crate, and the crates that it reaches.
-const PROGRAM: &str = "tests/edits/program.txt";
-const TRIED: &str = "tried";
-const REACHED: [&str; 7] = ["recorder", "harness", "store", "image", "page", "cipher", "base"];
+/// A program over the crates.
+struct Program {
+    path: &'static str,
+    /// The name of its own crate, and the crates that it reaches.
+    name: &'static str,
+    reached: &'static [&'static str],
+}
+
+/// The quicker one first: an edit is run with each that reaches its crate, until one does something else.
+static PROGRAMS: [Program; 2] = [
+    Program {
+        path: "tests/edits/pages.txt",
+        name: "tried_pages",
+        reached: &["harness", "image", "page", "cipher", "base"],
+    },
+    Program {
+        path: "tests/edits/calls.txt",
+        name: "tried_calls",
+        reached: &["recorder", "store", "image", "page", "cipher", "base"],
+    },
+];
+
+/// The folder of the edits that are checked here, and how many of them are checked together at most.
+const REFUSED: &str = "refused";
+const MOST_TOGETHER: usize = 8;
 
 /// Where a check leaves what the next one takes over, and the crate that is the quickest to check.
 const CHECKED: &str = "target/inc";
 const QUICKEST: &str = "base";
+
+impl Program {
+    fn reaches(&self, name: &str) -> bool {
+        self.reached.contains(&name)
+    }
+}
+
+/// What is said of a program over the crates without an edit.
+struct Usual {
+    program: &'static Program,
+    said: String,
+}
 
 /// What is tried: an edit of a crate.
 struct Trial {
@@ -42,18 +79,21 @@ struct Trial {
     edit: Edit,
     /// Whether it is a right program.
     right: bool,
+    /// Whether it may be checked together with others.
+    joins: bool,
 }
 
 impl Trial {
     /// The trials of a crate in such a folder, or the one that is named with it.
     fn read(repository: &Path, word: &str, folder: &str) -> Result<Vec<Trial>, String> {
         let (name, one) = word.split_once('/').unwrap_or((word, ""));
-        let folder = repository.join("crates").join(name).join(folder);
+        let home = repository.join("crates").join(name);
         let mut trials = Vec::new();
-        for (folder, right) in [(folder.join("controls"), true), (folder, false)] {
-            for path in edits_in(&folder)? {
+        for (folder, right) in [(format!("{folder}/controls"), true), (folder.to_string(), false)] {
+            for path in edits_in(&home.join(&folder))? {
                 let edit = Edit::read(&path)?;
-                trials.push(Trial { name: name.to_string(), edit, right });
+                let joins = folder == REFUSED && edit.is_in_body(&home);
+                trials.push(Trial { name: name.to_string(), edit, right, joins });
             }
         }
         trials.retain(|trial| one.is_empty() || trial.edit.name == one);
@@ -63,10 +103,10 @@ impl Trial {
         }
     }
 
-    /// Says what came out. Gives whether that is what must: a fact for a wrong program, none for a
-    /// right one.
-    fn report(&self, verdict: &Verdict, seconds: u64) -> bool {
-        let Trial { name, edit, right } = self;
+    /// Says what came out, after how long a check and a run. Gives whether that is what must: a fact for a
+    /// wrong program, none for a right one.
+    fn report(&self, verdict: &Verdict, check: Duration, run: Duration) -> bool {
+        let Trial { name, edit, right, .. } = self;
         let said = match (verdict, right) {
             (Verdict::Refused(why), false) => format!("refused at {}: {why}", edit.place),
             (Verdict::NotAFact(why), true) => format!("not a fact, as it must be: {why}"),
@@ -75,7 +115,8 @@ impl Trial {
             (Verdict::Proved, _) => format!("NOT REFUSED at {}", edit.place),
             (Verdict::Unchecked, _) => "NOT CHECKED".to_string(),
         };
-        println!("edits: {name}/{} ({seconds} s): {}", edit.name, shortened(&said));
+        let (check, run) = (check.as_secs_f32(), run.as_secs_f32());
+        println!("edits: {name}/{} ({check:.0} + {run:.0} s): {}", edit.name, shortened(&said));
         matches!((verdict, right), (Verdict::Refused(_), false) | (Verdict::NotAFact(_), true))
     }
 }
@@ -125,20 +166,45 @@ impl Bench<'_> {
             copy_folder(&repository.join(folder), &copy.join(folder))?;
         }
         let lines = fs::read_to_string(repository.join("crates.txt"))?;
-        let line = format!("{TRIED}: {} io libc\n", REACHED.join(" "));
-        fs::write(copy.join("crates.txt"), lines + &line)?;
-        let program = copy.join("crates").join(TRIED).join("src");
-        fs::create_dir_all(&program)?;
-        fs::copy(repository.join(PROGRAM), program.join("main.rt")).map(|_| ())
+        let reached = |one: &Program| format!("{}: {} io libc\n", one.name, one.reached.join(" "));
+        fs::write(copy.join("crates.txt"), lines + &PROGRAMS.each_ref().map(reached).concat())?;
+        for Program { path, name, .. } in &PROGRAMS {
+            let program = copy.join("crates").join(name).join("src");
+            fs::create_dir_all(&program)?;
+            fs::copy(repository.join(path), program.join("main.rt"))?;
+        }
+        Ok(())
     }
 
-    /// Runs the program over the libraries as they are. Gives what is said of it at -O3, its output too.
-    fn run(&self) -> Result<String, String> {
-        let said = self.rt(&["try", TRIED])?.1;
+    /// Runs a program over the crates as they are. Gives what is said of it at -O3, its output too.
+    fn run(&self, program: &Program) -> Result<String, String> {
+        let said = self.rt(&["try", program.name])?.1;
         let from = said.find("the native program at -O3");
-        let from = from.ok_or(format!("{PROGRAM} is not run:\n{said}"))?;
+        let from = from.ok_or(format!("{} is not run:\n{said}", program.path))?;
         let to = said[from..].find("the native program with").map_or(said.len(), |at| from + at);
         Ok(said[from..to].to_string())
+    }
+
+    /// Runs a program over the crates without an edit.
+    fn run_usual(&self, program: &'static Program) -> Result<Usual, String> {
+        let said = self.run(program)?;
+        match said.contains("found \"") {
+            true => Ok(Usual { program, said }),
+            false => Err(format!("{} does not run:\n{said}", program.path)),
+        }
+    }
+
+    /// Whether a program that reaches the crate does something else than without the edit that was made;
+    /// nothing where none reaches it.
+    fn differs(&self, name: &str, usual: &[Usual]) -> Result<Option<bool>, String> {
+        let mut differs = None;
+        for Usual { program, said } in usual.iter().filter(|one| one.program.reaches(name)) {
+            differs = Some(self.run(program)? != *said);
+            if differs == Some(true) {
+                break;
+            }
+        }
+        Ok(differs)
     }
 
     /// Calls rt. Gives whether it is content, and what it prints.
@@ -187,39 +253,89 @@ impl Bench<'_> {
             .map_err(|error| format!("{}: {error}", to.display()))
     }
 
-    /// Tries an edit over what the check of its crate left, and says what came out. Gives whether that
-    /// is what must.
-    fn try_one(&self, trial: &Trial, kept: &Path, usual: &str) -> Result<bool, String> {
-        let Trial { name, edit, .. } = trial;
+    /// Tries the edits of a group over what the check of their crate left, and says what came out of each.
+    /// Gives how many are tried, and how many of them came out otherwise than they must. An edit that does
+    /// not count in the group is checked again alone.
+    fn try_group(
+        &self,
+        group: &[Trial],
+        kept: &Path,
+        usual: &[Usual],
+    ) -> Result<(usize, usize), String> {
         let start = Instant::now();
-        let made = edit
-            .make(&self.copy.join("crates").join(name))
-            .map_err(|why| format!("{name}/{}: {why}", edit.name))?;
-        let verdict = self.account(trial, kept).and_then(|account| {
-            let verdict = edit.judge(&account);
-            let is_run = made.code && REACHED.contains(&name.as_str());
-            let asks = matches!(verdict, Verdict::Refused(_) | Verdict::Useless(_)) && is_run;
-            let differs = if asks { Some(self.run()? != usual) } else { None };
-            Ok(verdict.with_run(differs))
-        });
-        made.undo()?;
-        Ok(trial.report(&verdict?, start.elapsed().as_secs()))
+        let together = match group {
+            [_] => None,
+            _ => self.account(group, kept).ok(),
+        };
+        let edits: Vec<&Edit> = group.iter().map(|trial| &trial.edit).collect();
+        let together = together.filter(|account| !Edit::fails_elsewhere(&edits, account));
+        let shared = start.elapsed() / group.len() as u32;
+        let mut wrong = 0;
+        for trial in group {
+            let start = Instant::now();
+            let verdict = together.as_deref().map(|account| trial.edit.judge(account));
+            let verdict = match verdict.filter(Verdict::counts_if_run) {
+                Some(verdict) => verdict,
+                None => trial.edit.judge(&self.account(slice::from_ref(trial), kept)?),
+            };
+            let check = start.elapsed();
+            let verdict = self.run_with(trial, verdict, usual)?;
+            let right = trial.report(&verdict, shared + check, start.elapsed() - check);
+            wrong += usize::from(!right);
+        }
+        Ok((group.len(), wrong))
     }
 
-    /// What the prover says of an edit that was made, or what rt left of it.
-    fn account(&self, trial: &Trial, kept: &Path) -> Result<String, String> {
-        let Trial { name, edit, .. } = trial;
+    /// The verdict once the programs were run with the edit alone, where it asks for that.
+    fn run_with(
+        &self,
+        trial: &Trial,
+        verdict: Verdict,
+        usual: &[Usual],
+    ) -> Result<Verdict, String> {
+        if !verdict.counts_if_run() {
+            return Ok(verdict);
+        }
+        let differs = self.with_edits(slice::from_ref(trial), |made| match made {
+            [made] if made.code => self.differs(&trial.name, usual),
+            _ => Ok(None),
+        })?;
+        Ok(verdict.with_run(differs))
+    }
+
+    /// Makes edits of one crate, does something with them, and undoes them.
+    fn with_edits<R>(
+        &self,
+        trials: &[Trial],
+        does: impl FnOnce(&[Made]) -> Result<R, String>,
+    ) -> Result<R, String> {
+        let mut all: Vec<Made> = Vec::new();
+        let result = trials.iter().try_for_each(|Trial { name, edit, .. }| {
+            let made = edit.make(&self.copy.join("crates").join(name));
+            all.push(made.map_err(|why| format!("{name}/{}: {why}", edit.name))?);
+            Ok(())
+        });
+        let result = result.and_then(|()| does(&all));
+        all.iter().rev().try_for_each(Made::undo)?;
+        result
+    }
+
+    /// What the prover says of edits of one crate, all of them made, or what rt left of the one edit.
+    fn account(&self, trials: &[Trial], kept: &Path) -> Result<String, String> {
         let left = self.repository.join("target");
+        let name = &trials[0].name;
         if self.logs {
-            let path = left.join("must-fail").join(name).join(&edit.name).join(".log");
+            let path = left.join("must-fail").join(name).join(&trials[0].edit.name).join(".log");
             return fs::read_to_string(&path)
                 .map_err(|error| format!("{}: {error}", path.display()));
         }
         self.hand_on(kept, &self.copy.join(CHECKED), name)?;
-        let account = self.rt(&["dev", name])?.1;
+        let account = self.with_edits(trials, |_| Ok(self.rt(&["dev", name])?.1))?;
         let folder = left.join("edits").join(name);
+        let write =
+            |one: &Trial| fs::write(folder.join(format!("{}.log", one.edit.name)), &account);
         fs::create_dir_all(&folder)
-            .and_then(|()| fs::write(folder.join(format!("{}.log", edit.name)), &account))
+            .and_then(|()| trials.iter().try_for_each(write))
             .map_err(|error| format!("{}: {error}", folder.display()))?;
         Ok(account)
     }
@@ -285,6 +401,22 @@ fn crates_with(repository: &Path, folder: &str) -> Result<Vec<String>, String> {
     Ok(counted.into_iter().rev().map(|(_, name)| name).collect())
 }
 
+/// The trials in groups whose edits are checked together: wrong programs of one crate that each change the
+/// body of one function, and no two of a group that of the same one. All others are alone.
+fn grouped(trials: Vec<Trial>) -> Vec<Vec<Trial>> {
+    let mut groups: Vec<Vec<Trial>> = Vec::new();
+    for trial in trials {
+        let fits =
+            |one: &Trial| one.joins && one.name == trial.name && one.edit.place != trial.edit.place;
+        let takes = |group: &Vec<Trial>| group.len() < MOST_TOGETHER && group.iter().all(fits);
+        match groups.iter_mut().find(|group| trial.joins && takes(group)) {
+            Some(group) => group.push(trial),
+            None => groups.push(vec![trial]),
+        }
+    }
+    groups
+}
+
 /// How many run at a time.
 fn jobs() -> usize {
     let asked = std::env::var("RT_JOBS").ok().and_then(|jobs| jobs.parse().ok());
@@ -295,7 +427,7 @@ fn jobs() -> usize {
 /// them came out otherwise than they must.
 fn run(logs: bool, mut words: Vec<String>) -> Result<(usize, usize), String> {
     let repository = std::env::current_dir().map_err(|error| error.to_string())?;
-    let folder = if logs { "must-fail" } else { "refused" };
+    let folder = if logs { "must-fail" } else { REFUSED };
     if words.is_empty() {
         words = crates_with(&repository, folder)?;
     }
@@ -308,17 +440,16 @@ fn run(logs: bool, mut words: Vec<String>) -> Result<(usize, usize), String> {
     let benches: Vec<Bench> = (0..jobs())
         .map(|number| Bench::new(&repository, number, logs))
         .collect::<Result<_, _>>()?;
-    let usual = benches[0].run()?;
-    if !usual.contains("found \"") {
-        return Err(format!("{PROGRAM} does not run:\n{usual}"));
-    }
+    let programs = PROGRAMS.iter().filter(|one| names.iter().any(|name| one.reaches(name)));
+    let usual = programs.map(|one| benches[0].run_usual(one)).collect::<Result<Vec<Usual>, _>>()?;
     let kept = benches[0].copy.join("kept");
     if !logs {
         let folder = benches[0].folder_of_checks()?;
         share(&benches, names, |bench, name| bench.check_whole(&name, &folder, &kept))?;
     }
-    let right = share(&benches, trials, |bench, trial| bench.try_one(&trial, &kept, &usual))?;
-    Ok((right.len(), right.iter().filter(|right| !**right).count()))
+    let groups = grouped(trials);
+    let tried = share(&benches, groups, |bench, group| bench.try_group(&group, &kept, &usual))?;
+    Ok(tried.iter().fold((0, 0), |all, one| (all.0 + one.0, all.1 + one.1)))
 }
 
 fn main() -> ExitCode {

@@ -1,46 +1,67 @@
--- `store::fit::places_fit` meets its contract: all fit where those left do.
-use borrow.Author.Needs.{needs}
-use Prim.Native.Nat.{_≤_, _-_}
+-- `store::fit::places_fit` meets its contract, file by file: where one ends the next starts, and the last ends with the last place.
+use Prim.Native.Nat.{suc, _≤_, _-_}
 use native.Mathlib.Omega.{arith}
-use mathlib.Core.Path.{_≡_, refl, sym, _∙_}
+use native.Mathlib.Numerals.{add-one}
+use mathlib.Core.Path.{_≡_, refl, sym, ap, _∙_}
+use lib.ListN.{length}
 use borrow.Author.Tests.{not-true, not-false}
-use Rattle.base.specs.Search.{allFrom}
-use Rattle.base.proofs.Searches.{all-next, all-fails, all-none}
-use Rattle.page.specs.Plan.{places}
-use Rattle.store.specs.Record.{placeFits}
+use Rattle.base.proofs.Choice.{true-false}
+use Rattle.page.specs.Plan.{filePlan, lastFile, places, startOf}
+use Rattle.page.proofs.Plans.{start-next, plan-sum}
+use Rattle.store.specs.Testing.{Tested}
+use Rattle.store.proofs.PlaceTests.{tested-none, tested-all, tested-times}
+use borrow.Author.Needs.{needs}
 use Rattle.store.proofs.fit.places_fit.Statement.{statement}
 use Rattle.store.proofs.fit.places_fit.Tie as tie
 
 abbrev Inv-loop : tie.InvT-loop
-Inv-loop image map x₀ x = (x ≤ places) × (allFrom (placeFits image map) places 0 ≡ allFrom (placeFits image map) (places - x) x)
+Inv-loop image map named₀ file₀ named file =
+    (file ≤ suc lastFile) × (length named ≡ length named₀) × Tested image map named (startOf filePlan file)
 
 abbrev μ-loop : tie.MeasureT-loop
-μ-loop image map x₀ x = places - x
+μ-loop image map named₀ file₀ named file = suc lastFile - file
 
 loop-holds : tie.Need-loop-holds Inv-loop μ-loop
-loop-holds c = (omega arith, refl)
+unfolding startOf
+loop-holds c =
+    let s = c .before .before .before in
+    (omega arith, refl, tested-none (s .args .image .now) (s .args .map .now) (s .args .named .now) (s .pre .2))
 
-place-fits-requires : tie.Need-place-fits-requires Inv-loop μ-loop
-place-fits-requires c κs = search needs
+file-fits-requires : tie.Need-file-fits-requires Inv-loop μ-loop
+file-fits-requires c κs =
+    let s = c .before .before .before .before .before .before in
+    (s .pre .0, s .pre .1, omega arith, c .before .before .loop .inv .2)
+
+same-length : tie.Need-same-length Inv-loop μ-loop
+same-length c = search needs
 
 returns : tie.Need-returns Inv-loop μ-loop
 returns c =
-    let l = c .before .before .before .loop in
-    sym (l .inv .1 ∙ all-fails _ places (l .x) (omega arith) (sym (c .before .place-fits .ensures) ∙ not-true _ (c .if1 .taken)))
+    let p = c .before .before .before .file-fits in
+    (sym (p .ensures .wrong (not-true _ (c .if1 .taken))), λ e. absurd (true-false e refl))
 
-add-x : tie.Need-add-x Inv-loop μ-loop
-add-x c = search needs
+add-file : tie.Need-add-file Inv-loop μ-loop
+add-file c = search needs
 
 loop-less : tie.Need-loop-less Inv-loop μ-loop
 loop-less c = search needs
 
 loop-again : tie.Need-loop-again Inv-loop μ-loop
 loop-again c =
-    let l = c .before .before .before .loop in
-    (omega arith, l .inv .1 ∙ all-next _ places (l .x) (omega arith) (sym (c .before .place-fits .ensures) ∙ not-false _ (c .if1 .left)))
+    let p = c .before .before .before .file-fits in
+    (omega arith, search needs, rw (add-one, start-next) (p .ensures .right (not-false _ (c .if1 .left))))
+
+same-length-2 : tie.Need-same-length-2 Inv-loop μ-loop
+same-length-2 c = search needs
 
 returns-2 : tie.Need-returns-2 Inv-loop μ-loop
-returns-2 c = sym (c .before .loop .inv .1 ∙ all-none _ places (c .before .loop .x) (c .loop-test .left))
+returns-2 c =
+    let l = c .before .loop in
+    let a = c .before .before .before .before .before .args in
+    let last : l .file ≡ length filePlan = omega arith in
+    let e : startOf filePlan (l .file) ≡ places = ap (startOf filePlan) last ∙ plan-sum in
+    let t = rw e at (l .inv .2) in
+    (sym (tested-all (a .image .now) (a .map .now) (l .named) t), λ _. tested-times (a .image .now) (a .map .now) (l .named) t)
 
 pub places-fit-spec : {M : Type 1} → statement M
 places-fit-spec =
@@ -49,9 +70,11 @@ places-fit-spec =
     Inv-loop
     μ-loop
     loop-holds
-    place-fits-requires
+    file-fits-requires
+    same-length
     returns
-    add-x
+    add-file
     loop-less
     loop-again
+    same-length-2
     returns-2)

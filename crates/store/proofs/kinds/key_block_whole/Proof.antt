@@ -2,8 +2,8 @@
 use borrow.Author.Needs.{needs}
 use Prim.Native.Nat.{ℕ, _≤_, _-_}
 use native.Mathlib.Omega.{arith}
-use mathlib.Core.Path.{_≡_, sym, _∙_}
-use mathlib.Core.Bool.{Bool}
+use mathlib.Core.Path.{_≡_, sym, ap, _∙_}
+use mathlib.Core.Bool.{Bool, true}
 use mathlib.Core.List.{List}
 use borrow.Author.Tests.{not-true, not-false}
 use Rattle.base.specs.Search.{allFrom}
@@ -13,7 +13,10 @@ use Rattle.image.specs.Size.{pagesInBlock}
 use Rattle.image.specs.Look.{formAt}
 use Rattle.store.specs.Kind.{pageIn, wholeWith, keyBlockWhole}
 use Rattle.store.proofs.BlockKinds.{keys-ranged}
-use Rattle.store.proofs.PageTests.{by-header, by-own-header}
+use Rattle.page.specs.Form.{wholeLike}
+use Rattle.page.specs.declared.Form.{Form}
+use Rattle.page.proofs.HeaderTests.{whole-with}
+use Rattle.store.proofs.PageTests.{by-own-header}
 use Rattle.store.proofs.kinds.key_block_whole.Statement.{statement}
 use Rattle.store.proofs.kinds.key_block_whole.Tie as tie
 
@@ -47,30 +50,29 @@ loop-holds c =
     let w = by-own-header _ (s .args .f) _ _ _ (s .pre .1) (c .before .same-frame .ensures) (c .before .before .keys .ensures) in
     (omega arith, all-next _ pagesInBlock 0 (omega arith) (sym w ∙ not-false _ (c .if1 .left)))
 
-mul-page-whole : tie.Need-mul-page-whole Inv-loop μ-loop
-mul-page-whole c = search needs
+page-like-requires : tie.Need-page-like-requires Inv-loop μ-loop
+page-like-requires c κs =
+    let s = c .before .before .before .before .before .before in
+    let w = by-own-header _ (s .args .f) _ _ _ (s .pre .1) (c .before .before .before .same-frame .ensures) (c .before .before .before .before .keys .ensures) in
+    let t = sym w ∙ not-false _ (c .before .before .if1 .left) in
+    let e = s .args .f .number in
+    let q = s .args .f .unit in
+    let g = pageIn (s .args .b) 0 in (
+      (s .pre .0, omega arith),
+      (keysFrame e q 0, whole-with (keysFrame e q 0) (formAt (s .args .image .now) g) t, keys-ranged (s .args .image .now) g e q (c .before .loop .page) t (omega arith)),
+    )
 
-add-page-whole : tie.Need-add-page-whole Inv-loop μ-loop
-add-page-whole c = search needs
-
-cast-keys : tie.Need-cast-keys Inv-loop μ-loop
-cast-keys c = search needs
-
-keys-requires-2 : tie.Need-keys-requires-2 Inv-loop μ-loop
-keys-requires-2 c κs = search needs
-
-page-whole-requires : tie.Need-page-whole-requires Inv-loop μ-loop
-page-whole-requires c κs =
-    let s = c .before .before .before .before .before .before .before in
-    let w = by-own-header _ (s .args .f) _ _ _ (s .pre .1) (c .before .before .before .before .same-frame .ensures) (c .before .before .before .before .before .keys .ensures) in
-    (omega arith, rw (c .keys2 .ensures) (keys-ranged (s .args .image .now) (pageIn (s .args .b) 0) _ _ (c .before .before .loop .page) (sym w ∙ not-false _ (c .before .before .before .if1 .left)) (omega arith)))
+-- what the test of page i of the loop says
+abbrev told : (img : List ℕ) (b e q i : ℕ) (r : Bool) → r ≡ wholeLike (formAt img (pageIn b 0)) i (formAt img (pageIn b i)) → wholeWith (keysFrame e q 0) (formAt img (pageIn b 0)) ≡ true → r ≡ keysWhole img b q e i
+told img b e q i r p w = p ∙ ap (λ (f : Form). wholeLike f i (formAt img (pageIn b i))) (whole-with (keysFrame e q 0) (formAt img (pageIn b 0)) w)
 
 returns-2 : tie.Need-returns-2 Inv-loop μ-loop
 returns-2 c =
-    let l = c .before .before .before .before .loop in
-    let a = c .before .before .before .before .before .before .before .before .before .args in
-    let w = by-header (formAt (a .image .now) (pageIn (a .b) (l .page))) _ _ _ (c .before .page-whole .ensures) (c .before .before .keys2 .ensures) in
-    sym (l .inv .1 ∙ all-fails _ pagesInBlock (l .page) (omega arith) (sym w ∙ not-true _ (c .if2 .taken)))
+    let s = c .before .before .before .before .before .before .before .before in
+    let l = c .before .before .before .loop in
+    let w = by-own-header _ (s .args .f) _ _ _ (s .pre .1) (c .before .before .before .before .before .same-frame .ensures) (c .before .before .before .before .before .before .keys .ensures) in
+    let h = told (s .args .image .now) (s .args .b) (s .args .f .number) (s .args .f .unit) (l .page) _ (c .before .page-like .ensures) (sym w ∙ not-false _ (c .before .before .before .before .if1 .left)) in
+    sym (l .inv .1 ∙ all-fails _ pagesInBlock (l .page) (omega arith) (sym h ∙ not-true _ (c .if2 .taken)))
 
 add-page : tie.Need-add-page Inv-loop μ-loop
 add-page c = search needs
@@ -80,10 +82,11 @@ loop-less c = search needs
 
 loop-again : tie.Need-loop-again Inv-loop μ-loop
 loop-again c =
-    let l = c .before .before .before .before .loop in
-    let a = c .before .before .before .before .before .before .before .before .before .args in
-    let w = by-header (formAt (a .image .now) (pageIn (a .b) (l .page))) _ _ _ (c .before .page-whole .ensures) (c .before .before .keys2 .ensures) in
-    (omega arith, l .inv .1 ∙ all-next _ pagesInBlock (l .page) (omega arith) (sym w ∙ not-false _ (c .if2 .left)))
+    let s = c .before .before .before .before .before .before .before .before in
+    let l = c .before .before .before .loop in
+    let w = by-own-header _ (s .args .f) _ _ _ (s .pre .1) (c .before .before .before .before .before .same-frame .ensures) (c .before .before .before .before .before .before .keys .ensures) in
+    let h = told (s .args .image .now) (s .args .b) (s .args .f .number) (s .args .f .unit) (l .page) _ (c .before .page-like .ensures) (sym w ∙ not-false _ (c .before .before .before .before .if1 .left)) in
+    (omega arith, l .inv .1 ∙ all-next _ pagesInBlock (l .page) (omega arith) (sym h ∙ not-false _ (c .if2 .left)))
 
 returns-3 : tie.Need-returns-3 Inv-loop μ-loop
 returns-3 c = sym (c .before .loop .inv .1 ∙ all-none _ pagesInBlock (c .before .loop .page) (c .loop-test .left))
@@ -98,11 +101,7 @@ key-block-whole-spec =
     same-frame-requires
     returns
     loop-holds
-    mul-page-whole
-    add-page-whole
-    cast-keys
-    keys-requires-2
-    page-whole-requires
+    page-like-requires
     returns-2
     add-page
     loop-less

@@ -9,7 +9,9 @@ use Rattle.base.proofs.Searches.{all-next, all-fails, all-none}
 use Rattle.page.specs.Entry.{parts}
 use Rattle.base.proofs.Choice.{and-true}
 use Rattle.store.specs.Kind.{pageIn, partWhole}
-use Rattle.store.proofs.BlockKinds.{commit-ranged}
+use Rattle.page.specs.Header.{commitFrame}
+use Rattle.page.proofs.HeaderTests.{whole-with}
+use Rattle.image.specs.Look.{formAt}
 use Rattle.store.proofs.kinds.parts_whole.Statement.{statement}
 use Rattle.store.proofs.kinds.parts_whole.Tie as tie
 
@@ -33,7 +35,7 @@ part-whole-requires c κs =
     let f = c .before .before .before in
     let w = and-true _ _ (sym (f .first-part-whole .ensures) ∙ not-false _ (c .before .before .if1 .left)) in
     let s = f .before .before in
-    (omega arith, omega arith, commit-ranged (s .args .image .now) (pageIn (s .args .b) 0) _ _ (c .before .loop .part) (w .0) (omega arith))
+    (omega arith, omega arith, whole-with (commitFrame (s .args .f .number) 0 (s .args .f .second)) (formAt (s .args .image .now) (pageIn (s .args .b) 0)) (w .0))
 
 returns-2 : tie.Need-returns-2 Inv-loop μ-loop
 returns-2 c =

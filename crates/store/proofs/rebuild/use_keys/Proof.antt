@@ -1,15 +1,13 @@
--- u stands at the positions that the places so far have named, so a letter that is u already is named twice.
-use Prim.Native.Nat.{_≤_, _+_, _-_}
+-- u stands at the positions that the places so far have named, run by run.
+use Prim.Native.Nat.{_≤_, _-_}
 use native.Mathlib.Omega.{arith}
-use mathlib.Core.Path.{_≡_, refl, sym, _∙_}
-use mathlib.Core.Bool.{true}
+use mathlib.Core.Path.{_≡_, refl, sym}
 use lib.ListN.{length}
 use borrow.Author.Tests.{not-true, not-false}
 use Rattle.base.proofs.Choice.{true-false}
 use Rattle.page.specs.Plan.{places}
-use Rattle.page.specs.Entry.{none}
-use Rattle.page.proofs.Slices.{getD-there}
-use Rattle.store.proofs.Markings.{Marked, marked-none, marked-next, marked-twice, marked-apart, marked-letters}
+use Rattle.store.specs.Rebuild.{Marked}
+use Rattle.store.proofs.Markings.{marked-none, marked-on, marked-apart, marked-letters}
 use borrow.Author.Needs.{needs}
 use Rattle.store.proofs.rebuild.use_keys.Statement.{statement}
 use Rattle.store.proofs.rebuild.use_keys.Tie as tie
@@ -23,41 +21,32 @@ abbrev μ-loop : tie.MeasureT-loop
 loop-holds : tie.Need-loop-holds Inv-loop μ-loop
 loop-holds c = let s = c .before .before in (omega arith, refl, marked-none (s .args .map .now) (s .args .letters .now) (s .pre .1) (s .pre .2))
 
-add-use-key : tie.Need-add-use-key Inv-loop μ-loop
-add-use-key c = search needs
+run-end-requires : tie.Need-run-end-requires Inv-loop μ-loop
+run-end-requires c κs = search needs
 
-mul-use-key : tie.Need-mul-use-key Inv-loop μ-loop
-mul-use-key c = search needs
-
-shared-slice-read-use-key : tie.Need-shared-slice-read-use-key Inv-loop μ-loop
-shared-slice-read-use-key c = search needs
-
-use-key-requires : tie.Need-use-key-requires Inv-loop μ-loop
-use-key-requires c κs = search needs
+use-run-requires : tie.Need-use-run-requires Inv-loop μ-loop
+use-run-requires c κs =
+    let end = c .before .run-end .ensures in
+    (omega arith, omega (arith, end), omega (arith, end), c .before .before .before .loop .inv .2 .tallied)
 
 same-length : tie.Need-same-length Inv-loop μ-loop
 same-length c = search needs
 
 returns : tie.Need-returns Inv-loop μ-loop
 returns c =
-    let l = c .before .before .before .before .before .before .before .loop in
-    let a = c .before .before .before .before .before .before .before .before .before .before .args in
-    let u = c .before .before .before .use-key in
-    (sym (marked-twice (a .map .now) (a .letters .now) (l .letters) (l .x) (omega arith) (l .inv .2) _ (getD-there (a .map .now) (places + l .x) 0 none (omega arith)) (not-false _ (sym (u .ensures .0) ∙ not-true _ (c .if1 .taken)))), λ e. absurd (true-false e refl))
-
-add-x : tie.Need-add-x Inv-loop μ-loop
-add-x c = search needs
+    let u = c .before .before .before .use-run in
+    (sym (u .ensures .1 (not-true _ (c .if1 .taken))), λ e. absurd (true-false e refl))
 
 loop-less : tie.Need-loop-less Inv-loop μ-loop
-loop-less c = search needs
+loop-less c = omega (arith, c .before .before .before .before .before .run-end .ensures)
 
 loop-again : tie.Need-loop-again Inv-loop μ-loop
 loop-again c =
     let l = c .before .before .before .before .before .before .before .loop in
     let a = c .before .before .before .before .before .before .before .before .before .before .args in
-    let u = c .before .before .before .use-key in
-    let t : u .result ≡ true = not-false _ (c .if1 .left) in
-    (omega arith, search needs, marked-next (a .map .now) (a .letters .now) (l .letters) (l .x) (omega arith) (l .inv .2) _ (getD-there (a .map .now) (places + l .x) 0 none (omega arith)) _ (not-true _ (sym (u .ensures .0) ∙ t)) (u .ensures .1 t))
+    let end = c .before .before .before .before .before .run-end in
+    let u = c .before .before .before .use-run in
+    (omega (arith, end .ensures), search needs, marked-on (a .map .now) (a .letters .now) (l .letters) _ (l .x) (end .result) (l .inv .2) (u .ensures .0 (not-false _ (c .if1 .left))))
 
 same-length-2 : tie.Need-same-length-2 Inv-loop μ-loop
 same-length-2 c = search needs
@@ -75,13 +64,10 @@ use-keys-spec =
     Inv-loop
     μ-loop
     loop-holds
-    add-use-key
-    mul-use-key
-    shared-slice-read-use-key
-    use-key-requires
+    run-end-requires
+    use-run-requires
     same-length
     returns
-    add-x
     loop-less
     loop-again
     same-length-2

@@ -1,8 +1,9 @@
--- The spelling of a number below 10,000 in four columns, as the word that code makes of it.
+-- The spelling of a number in three, four and eight columns, by the words that code makes of it.
 use Prim.Native.Nat.{ℕ, zero, suc, _+_, _*_, _-_, _/_, _%_, _<_, _≤_}
 use native.Mathlib.Omega.{arith}
 use mathlib.Core.Path.{_≡_, refl, sym, ap, _∙_}
-use mathlib.Core.List.{List, [], _∷_}
+use mathlib.Core.List.{List, [], _∷_, _++_}
+use lib.ListN.{drop}
 use borrow.Author.Tests.{eq-eqb, ne-eqb}
 use Rattle.page.specs.Frame.{space}
 use Rattle.page.specs.Column.{zeroDigit, column, columns, spell}
@@ -78,3 +79,38 @@ module _ (n : ℕ) where
       (shown m₃ (n / 100 / 10) (omega arith) (λ (e : m₃ ≡ 0). omega arith)) (shown m₂ (n / 100 % 10) hundreds (λ (e : m₂ ≡ 0). omega arith))
       (shown m₁ (n % 100 / 10) tens (λ (e : m₁ ≡ 0). omega arith)) (omega (arith, ones)) (tail + 0x3030 + n / 100 / 10 + n / 100 % 10 * 0x100)
       (omega arith) (omega arith) (omega arith) (omega arith) (omega arith)
+
+  -- of a longer number the last four digits
+  pub last-digits : 10_000 ≤ n
+      → wordBytes 4 (0x30303030 + n / 100 % 100 / 10 + n / 100 % 100 % 10 * 0x100 + n % 100 / 10 * 0x10000 + n % 100 % 10 * 0x1000000) ≡ spell 4 n
+  last-digits g =
+      let a : n / 100 % 100 / 10 ≡ m₃ % 10 = omega arith in
+      let b : n / 100 % 100 % 10 ≡ m₂ % 10 = omega arith in
+      spelt-word n (zeroDigit + n / 100 % 100 / 10) (zeroDigit + n / 100 % 100 % 10) (zeroDigit + n % 100 / 10) (zeroDigit + n % 100 % 10)
+      (shown m₃ (n / 100 % 100 / 10) a (λ (e : m₃ ≡ 0). omega arith)) (shown m₂ (n / 100 % 100 % 10) b (λ (e : m₂ ≡ 0). omega arith))
+      (shown m₁ (n % 100 / 10) tens (λ (e : m₁ ≡ 0). omega arith)) (omega (arith, ones)) _
+      (omega arith) (omega arith) (omega arith) (omega arith) (omega arith)
+
+-- ---- three columns are the last of four
+pub last-three : (n w : ℕ) → wordBytes 4 w ≡ spell 4 n → wordBytes 3 (w / 256) ≡ spell 3 n
+unfolding wordBytes spell columns
+last-three n w e = ap (drop 1) e
+
+-- ---- eight columns are twice four
+module _ (n : ℕ) where
+  high-columns : (a b c d : ℕ) → a ≡ column (n / 10 / 10 / 10 / 10 / 10 / 10 / 10) → b ≡ column (n / 10 / 10 / 10 / 10 / 10 / 10) → c ≡ column (n / 10 / 10 / 10 / 10 / 10) → d ≡ column (n / 10 / 10 / 10 / 10)
+      → (a ∷ b ∷ c ∷ d ∷ []) ++ spell 4 n ≡ spell 8 n
+  unfolding spell columns
+  high-columns a b c d p q r s = λ i. (p i ∷ q i ∷ r i ∷ s i ∷ []) ++ spell 4 n
+
+  pub high-spaces : n < 10_000 → wordBytes 4 0x20202020 ++ spell 4 n ≡ spell 8 n
+  unfolding wordBytes
+  high-spaces h =
+      high-columns 0x20 0x20 0x20 0x20 (blank n (n / 10 / 10 / 10 / 10 / 10 / 10 / 10) (omega arith)) (blank n (n / 10 / 10 / 10 / 10 / 10 / 10) (omega arith))
+      (blank n (n / 10 / 10 / 10 / 10 / 10) (omega arith)) (blank n (n / 10 / 10 / 10 / 10) (omega arith))
+
+  pub high-spelt : 10_000 ≤ n → spell 4 (n / 10_000) ++ spell 4 n ≡ spell 8 n
+  unfolding spell columns
+  high-spelt h =
+      let e : n / 10_000 ≡ n / 10 / 10 / 10 / 10 = omega arith in
+      rw e (high-columns _ _ _ _ refl refl refl (sym (column-some (n / 10 / 10 / 10 / 10) (λ (z : n / 10 / 10 / 10 / 10 ≡ 0). omega arith))))

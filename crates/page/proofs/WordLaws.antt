@@ -2,11 +2,11 @@
 use Prim.Native.Nat.{ℕ, zero, suc, _+_, _*_, _/_, _%_, _^_, _<_, _≤_}
 use native.Mathlib.Omega.{arith}
 use native.Mathlib.Nat.{pow-suc, zero-add, suc-add}
-use mathlib.Core.Path.{_≡_, refl, ap, _∙_}
+use mathlib.Core.Path.{_≡_, refl, sym, ap, _∙_}
 use mathlib.Core.Bool.{Bool, _&&_}
 use mathlib.Core.List.{List, [], _∷_, _++_, append-assoc}
-use lib.ListN.{length, getD, set, take, drop}
-use lib.Seq.{drop-cons, drop-drop, take-nil, sets-eq}
+use lib.ListN.{length, getD, set, take, drop, length-append}
+use lib.Seq.{drop-cons, drop-drop, take-nil, take-at, drop-at, length-take-le, sets-eq}
 use lib.Dec.{eqb}
 use borrow.Author.Tests.{eqb-true, eq-eqb}
 use Rattle.base.specs.Part.{part, splice}
@@ -26,6 +26,10 @@ two-bytes a b g h = cons-eq (omega arith) (cons-eq (omega arith) refl)
 pub four-bytes : (a b c d : ℕ) → a < 256 → b < 256 → c < 256 → d < 256 → wordBytes 4 (a + b * 0x100 + c * 0x10000 + d * 0x1000000) ≡ a ∷ b ∷ c ∷ d ∷ []
 unfolding wordBytes
 four-bytes a b c d g h k l = cons-eq (omega arith) (cons-eq (omega arith) (cons-eq (omega arith) (cons-eq (omega arith) refl)))
+
+pub bytes-of-three : (w : ℕ) → w % 0x100 ∷ w / 0x100 % 0x100 ∷ w / 0x10000 % 0x100 ∷ [] ≡ wordBytes 3 w
+unfolding wordBytes
+bytes-of-three w = cons-eq refl (cons-eq refl (cons-eq (omega arith) refl))
 
 pub bytes-of-four : (w : ℕ) → w < 0x100000000 → w % 0x100 ∷ w / 0x100 % 0x100 ∷ w / 0x10000 % 0x100 ∷ w / 0x1000000 ∷ [] ≡ wordBytes 4 w
 unfolding wordBytes
@@ -91,6 +95,14 @@ module _ (xs : List ℕ) (at : ℕ) where
       (next (at + 2) (at + 3) (omega arith) (omega arith) ∙ cons-eq refl (next (at + 3) (at + 4) (omega arith) (omega arith)))))
 
   -- and written one after the other
+  pub put-three : (a b c : ℕ) → at + 3 ≤ length xs → set (set (set xs at a) (at + 1) b) (at + 2) c ≡ splice xs at (a ∷ b ∷ c ∷ [])
+  unfolding splice
+  put-three a b c h =
+      let e : at + 1 ≡ suc at = omega arith in
+      let f : at + 2 ≡ suc (suc at) = omega arith in
+      rw (e, f, drop-drop 3 at xs)
+      (sets-eq (a ∷ b ∷ c ∷ []) xs at h ∙ append-assoc (take at xs) (a ∷ b ∷ c ∷ []) (drop (at + 3) xs))
+
   pub put-four : (a b c d : ℕ) → at + 4 ≤ length xs → set (set (set (set xs at a) (at + 1) b) (at + 2) c) (at + 3) d ≡ splice xs at (a ∷ b ∷ c ∷ d ∷ [])
   unfolding splice
   put-four a b c d h =
@@ -109,6 +121,16 @@ take-join (suc m) n (y ∷ ys) = rw (suc-add m n) (cons-eq refl (take-join m n y
 pub part-join : (xs : List ℕ) (a m n : ℕ) → part xs a m ++ part xs (a + m) n ≡ part xs a (m + n)
 unfolding part
 part-join xs a m n = rw (← drop-drop m a xs) (take-join m n (drop a xs))
+
+-- ---- a part written in two parts
+pub splice-join : (xs : List ℕ) (a b : ℕ) (ys zs : List ℕ) → length ys ≡ b → a + b ≤ length xs → splice (splice xs a ys) (a + b) zs ≡ splice xs a (ys ++ zs)
+unfolding splice
+splice-join xs a b ys zs e h =
+    let p = take a xs in
+    let l : length p ≡ a = length-take-le a xs (omega arith) in
+    let k : length (p ++ ys) ≡ a + b = simp length-append (omega arith) in
+    rw (← append-assoc p ys (drop (length ys) (drop a xs)), take-at (p ++ ys) (drop (length ys) (drop a xs)) (a + b) k, drop-at (p ++ ys) (drop (length ys) (drop a xs)) (a + b) k)
+    (simp append-assoc (ap (λ (t : List ℕ). p ++ (ys ++ (zs ++ t))) (drop-drop (length zs) (length ys) (drop a xs) ∙ ap (λ (m : ℕ). drop m (drop a xs)) (sym (length-append ys zs)))))
 
 -- ---- lists compared in two parts
 pub same-append : (a b c d : List ℕ) → length a ≡ length c → same (a ++ b) (c ++ d) ≡ same a c && same b d

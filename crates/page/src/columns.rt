@@ -3,6 +3,7 @@ use crate::Number;
 use crate::words;
 ghost use mathlib.Core.Path.{_≡_};
 ghost use mathlib.Core.Bool.{true, false};
+ghost use mathlib.Core.List.{_++_};
 ghost use Prim.Native.Nat.{_+_, _≤_, _<_};
 ghost use lib.ListN.{length};
 ghost use lib.Dec.{leb};
@@ -94,6 +95,53 @@ pub fn spelt4(n: u32) -> u32
         return tail + 0x3020 + high * 0x100;
     }
     tail + 0x3030 + high / 10 + high % 10 * 0x100
+}
+
+// Four columns of any number, as one word: of a longer one its last four digits.
+fn spelt_low(n: u32) -> u32
+    ensures { λ r. ⌜ wordBytes 4 r ≡ spell 4 n ⌝ }
+{
+    if n < 10_000 {
+        return spelt4(n);
+    }
+    let high = n / 100 % 100;
+    let low = n % 100;
+    0x30303030 + high / 10 + high % 10 * 0x100 + low / 10 * 0x10000 + low % 10 * 0x1000000
+}
+
+// The first four of a number's eight columns, as one word. The others are its four columns.
+fn spelt_high(n: u32) -> u32
+    ensures { λ r. ⌜ wordBytes 4 r ++ spell 4 n ≡ spell 8 n ⌝ }
+{
+    if n < 10_000 {
+        return SPACES;
+    }
+    spelt_low(n / 10_000)
+}
+
+// Writes n into the three columns of dst from at on: the last three of four.
+pub fn put3(dst: &mut [u8], at: usize, n: u32)
+    requires { ⌜ at + 3 ≤ length (now dst) ⌝ }
+    ensures { λ _. ⌜ new dst ≡ splice (old dst) at (spell 3 n) ⌝ }
+{
+    words::put_word3(dst, at, spelt_low(n) / 0x100);
+}
+
+// Writes n into the four columns of dst from at on.
+pub fn put4(dst: &mut [u8], at: usize, n: u32)
+    requires { ⌜ at + 4 ≤ length (now dst) ⌝ }
+    ensures { λ _. ⌜ new dst ≡ splice (old dst) at (spell 4 n) ⌝ }
+{
+    words::put_word4(dst, at, spelt_low(n));
+}
+
+// Writes n into the eight columns of dst from at on.
+pub fn put8(dst: &mut [u8], at: usize, n: u32)
+    requires { ⌜ at + 8 ≤ length (now dst) ⌝ }
+    ensures { λ _. ⌜ new dst ≡ splice (old dst) at (spell 8 n) ⌝ }
+{
+    words::put_word4(dst, at, spelt_high(n));
+    words::put_word4(dst, at + 4, spelt_low(n));
 }
 
 // Whether the eight columns of a word hold a number from 1 on: below the lowest digit that is not 0 spaces, above it digits.

@@ -39,6 +39,11 @@ const ENTRIES_IN_PART: usize = 28;
 
 const FIRST_ENTRY_PART: usize = 2;
 
+// Where the columns of its page and of its key start.
+const PAGE_AT: usize = 0;
+
+const KEY_AT: usize = 4;
+
 // The last page that an entry can name.
 const LAST_PAGE: u32 = 4095;
 
@@ -57,8 +62,8 @@ pub fn write_entry(dst: &mut [u8], page: u16, key: u16)
     if page == NONE {
         bytes::copy(dst, b"   -   -");
     } else {
-        columns::put(&mut dst[0..4], 4, page as u32);
-        columns::put(&mut dst[4..8], 4, key as u32);
+        columns::put4(dst, PAGE_AT, page as u32);
+        columns::put4(dst, KEY_AT, key as u32);
     }
 }
 
@@ -78,10 +83,10 @@ pub fn read_entry(src: &[u8]) -> Entry
     if is_vacant(src) {
         return Entry::Vacant;
     }
-    let Number::Is(page) = columns::get4(src, 0) else {
+    let Number::Is(page) = columns::get4(src, PAGE_AT) else {
         return Entry::Misspelt;
     };
-    let Number::Is(key) = columns::get4(src, 4) else {
+    let Number::Is(key) = columns::get4(src, KEY_AT) else {
         return Entry::Misspelt;
     };
     if LAST_PAGE < page {

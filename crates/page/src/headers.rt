@@ -21,26 +21,19 @@ ghost use Rattle.page.specs.Word.{wordBytes};
 ghost use Rattle.page.specs.Column.{spell};
 ghost use Rattle.page.specs.declared.Frame.{Frame as HeaderFrame};
 
-// Where each number's columns start and how many there are; the kind letter is before them, colon and space after them.
-const NUMBER_AT: usize = 1;
+// Where the kind letter stands, where each number's columns start, and where colon and space follow them. Number and second
+// have eight columns, the unit three, part and key four.
+const KIND_AT: usize = 0;
 
-const NUMBER_COLUMNS: usize = 8;
+const NUMBER_AT: usize = 1;
 
 const UNIT_AT: usize = 9;
 
-const UNIT_COLUMNS: usize = 3;
-
 const PART_AT: usize = 12;
-
-const PART_COLUMNS: usize = 4;
 
 const KEY_AT: usize = 16;
 
-const KEY_COLUMNS: usize = 4;
-
 const SECOND_AT: usize = 20;
-
-const SECOND_COLUMNS: usize = 8;
 
 const END_AT: usize = 28;
 
@@ -127,13 +120,13 @@ pub fn write_header(dst: &mut [u8], f: Frame)
     requires { ⌜ length (now dst) ≡ headerSize ⌝ }
     ensures { λ _. ⌜ new dst ≡ headerBytes f ⌝ }
 {
-    columns::put_at(dst, NUMBER_AT, NUMBER_COLUMNS, f.number);
-    columns::put_at(dst, UNIT_AT, UNIT_COLUMNS, f.unit);
-    columns::put_at(dst, PART_AT, PART_COLUMNS, f.part);
-    columns::put_at(dst, KEY_AT, KEY_COLUMNS, f.key);
-    columns::put_at(dst, SECOND_AT, SECOND_COLUMNS, f.second);
+    columns::put8(dst, NUMBER_AT, f.number);
+    columns::put3(dst, UNIT_AT, f.unit);
+    columns::put4(dst, PART_AT, f.part);
+    columns::put4(dst, KEY_AT, f.key);
+    columns::put8(dst, SECOND_AT, f.second);
     bytes::copy(&mut dst[END_AT..Frame::HEADER], b": ");
-    dst[0] = f.kind;
+    dst[KIND_AT] = f.kind;
 }
 
 // Whether b is one of the four kind letters.
@@ -151,7 +144,7 @@ fn read_fields(src: &[u8]) -> Header
     requires { ⌜ (length (now src) ≡ headerSize) × (same (part (now src) 28 2) colonSpace ≡ true) ⌝ }
     ensures { λ r. ⌜ r ≡ headerOf (old src) ⌝ }
 {
-    let kind = src[0];
+    let kind = src[KIND_AT];
     let Number::Is(number) = columns::get8(src, NUMBER_AT) else {
         return Header::Invalid;
     };
@@ -187,7 +180,7 @@ pub fn read_header(src: &[u8]) -> Header
     requires { ⌜ length (now src) ≡ headerSize ⌝ }
     ensures { λ r. ⌜ r ≡ headerOf (old src) ⌝ }
 {
-    if !is_kind(src[0]) {
+    if !is_kind(src[KIND_AT]) {
         return Header::Invalid;
     }
     if !bytes::same(&src[END_AT..Frame::HEADER], b": ") {
@@ -220,7 +213,7 @@ pub fn is_node_of(src: &[u8], file: u32, text: u32, offset: u32, position: u32) 
     requires { ⌜ (length (now src) ≡ headerSize) × (inRange (nodeFrame 1 file offset position) ≡ true) × (wordBytes 4 text ≡ spell 4 file) ⌝ }
     ensures { λ r. ⌜ r ≡ nodeWith file offset position (headerOf (old src)) ⌝ }
 {
-    (src[0] == Frame::NODE_LETTER)
+    (src[KIND_AT] == Frame::NODE_LETTER)
         & is_place(src, file, text, offset)
         & words::is_word4(src, KEY_AT, columns::spelt4(position))
         & words::same8(src, SECOND_AT, b"       0: ", 0)
@@ -247,5 +240,5 @@ pub fn put_part(dst: &mut [u8], part: u32)
     requires { ⌜ (length (now dst) ≡ headerSize) × (part < 10_000) ⌝ }
     ensures { λ _. ⌜ new dst ≡ splice (old dst) partAt (spell partWidth part) ⌝ }
 {
-    words::put_word4(dst, PART_AT, columns::spelt4(part));
+    columns::put4(dst, PART_AT, part);
 }

@@ -85,6 +85,16 @@ pub fn is_word4(a: &[u8], i: usize, w: u32) -> bool
     word4(a, i) == w
 }
 
+// Writes the three lowest bytes of w into dst from at on.
+pub fn put_word3(dst: &mut [u8], at: usize, w: u32)
+    requires { ⌜ at + 3 ≤ length (now dst) ⌝ }
+    ensures { λ _. ⌜ new dst ≡ splice (old dst) at (wordBytes 3 w) ⌝ }
+{
+    dst[at] = (w % 0x100) as u8;
+    dst[at + 1] = (w / 0x100 % 0x100) as u8;
+    dst[at + 2] = (w / 0x10000 % 0x100) as u8;
+}
+
 // Writes the four bytes of w into dst from at on.
 pub fn put_word4(dst: &mut [u8], at: usize, w: u32)
     requires { ⌜ at + 4 ≤ length (now dst) ⌝ }

@@ -6,20 +6,20 @@ use Rattle.page.proofs.HeaderLaws.{header-written}
 use Rattle.page.proofs.headers.write_header.Statement.{statement}
 use Rattle.page.proofs.headers.write_header.Tie as tie
 
-put-at-requires : tie.Need-put-at-requires
-put-at-requires c κs = search needs
+put8-requires : tie.Need-put8-requires
+put8-requires c κs = search needs
 
-put-at-requires-2 : tie.Need-put-at-requires-2
-put-at-requires-2 c κs = search needs
+put3-requires : tie.Need-put3-requires
+put3-requires c κs = search needs
 
-put-at-requires-3 : tie.Need-put-at-requires-3
-put-at-requires-3 c κs = search needs
+put4-requires : tie.Need-put4-requires
+put4-requires c κs = search needs
 
-put-at-requires-4 : tie.Need-put-at-requires-4
-put-at-requires-4 c κs = search needs
+put4-requires-2 : tie.Need-put4-requires-2
+put4-requires-2 c κs = search needs
 
-put-at-requires-5 : tie.Need-put-at-requires-5
-put-at-requires-5 c κs = search needs
+put8-requires-2 : tie.Need-put8-requires-2
+put8-requires-2 c κs = search needs
 
 sub-copy : tie.Need-sub-copy
 sub-copy c = search needs
@@ -52,11 +52,11 @@ returns c =
     let s = number .before .before .before in
     rw (
       c .before .before .copy .ensures,
-      second .put-at5 .ensures,
-      key .put-at4 .ensures,
-      part' .put-at3 .ensures,
-      unit .put-at2 .ensures,
-      number .put-at .ensures,
+      second .put82 .ensures,
+      key .put42 .ensures,
+      part' .put4 .ensures,
+      unit .put3 .ensures,
+      number .put8 .ensures,
     )
     (header-written (now (s .args .dst)) (s .args .f) (s .pre))
 
@@ -64,11 +64,11 @@ pub write-header-spec : {M : Type 1} → statement M
 write-header-spec =
     tie.close
     (tie.spec
-    put-at-requires
-    put-at-requires-2
-    put-at-requires-3
-    put-at-requires-4
-    put-at-requires-5
+    put8-requires
+    put3-requires
+    put4-requires
+    put4-requires-2
+    put8-requires-2
     sub-copy
     part-copy-start
     part-copy-end

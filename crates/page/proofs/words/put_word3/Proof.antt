@@ -1,0 +1,56 @@
+-- `put_word3` writes the three lowest bytes of a number.
+use Rattle.page.proofs.WordLaws.{put-three, bytes-of-three}
+use mathlib.Core.Path.{ap, _∙_}
+use lib.ListN.{length-set}
+use Rattle.base.specs.Part.{splice}
+use denote.Ref.{now}
+use borrow.Author.Needs.{needs}
+use Rattle.page.proofs.words.put_word3.Statement.{statement}
+use Rattle.page.proofs.words.put_word3.Tie as tie
+
+cast-dst : tie.Need-cast-dst
+cast-dst c = search needs
+
+slice-write-dst : tie.Need-slice-write-dst
+slice-write-dst c = search needs
+
+cast-dst-2 : tie.Need-cast-dst-2
+cast-dst-2 c = search needs
+
+add-dst : tie.Need-add-dst
+add-dst c = search needs
+
+slice-write-dst-2 : tie.Need-slice-write-dst-2
+slice-write-dst-2 c = simp length-set (search needs)
+
+cast-dst-3 : tie.Need-cast-dst-3
+cast-dst-3 c = search needs
+
+add-dst-2 : tie.Need-add-dst-2
+add-dst-2 c = search needs
+
+slice-write-dst-3 : tie.Need-slice-write-dst-3
+slice-write-dst-3 c = simp length-set (search needs)
+
+same-length : tie.Need-same-length
+same-length c = search needs
+
+returns : tie.Need-returns
+returns c =
+    let a = c .args in
+    put-three (now (a .dst)) (a .at) _ _ _ (c .pre) ∙ ap (splice (now (a .dst)) (a .at)) (bytes-of-three (a .w))
+
+pub put-word3-spec : {M : Type 1} → statement M
+put-word3-spec =
+    tie.close
+    (tie.spec
+    cast-dst
+    slice-write-dst
+    cast-dst-2
+    add-dst
+    slice-write-dst-2
+    cast-dst-3
+    add-dst-2
+    slice-write-dst-3
+    same-length
+    returns)

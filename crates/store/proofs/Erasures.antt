@@ -6,18 +6,18 @@ use mathlib.Core.Path.{_≡_, refl, sym, ap, _∙_}
 use mathlib.Core.Bool.{Bool, true, false, cond, not, _&&_, _||_}
 use mathlib.Core.List.{List, _∷_, map}
 use lib.Dec.{eqb}
-use lib.ListN.{length}
+use lib.ListN.{length, getD}
 use Rattle.base.specs.Search.{firstFrom, whichFrom}
-use Rattle.base.proofs.Searches.{first-bounds, first-holds, which-here, which-next, which-none}
-use Rattle.image.specs.Size.{blockSize}
+use Rattle.base.proofs.Searches.{first-bounds, first-holds, first-agree, which-here, which-none}
+use Rattle.image.specs.Size.{blockSize, blocks}
 use Rattle.image.specs.Look.{blockAt, blockEmpty}
 use Rattle.image.specs.Step.{erase}
 use Rattle.image.specs.Power.{Device, device, act, run}
 use Rattle.image.specs.declared.Power.{Power}
-use Rattle.image.proofs.Empties.{block-empty-same}
 use Rattle.image.proofs.Runs.{run-nil, run-cons, act-length, block-done-other}
 use Rattle.store.specs.Kind.{isChosen, hasEvents, isData}
 use Rattle.store.specs.Mount.{isStray}
+use Rattle.store.specs.Replay.{EmptyTable}
 use Rattle.store.specs.declared.Numbers.{Numbers}
 
 -- ---- the numbers that a test picks begin with the first
@@ -78,6 +78,11 @@ module _ (picked : ℕ → Bool) (n : ℕ) (img₀ : List ℕ) (p₀ : Power) wh
   erasing-last img p b e h = sym (e .rest ∙ rw (which-none picked n b h) (run-nil (device p img)))
 
 -- ---- strays
+-- what a table's 1 or 0 says
+pub flagged : (h : Bool) → not (eqb (cond h 1 0) 0) ≡ h
+flagged true = refl
+flagged false = refl
+
 -- a stray is not chosen, has no event and is not empty
 pub stray-is : (img : List ℕ) (r : Numbers) (b : ℕ) → isStray img r b ≡ not (isChosen r b || hasEvents img b || blockEmpty img b)
 unfolding isStray isData
@@ -88,31 +93,15 @@ stray-is img r b = go (isChosen r b) (hasEvents img b) (blockEmpty img b)
     go false true e = refl
     go false false e = refl
 
--- ---- one more block: it is kept, or erased
-module _ (stray : ℕ → Bool) (n b : ℕ) (kept : Bool) (d e : Device) where
-  pub strays-next : b < n → stray b ≡ not kept → e ≡ cond kept d (act (erase b) d)
-      → run (map erase (whichFrom stray (n - b) b)) d ≡ run (map erase (whichFrom stray (n - (b + 1)) (b + 1))) e
-  strays-next h s q = go kept s q
-    where
-      go : (k : Bool) → stray b ≡ not k → e ≡ cond k d (act (erase b) d)
-          → run (map erase (whichFrom stray (n - b) b)) d ≡ run (map erase (whichFrom stray (n - (b + 1)) (b + 1))) e
-      go true s q = rw (which-next stray n b h s, q)
-      go false s q = rw (which-here stray n b h s, q) (run-cons (erase b) (map erase (whichFrom stray (n - (b + 1)) (b + 1))) d)
+-- what the code tests of a block, by the tables of events and empty blocks
+stray-told : (img : List ℕ) (r : Numbers) (b f e : ℕ) → f ≡ cond (hasEvents img b) 1 0 → e ≡ cond (blockEmpty img b) 1 0
+    → not (isChosen r b || not (eqb f 0) || not (eqb e 0)) ≡ isStray img r b
+stray-told img r b f e p q = rw (p, q, flagged (hasEvents img b), flagged (blockEmpty img b)) (sym (stray-is img r b))
 
-pub strays-none : (stray : ℕ → Bool) (n b : ℕ) (d : Device) → n ≤ b → run (map erase (whichFrom stray (n - b) b)) d ≡ d
-strays-none stray n b d h = rw (which-none stray n b h) (run-nil d)
-
--- another block stays as it was
-pub unless-other : (kept : Bool) (b a : ℕ) (p q : Power) (img img' : List ℕ) → device q img' ≡ cond kept (device p img) (act (erase b) (device p img))
-    → b * blockSize + blockSize ≤ length img → (b ≡ a → ⊥) → blockAt img' a ≡ blockAt img a
-unless-other true b a p q img img' e ins o = ap (λ (d : Device). blockAt (d .image) a) e
-unless-other false b a p q img img' e ins o = block-done-other (erase b) p q img img' a e ins o
-
--- what the code tests of a block, on an image where it stands as at first
-pub kept-is : (img img' : List ℕ) (r : Numbers) (b f : ℕ) → f ≡ cond (hasEvents img b) 1 0 → blockAt img' b ≡ blockAt img b
-    → isStray img r b ≡ not (isChosen r b || not (eqb f 0) || blockEmpty img' b)
-kept-is img img' r b f e s = stray-is img r b ∙ rw (block-empty-same img img' b s, e, flagged (hasEvents img b))
-  where
-    flagged : (h : Bool) → not (eqb (cond h 1 0) 0) ≡ h
-    flagged true = refl
-    flagged false = refl
+-- so the search for the next stray may go by the tables
+pub strays-told : (img events empties : List ℕ) (r : Numbers) → ((b : ℕ) → b < blocks img → getD events b 0 ≡ cond (hasEvents img b) 1 0) → EmptyTable img empties
+    → (i : ℕ) → i ≤ blocks img
+    → firstFrom (λ b. not (isChosen r b || not (eqb (getD events b 0) 0) || not (eqb (getD empties b 0) 0))) (blocks img - i) i ≡ firstFrom (isStray img r) (blocks img - i) i
+strays-told img events empties r told t i h =
+    first-agree _ (isStray img r) (blocks img - i) i
+    (λ b l m. let k : b < blocks img = omega arith in stray-told img r b (getD events b 0) (getD empties b 0) (told b k) (t .told b k))

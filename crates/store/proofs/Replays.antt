@@ -1,5 +1,5 @@
 -- Mount's pass over the pages: what each step makes of a place, a letter, the blocks with events and the highest sequence; and what the whole pass leaves.
-use Prim.Native.Nat.{ℕ, _+_, _-_, _*_, _/_, _%_, _<_, _≤_, max}
+use Prim.Native.Nat.{ℕ, zero, suc, _+_, _-_, _*_, _/_, _%_, _<_, _≤_, max}
 use native.Mathlib.Omega.{arith}
 use native.Mathlib.Nat.{zero-add}
 use native.Mathlib.Decide.{decLt}
@@ -32,7 +32,8 @@ use Rattle.page.proofs.Plans.{start-after, plan-sum, place-at}
 use Rattle.page.proofs.Ranges.{node-range, cut-off-range}
 use Rattle.page.proofs.Commits.{entry-is}
 use Rattle.image.specs.Size.{blockSize, pagesInBlock, mostBlocks, blocks, pages, sizeRight}
-use Rattle.image.specs.Look.{pageAt, formAt}
+use Rattle.image.specs.Look.{pageAt, blockEmpty, formAt}
+use Rattle.image.proofs.Empties.{empty-block-page}
 use Rattle.image.proofs.Looks.{sized, block-inside}
 use Rattle.store.specs.Kind.{pageIn, kindOf, headed, hasEvents}
 use Rattle.store.specs.Record.{mapSize}
@@ -41,7 +42,7 @@ use Rattle.store.specs.Write.{placeAt}
 use Rattle.store.specs.Taken.{Planned}
 use Rattle.store.specs.Replay.{Pass, heldAt, EachPlace, EachLetter, outranks, rangeRight, eventOf, Passed, Replayed}
 use Rattle.store.specs.declared.Kind.the-variants.{Commit}
-use Rattle.store.proofs.BlockKinds.{whole-in-range, torn-in-range, commit-inside}
+use Rattle.store.proofs.BlockKinds.{empty-form, whole-in-range, torn-in-range, commit-inside}
 use Rattle.store.proofs.Decisions.{setBy, cutBy, mount-map-length, mount-page, mount-key, mount-scratch-length, mount-sequence}
 
 -- two tests, in either order
@@ -246,9 +247,17 @@ passed-join img s m n g t u v a b =
     either : (p : ℕ → Bool) (x y : ℕ) → cond (anyFrom p n (g + m)) x (cond (anyFrom p m g) x y) ≡ cond (anyFrom p (m + n) g) x y
     either p x y = go (anyFrom p m g) (anyFrom p n (g + m)) x y ∙ ap (λ (c : Bool). cond c x y) (sym (any-join p m n g))
 
--- as a loop has it
-pub passed-next : (img : List ℕ) (s g : ℕ) (t u v : Pass) → Passed img s g 0 t u → Passed img s 1 g u v → Passed img s (g + 1) 0 t v
-passed-next img s g t u v a b = passed-join img s g 1 0 t u v a (rw zero-add b)
+-- as a loop over the pages of a block has it, from page first on, and as one over the blocks has it
+pub passed-next : (img : List ℕ) (s first g : ℕ) (t u v : Pass) → first ≤ g → Passed img s (g - first) first t u → Passed img s 1 g u v → Passed img s (g + 1 - first) first t v
+passed-next img s first g t u v h a b =
+    let k : first + (g - first) ≡ g = omega arith in
+    let n : g - first + 1 ≡ g + 1 - first = omega arith in
+    rw n at (passed-join img s (g - first) 1 first t u v a (rw k b))
+
+pub block-passed : (img : List ℕ) (s b : ℕ) (t u v : Pass) → Passed img s (b * pagesInBlock) 0 t u → Passed img s pagesInBlock (b * pagesInBlock) u v → Passed img s ((b + 1) * pagesInBlock) 0 t v
+block-passed img s b t u v a c =
+    let n : b * pagesInBlock + pagesInBlock ≡ (b + 1) * pagesInBlock = omega arith in
+    rw n at (passed-join img s (b * pagesInBlock) pagesInBlock 0 t u v a (rw zero-add c))
 
 -- one page, from what it makes of each list
 pub page-passed : (img : List ℕ) (s g : ℕ) (t t' : Pass) (m : Form) → m ≡ formAt img g → g / pagesInBlock < length (t .events)
@@ -301,6 +310,23 @@ page-idle img s g t inside e =
     (λ p h. rw (idle-letter s g (formAt img g) p e))
     (rw e)
     (rw (idle-sequence s g (formAt img g) e) (omega arith))
+
+-- and pages in a row that are none
+pages-idle : (img : List ℕ) (s n g : ℕ) (t : Pass) → ((i : ℕ) → g ≤ i → i < g + n → i / pagesInBlock < length (t .events))
+    → ((i : ℕ) → g ≤ i → i < g + n → headed (formAt img i) ≡ false) → Passed img s n g t t
+pages-idle img s zero g t inside e = passed-none img s g t
+pages-idle img s (suc n) g t inside e =
+    let k : 1 + n ≡ suc n = omega arith in
+    rw k at (passed-join img s 1 n g t t t (page-idle img s g t (inside g (omega arith) (omega arith)) (e g (omega arith) (omega arith)))
+    (pages-idle img s n (g + 1) t (λ i h l. inside i (omega arith) (omega arith)) (λ i h l. e i (omega arith) (omega arith))))
+
+-- an empty block leaves all as it is
+pub block-idle : (img : List ℕ) (s b : ℕ) (t : Pass) → b < length (t .events) → blockEmpty img b ≡ true → Passed img s pagesInBlock (b * pagesInBlock) t t
+block-idle img s b t inside empty =
+    pages-idle img s pagesInBlock (b * pagesInBlock) t (λ i h l. omega arith)
+    (λ i h l.
+    let k : i / pagesInBlock ≡ b = omega arith in
+    ap headed (empty-form img i (empty-block-page img i (rw k empty))))
 
 -- a page's header is in range
 pub range-right : (img : List ℕ) (g : ℕ) → rangeRight (formAt img g) ≡ true

@@ -4,6 +4,7 @@
 --   EachPlace, EachLetter   what a change makes of each place, of each letter
 --   outranks     an event against what a place holds
 --   rangeRight   a form whose header, if any, is in range
+--   EmptyTable   a table that says which blocks are empty
 --   eventOf      a page that is a whole or torn N or D page of a block
 --   Passed       what some pages in a row make of it
 --   Replayed     what the whole pass leaves
@@ -11,7 +12,7 @@ use Prim.Native.Nat.{ℕ, _<_, _/_, max}
 use mathlib.Core.Path.{_≡_}
 use mathlib.Core.Bool.{Bool, true, cond, _&&_}
 use mathlib.Core.List.{List}
-use lib.ListN.{getD}
+use lib.ListN.{length, getD}
 use lib.Dec.{eqb, leb}
 use Rattle.base.specs.Search.{anyFrom, highestFrom}
 use Rattle.base.specs.Fold.{foldFrom, listFrom}
@@ -22,7 +23,7 @@ use Rattle.page.specs.Entry.{deletedLetter}
 use Rattle.page.specs.declared.Form.{Form}
 use Rattle.page.specs.declared.Form.the-variants.{Empty, Whole, Torn, Spoilt}
 use Rattle.image.specs.Size.{pagesInBlock, mostBlocks, blocks, pages}
-use Rattle.image.specs.Look.{formAt}
+use Rattle.image.specs.Look.{blockEmpty, formAt}
 use Rattle.store.specs.Kind.{headed, hasEvents}
 use Rattle.store.specs.Record.{pageOf, keyOf}
 use Rattle.store.specs.Mount.{Decision, decideBy, spends, sequenceOf, unusedLetter, mountMap, mountScratch}
@@ -61,6 +62,11 @@ rangeRight Empty = true
 rangeRight (Whole f) = inRange f
 rangeRight (Torn f) = inRange f
 rangeRight Spoilt = true
+
+-- a table that says of each block of an image, by 1 or 0, whether it is empty
+pub record EmptyTable (img table : List ℕ) : Type 0 where
+  pub size : length table ≡ mostBlocks
+  pub told : (b : ℕ) → b < blocks img → getD table b 0 ≡ cond (blockEmpty img b) 1 0
 
 -- page g is a whole or torn N or D page of block b
 abbrev pub eventOf : List ℕ → ℕ → ℕ → Bool

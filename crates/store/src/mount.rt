@@ -90,6 +90,8 @@ fn mount_chosen(
         ≡ mountLeaves (left n k) (old image) (old map) (old letters) (old scratch) ⌝ }
 {
     let mut events = [0u8; MOST_BLOCKS];
+    let mut empties = [0u8; MOST_BLOCKS];
+    strays::find_empty(image, &mut empties);
     let commit = s.commit;
     let Rebuilt::Fits(highest) = rebuild::rebuild_record(
         image,
@@ -99,6 +101,7 @@ fn mount_chosen(
         letters,
         scratch,
         &mut events,
+        &empties,
     ) else {
         return Answer {
             reply: Reply::EntryUnfit,
@@ -109,6 +112,7 @@ fn mount_chosen(
     let power = strays::erase_strays(
         image,
         &events,
+        &empties,
         numbers,
         Power {
             steps: n,

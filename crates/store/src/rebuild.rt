@@ -22,6 +22,7 @@ ghost use Rattle.image.specs.Size.{blockSize, mostBlocks, sizeRight};
 ghost use Rattle.store.specs.Kind.{kindOf};
 ghost use Rattle.store.specs.Record.{mapSize, placeFits, namedTimes, keysApart};
 ghost use Rattle.store.specs.Testing.{Tallied};
+ghost use Rattle.store.specs.Replay.{EmptyTable};
 ghost use Rattle.store.specs.Rebuild.{Rebuilding, rebuiltOf, Cleared, mountFits, marks, Marked};
 
 // What the pages give: the highest sequence, or that an entry does not fit or a key is named twice.
@@ -154,7 +155,7 @@ pub fn clear_record(map: &mut [u16], letters: &mut [u8], scratch: &mut [u32])
     clear_scratch(scratch);
 }
 
-// Replays the pages over the commit in block c, then tests what it gives. Events get 1 for each block with a whole or torn N or D page.
+// Replays the pages over the commit in block c, then tests what it gives. Events get 1 for each block with a whole or torn N or D page; empties have it for each empty one.
 fn replay_fit(
     image: &[u8],
     c: usize,
@@ -163,14 +164,16 @@ fn replay_fit(
     letters: &mut [u8],
     scratch: &mut [u32],
     events: &mut [u8],
+    empties: &[u8],
 ) -> Rebuilt
     requires { ⌜ (sizeRight (now image) ≡ true) × ((e : ℕ) × (kindOf (now image) c ≡ Kind.Commit e covered)) ⌝ }
     requires { ⌜ (length (now map) ≡ mapSize) × (length (now letters)
-        ≡ positions) × (length (now scratch) ≡ places) × (now events ≡ replicate mostBlocks 0) ⌝ }
+        ≡ positions) × (length (now scratch) ≡ places) × (now events ≡ replicate mostBlocks 0)
+        × EmptyTable (now image) (now empties) ⌝ }
     ensures { λ r. ⌜ (r ≡ rebuiltOf (old image) c) × (mountFits (old image) c
         ≡ true → Rebuilding (old image) c (new map) (new letters) (new scratch) (new events)) ⌝ }
 {
-    let highest = replay::replay(image, c, covered, map, letters, scratch, events);
+    let highest = replay::replay(image, c, covered, map, letters, scratch, events, empties);
     if !entries_fit(image, map, scratch) {
         return Rebuilt::Unfit;
     }
@@ -189,15 +192,17 @@ pub fn rebuild_record(
     letters: &mut [u8],
     scratch: &mut [u32],
     events: &mut [u8],
+    empties: &[u8],
 ) -> Rebuilt
     requires { ⌜ (sizeRight (now image) ≡ true) × ((e : ℕ) × (kindOf (now image) c ≡ Kind.Commit e covered)) ⌝ }
     requires { ⌜ (length (now map) ≡ mapSize) × (length (now letters)
-        ≡ positions) × (length (now scratch) ≡ places) × (now events ≡ replicate mostBlocks 0) ⌝ }
+        ≡ positions) × (length (now scratch) ≡ places) × (now events ≡ replicate mostBlocks 0)
+        × EmptyTable (now image) (now empties) ⌝ }
     ensures { λ r. ⌜ (r ≡ rebuiltOf (old image) c)
         × (mountFits (old image) c ≡ true → Rebuilding (old image) c (new map) (new letters) (new scratch) (new events))
         × (mountFits (old image) c ≡ false → Cleared (new map) (new letters) (new scratch)) ⌝ }
 {
-    match replay_fit(image, c, covered, map, letters, scratch, events) {
+    match replay_fit(image, c, covered, map, letters, scratch, events, empties) {
         Rebuilt::Fits(highest) => Rebuilt::Fits(highest),
         Rebuilt::Unfit => {
             clear_record(map, letters, scratch);

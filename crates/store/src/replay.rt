@@ -21,11 +21,12 @@ ghost use Rattle.page.specs.Plan.{places};
 ghost use Rattle.page.specs.Header.{inRange, nodeLetter};
 ghost use Rattle.page.specs.Key.{positions};
 ghost use Rattle.page.specs.Entry.{none, freeLetter, deletedLetter};
-ghost use Rattle.image.specs.Size.{blockSize, pagesInBlock, mostBlocks, pages, sizeRight};
+ghost use Rattle.image.specs.Size.{blockSize, pagesInBlock, mostBlocks, blocks, pages, sizeRight};
+ghost use Rattle.image.specs.Look.{blockEmpty};
 ghost use Rattle.store.specs.Kind.{kindOf, headed};
 ghost use Rattle.store.specs.Record.{mapSize};
 ghost use Rattle.store.specs.Mount.{letterIn, entryIn, byEntry, decideBy, spends, sequenceOf};
-ghost use Rattle.store.specs.Replay.{pass, EachPlace, EachLetter, outranks, rangeRight, Passed, Replayed};
+ghost use Rattle.store.specs.Replay.{pass, EachPlace, EachLetter, outranks, rangeRight, EmptyTable, Passed, Replayed};
 
 // The entry of place x in the commit of block c.
 fn entry_in(image: &[u8], c: usize, x: usize) -> Entry
@@ -294,7 +295,39 @@ fn replay_page(
     replay_form(image, g, covered, highest, map, letters, scratch, events)
 }
 
-// What all pages make of the lists, in order; returns the highest sequence.
+// What the pages of block b make of the lists, in order; an empty block leaves them as they are. Returns the highest sequence, which was before.
+fn replay_block(
+    image: &[u8],
+    b: usize,
+    empty: bool,
+    covered: u32,
+    before: u32,
+    map: &mut [u16],
+    letters: &mut [u8],
+    scratch: &mut [u32],
+    events: &mut [u8],
+) -> u32
+    requires { ⌜ (sizeRight (now image) ≡ true) × (b < blocks (now image)) × (empty ≡ blockEmpty (now image) b) ⌝ }
+    requires { ⌜ (length (now map) ≡ mapSize)
+        × (length (now letters) ≡ positions) × (length (now scratch) ≡ places) × (length (now events) ≡ mostBlocks) ⌝ }
+    ensures { λ r. ⌜ Passed (old image) covered pagesInBlock (b * pagesInBlock)
+        (pass (old map) (old letters) (old scratch) (old events) before)
+        (pass (new map) (new letters) (new scratch) (new events) r) ⌝ }
+{
+    if empty {
+        return before;
+    }
+    let end = b * PAGES_IN_BLOCK + PAGES_IN_BLOCK;
+    let mut highest = before;
+    let mut g = b * PAGES_IN_BLOCK;
+    while g < end {
+        highest = replay_page(image, g, covered, highest, map, letters, scratch, events);
+        g += 1;
+    }
+    highest
+}
+
+// What all pages make of the lists, in order; returns the highest sequence. The empties say of each block, by 1 or 0, whether it is empty.
 fn replay_pages(
     image: &[u8],
     covered: u32,
@@ -302,20 +335,32 @@ fn replay_pages(
     letters: &mut [u8],
     scratch: &mut [u32],
     events: &mut [u8],
+    empties: &[u8],
 ) -> u32
-    requires { ⌜ sizeRight (now image) ≡ true ⌝ }
+    requires { ⌜ (sizeRight (now image) ≡ true) × EmptyTable (now image) (now empties) ⌝ }
     requires { ⌜ (length (now map) ≡ mapSize)
         × (length (now letters) ≡ positions) × (length (now scratch) ≡ places) × (length (now events) ≡ mostBlocks) ⌝ }
     ensures { λ r. ⌜ Passed (old image) covered (pages (old image)) 0
         (pass (old map) (old letters) (old scratch) (old events) 0)
         (pass (new map) (new letters) (new scratch) (new events) r) ⌝ }
 {
-    let n = image.len() / Frame::PAGE;
+    let n = look::blocks(image);
     let mut highest: u32 = 0;
-    let mut g: usize = 0;
-    while g < n {
-        highest = replay_page(image, g, covered, highest, map, letters, scratch, events);
-        g += 1;
+    let mut b: usize = 0;
+    while b < n {
+        let empty = empties[b] != 0;
+        highest = replay_block(
+            image,
+            b,
+            empty,
+            covered,
+            highest,
+            map,
+            letters,
+            scratch,
+            events,
+        );
+        b += 1;
     }
     highest
 }
@@ -329,13 +374,15 @@ pub fn replay(
     letters: &mut [u8],
     scratch: &mut [u32],
     events: &mut [u8],
+    empties: &[u8],
 ) -> u32
     requires { ⌜ (sizeRight (now image) ≡ true) × ((e : ℕ) × (kindOf (now image) c ≡ Kind.Commit e covered)) ⌝ }
     requires { ⌜ (length (now map) ≡ mapSize) × (length (now letters)
-        ≡ positions) × (length (now scratch) ≡ places) × (now events ≡ replicate mostBlocks 0) ⌝ }
+        ≡ positions) × (length (now scratch) ≡ places) × (now events ≡ replicate mostBlocks 0)
+        × EmptyTable (now image) (now empties) ⌝ }
     ensures { λ r. ⌜ Replayed (old image) c (pass (new map) (new letters) (new scratch) (new events) r) ⌝ }
 {
     read_entries(image, c, map, scratch);
     read_letters(image, c, letters);
-    replay_pages(image, covered, map, letters, scratch, events)
+    replay_pages(image, covered, map, letters, scratch, events, empties)
 }

@@ -32,7 +32,7 @@ same-length-4 c = search needs
 
 returns : tie.Need-returns
 returns c =
-    let a = c .before .before .before .before .before .before .before .before .before .before .before .before .before .before .before .before .before .before .before .before .before .args in
+    let a = c .before .before .before .before .before .before .before .before .before .before .before .before .before .before .before .before .before .before .before .before .before .before .args in
     let e = c .before .before .before .before .before .before .before .before .before .before .before .replay-fit .ensures in
     let q = c .before .highest .given .1 in
     (sym q ∙ e .0, e .1, λ z. absurd (true-false (fits-rebuilt (a .image .now) (a .c) _ _ (e .0) q .0) z))
@@ -51,7 +51,7 @@ same-length-8 c = search needs
 
 returns-2 : tie.Need-returns-2
 returns-2 c =
-    let a = c .before .before .before .before .before .before .before .before .before .before .before .before .before .before .before .before .before .before .before .before .before .before .before .before .before .before .before .before .before .before .args in
+    let a = c .before .before .before .before .before .before .before .before .before .before .before .before .before .before .before .before .before .before .before .before .before .before .before .before .before .before .before .before .before .before .before .args in
     let e = c .before .before .before .before .before .before .before .before .before .before .before .before .before .before .before .before .before .before .before .before .replay-fit .ensures in
     let q = c .before .before .before .before .before .before .before .before .before .before .enum-told .given .1 in
     (sym q ∙ e .0, λ t. absurd (true-false t (unfit-rebuilt (a .image .now) (a .c) _ (e .0) q)), λ _. c .before .before .before .before .before .before .clear-record .ensures)

@@ -13,7 +13,7 @@ replay-requires c κs = search needs
 
 entries-fit-requires : tie.Need-entries-fit-requires
 entries-fit-requires c κs =
-    let s = c .before .before .before .before .before .before .before .before .before .before .before .before .before .before .before .before .before .before .before .before in
+    let s = c .before .before .before .before .before .before .before .before .before .before .before .before .before .before .before .before .before .before .before .before .before in
     let l = replayed-lengths (s .args .image .now) (s .args .c) _ _ _ _ _ (c .before .before .before .before .before .before .before .before .before .before .replay .ensures) in
     (omega (arith, sized (s .args .image .now) (s .pre .0 .0) .full), l .0, l .2)
 
@@ -31,13 +31,13 @@ same-length-4 c = search needs
 
 returns : tie.Need-returns
 returns c =
-    let a = c .before .before .before .before .before .before .before .before .before .before .before .before .before .before .before .before .before .before .before .before .before .before .args in
+    let a = c .before .before .before .before .before .before .before .before .before .before .before .before .before .before .before .before .before .before .before .before .before .before .before .args in
     let e = replayed-entries (a .image .now) (a .c) _ _ _ _ _ (c .before .before .before .before .before .before .before .before .before .before .before .before .replay .ensures) _ (c .before .entries-fit .ensures) in
     rebuilt-unfit (a .image .now) (a .c) (entries-unfit (a .image .now) (a .c) (failed e (c .if1 .taken)))
 
 use-keys-requires : tie.Need-use-keys-requires
 use-keys-requires c κs =
-    let a = c .before .before .before .before .before .before .before .before .before .before .before .before .before .before .before .before .before .before .before .before .before .before .before .before .args in
+    let a = c .before .before .before .before .before .before .before .before .before .before .before .before .before .before .before .before .before .before .before .before .before .before .before .before .before .args in
     let t = c .before .before .before .before .before .before .before .before .before .before .before .before .before .before .replay .ensures in
     let l = replayed-lengths (a .image .now) (a .c) _ _ _ _ _ t in
     (l .0, l .1, replayed-unused (a .image .now) (a .c) _ _ _ _ _ t)
@@ -56,7 +56,7 @@ same-length-8 c = search needs
 
 returns-2 : tie.Need-returns-2
 returns-2 c =
-    let a = c .before .before .before .before .before .before .before .before .before .before .before .before .before .before .before .before .before .before .before .before .before .before .before .before .before .before .before .before .args in
+    let a = c .before .before .before .before .before .before .before .before .before .before .before .before .before .before .before .before .before .before .before .before .before .before .before .before .before .before .before .before .before .args in
     let t = c .before .before .before .before .before .before .before .before .before .before .before .before .before .before .before .before .before .before .replay .ensures in
     let e = replayed-entries (a .image .now) (a .c) _ _ _ _ _ t _ (c .before .before .before .before .before .before .before .entries-fit .ensures) in
     let k = replayed-apart (a .image .now) (a .c) _ _ _ _ _ t _ (c .before .before .before .use-keys .ensures .0) in
@@ -76,7 +76,7 @@ same-length-12 c = search needs
 
 returns-3 : tie.Need-returns-3
 returns-3 c =
-    let a = c .before .before .before .before .before .before .before .before .before .before .before .before .before .before .before .before .before .before .before .before .before .before .before .before .before .before .before .before .args in
+    let a = c .before .before .before .before .before .before .before .before .before .before .before .before .before .before .before .before .before .before .before .before .before .before .before .before .before .before .before .before .before .args in
     let t = c .before .before .before .before .before .before .before .before .before .before .before .before .before .before .before .before .before .before .replay .ensures in
     let e = replayed-entries (a .image .now) (a .c) _ _ _ _ _ t _ (c .before .before .before .before .before .before .before .entries-fit .ensures) in
     let u = c .before .before .before .use-keys .ensures in

@@ -11,20 +11,20 @@ use Rattle.store.proofs.replay.replay.Tie as tie
 
 read-entries-requires : tie.Need-read-entries-requires
 read-entries-requires c κs =
-    let s = c .before .before .before .before .before .before .before in
+    let s = c .before .before .before .before .before .before .before .before in
     (commit-held (s .args .image .now) (s .args .c) (s .pre .0 .1 .0) (s .args .covered) (s .pre .0 .0) (s .pre .0 .1 .1), s .pre .1 .0, s .pre .1 .2)
 
 read-letters-requires : tie.Need-read-letters-requires
 read-letters-requires c κs =
-    let s = c .before .before .before .before .before .before .before .before .before .before .before .before .before in
+    let s = c .before .before .before .before .before .before .before .before .before .before .before .before .before .before in
     (commit-held (s .args .image .now) (s .args .c) (s .pre .0 .1 .0) (s .args .covered) (s .pre .0 .0) (s .pre .0 .1 .1), s .pre .1 .1)
 
 replay-pages-requires : tie.Need-replay-pages-requires
 replay-pages-requires c κs =
-    let s = c .before .before .before .before .before .before .before .before .before .before .before .before .before .before .before .before .before .before .before .before in
+    let s = c .before .before .before .before .before .before .before .before .before .before .before .before .before .before .before .before .before .before .before .before .before in
     let places = c .before .before .before .before .before .before .before .before .before .before .before .before .read-entries .kept in
     let letters = c .before .before .before .before .before .before .read-letters .kept in
-    (s .pre .0 .0, (places .1 .1 .0 ∙ s .pre .1 .0, letters .1 .1 .0 ∙ s .pre .1 .1, places .1 .1 .1 .0 ∙ s .pre .1 .2, ap length (s .pre .1 .3) ∙ length-replicate {A = ℕ} mostBlocks 0))
+    ((s .pre .0 .0, s .pre .1 .4), (places .1 .1 .0 ∙ s .pre .1 .0, letters .1 .1 .0 ∙ s .pre .1 .1, places .1 .1 .1 .0 ∙ s .pre .1 .2, ap length (s .pre .1 .3) ∙ length-replicate {A = ℕ} mostBlocks 0))
 
 same-length : tie.Need-same-length
 same-length c = search needs
@@ -40,7 +40,7 @@ same-length-4 c = search needs
 
 returns : tie.Need-returns
 returns c =
-    let s = c .before .before .before .before .before .before .before .before .before .before .before .before .before .before .before .before .before .before .before .before .before .before .before .before .before .before .before .before .before in
+    let s = c .before .before .before .before .before .before .before .before .before .before .before .before .before .before .before .before .before .before .before .before .before .before .before .before .before .before .before .before .before .before in
     let a = s .args in
     let places = c .before .before .before .before .before .before .before .before .before .before .before .before .before .before .before .before .before .before .before .before .before .read-entries in
     let letters = c .before .before .before .before .before .before .before .before .before .before .before .before .before .before .before .read-letters in

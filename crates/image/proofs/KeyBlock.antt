@@ -1,28 +1,29 @@
 -- The keys of a key block: where they stand, how many bytes they have, and keys in a row.
-use Prim.Native.Nat.{ℕ, zero, suc, _+_, _-_, _*_, _<_, _≤_}
+use Prim.Native.Nat.{ℕ, zero, suc, _+_, _-_, _*_, _%_, _<_, _≤_}
 use native.Mathlib.Omega.{arith}
-use native.Mathlib.Nat.{mul-comm}
+use native.Mathlib.Nat.{mul-comm, add-zero, zero-add}
 use mathlib.Core.Path.{_≡_, refl, sym, ap, _∙_}
 use mathlib.Core.Bool.{Bool, true, false, cond}
 use mathlib.Core.List.{List, _++_, append-assoc, append-nil}
 use lib.Dec.{eqb}
 use lib.ListN.{length, getD, take, drop, length-append}
-use lib.Seq.{drop-append-add, take-at, take-all, length-take-le}
+use lib.Seq.{drop-drop, drop-append-add, take-at, take-all, length-take-le}
 use borrow.Author.Tests.{eq-eqb, ne-eqb}
 use borrow.Rule.Slice.PartMut.{putMid}
 use Rattle.base.specs.Part.{part}
 use Rattle.base.specs.Each.{Each}
-use Rattle.base.proofs.Parts.{part-length, part-part}
+use Rattle.base.proofs.Parts.{part-length, part-part, drop-splice-past, lent}
 use Rattle.base.proofs.Folds.{length-listFrom, listFrom-agree}
 use Rattle.page.specs.Frame.{pageSize, headerSize, payloadSize}
 use Rattle.page.specs.Entry.{usedLetter}
 use Rattle.page.specs.Key.{keySize, keysInPage, keysInBlock, positions, keyBlock, keyPage, keySlot, keyInPage, keyInNoise}
 use Rattle.page.specs.Page.{keysPage}
+use Rattle.page.proofs.Slices.{lent-part}
 use Rattle.page.proofs.Pages.{keys-length, key-back}
 use Rattle.image.specs.Size.{blockSize, pagesInBlock}
-use Rattle.image.specs.Look.{blockAt}
+use Rattle.image.specs.Look.{pageAt, blockAt}
 use Rattle.image.specs.Step.{program, Inside, playAll}
-use Rattle.image.specs.Block.{keyInBlock, keysFrom, renewedKey, keyBlockSteps, keyBlockPage}
+use Rattle.image.specs.Block.{keyInBlock, keysFrom, keptKey, renewedKey, keyBlockSteps, keyBlockPage}
 use Rattle.image.proofs.Step.{block-length, page-of-block}
 use Rattle.image.proofs.Rows.{rowSteps, row-inside, row-page-done}
 
@@ -75,34 +76,52 @@ keys-at key (suc n) p (suc j) h l =
     rw (e, drop-append-add (key p) (keysFrom key n (suc p)) (keySize * j))
     (keys-at key n (suc p) j (λ i a b. h i (omega arith) (omega arith)) (omega arith) ∙ ap key (omega arith))
 
--- rows that agree
-pub keys-agree : (key key' : ℕ → List ℕ) (n p : ℕ) → ((j : ℕ) → p ≤ j → j < p + n → key j ≡ key' j) → keysFrom key n p ≡ keysFrom key' n p
+-- rows that agree, key by key
+keys-along : (key key' : ℕ → List ℕ) (n p q : ℕ) → ((j : ℕ) → j < n → key (p + j) ≡ key' (q + j)) → keysFrom key n p ≡ keysFrom key' n q
 unfolding keysFrom
-keys-agree key key' zero p h = refl
-keys-agree key key' (suc n) p h =
-    rw (h p (omega arith) (omega arith), keys-agree key key' n (suc p) (λ j a b. h j (omega arith) (omega arith)))
+keys-along key key' zero p q h = refl
+keys-along key key' (suc n) p q h =
+    let e : key p ≡ key' q = rw (add-zero p, add-zero q) at (h 0 (omega arith)) in
+    rw (e, keys-along key key' n (suc p) (suc q) (λ j a. ap key (omega arith) ∙ h (suc j) (omega arith) ∙ ap key' (omega arith)))
+
+pub keys-agree : (key key' : ℕ → List ℕ) (n p : ℕ) → ((j : ℕ) → p ≤ j → j < p + n → key j ≡ key' j) → keysFrom key n p ≡ keysFrom key' n p
+keys-agree key key' n p h = keys-along key key' n p p (λ j a. h (p + j) (omega arith) (omega arith))
 
 -- ---- a row that is written key by key: j keys stand in front
-module _ (key : ℕ → List ℕ) (n p j : ℕ) (dst : List ℕ) where
-  pub keys-next : (zs : List ℕ) → j < n → keySize * n ≤ length dst → zs ≡ key (p + j) → length zs ≡ keySize
-      → take (keySize * j) dst ++ keysFrom key (n - j) (p + j)
-      ≡ take (keySize * (j + 1)) (putMid (keySize * j) ((keySize * j + keySize) - keySize * j) dst zs) ++ keysFrom key (n - (j + 1)) (p + (j + 1))
+module _ (key : ℕ → List ℕ) (n j : ℕ) (dst : List ℕ) where
+  pub keys-next : (zs : List ℕ) → j < n → keySize * n ≤ length dst → zs ≡ key j → length zs ≡ keySize
+      → take (keySize * j) dst ++ keysFrom key (n - j) j
+      ≡ take (keySize * (j + 1)) (putMid (keySize * j) ((keySize * j + keySize) - keySize * j) dst zs) ++ keysFrom key (n - (j + 1)) (j + 1)
   unfolding keysFrom
   keys-next zs h f e l =
       let front = take (keySize * j) dst in
       let rest = drop ((keySize * j + keySize) - keySize * j) (drop (keySize * j) dst) in
       let i : n - j ≡ suc (n - (j + 1)) = omega arith in
-      let m : suc (p + j) ≡ p + (j + 1) = omega arith in
+      let m : suc j ≡ j + 1 = omega arith in
       let t : length front ≡ keySize * j = length-take-le (keySize * j) dst (omega arith) in
       let q : take (keySize * (j + 1)) (front ++ (zs ++ rest)) ≡ front ++ zs =
       rw (← append-assoc front zs rest) (take-at (front ++ zs) rest (keySize * (j + 1)) (length-append front zs ∙ omega arith)) in
-      rw (q, i, m, e) (sym (append-assoc front (key (p + j)) (keysFrom key (n - (j + 1)) (p + (j + 1)))))
+      rw (q, i, m, e) (sym (append-assoc front (key j) (keysFrom key (n - (j + 1)) (j + 1))))
 
-  pub keys-done : n ≤ j → length dst ≡ keySize * j → take (keySize * j) dst ++ keysFrom key (n - j) (p + j) ≡ dst
+  pub keys-done : n ≤ j → length dst ≡ keySize * j → take (keySize * j) dst ++ keysFrom key (n - j) j ≡ dst
   unfolding keysFrom
   keys-done h l =
       let i : n - j ≡ 0 = omega arith in
       rw (i, append-nil, take-all (keySize * j) dst (omega arith))
+
+-- the keys behind them stand as they did
+pub keys-behind : (n j : ℕ) (dst dst₀ zs : List ℕ) → j < n → keySize * n ≤ length dst → length zs ≡ keySize → drop (keySize * j) dst ≡ drop (keySize * j) dst₀
+    → drop (keySize * (j + 1)) (putMid (keySize * j) ((keySize * j + keySize) - keySize * j) dst zs) ≡ drop (keySize * (j + 1)) dst₀
+keys-behind n j dst dst₀ zs h f l e =
+    let a : keySize * (j + 1) ≡ keySize * j + length zs = omega arith in
+    let b : keySize * (j + 1) ≡ keySize * j + keySize = omega arith in
+    let split : (xs : List ℕ) → drop (keySize * (j + 1)) xs ≡ drop keySize (drop (keySize * j) xs) = λ xs. rw b (sym (drop-drop keySize (keySize * j) xs)) in
+    ap (drop (keySize * (j + 1))) (lent dst (keySize * j) keySize (omega arith) zs zs refl l)
+    ∙ rw a (drop-splice-past dst (keySize * j) zs (omega arith))
+    ∙ ap (λ (m : ℕ). drop m dst) (sym a)
+    ∙ split dst
+    ∙ ap (drop keySize) e
+    ∙ sym (split dst₀)
 
 -- ---- a key of the next copy: the old one of a used position, the noise of any other
 module _ (old letters noise : List ℕ) (p : ℕ) where
@@ -113,6 +132,35 @@ module _ (old letters noise : List ℕ) (p : ℕ) where
   pub renewed-other : (getD letters p 0 ≡ usedLetter → ⊥) → renewedKey old letters noise p ≡ keyInNoise noise p
   unfolding renewedKey
   renewed-other e = rw (ne-eqb _ _ e)
+
+-- ---- the same, slot by slot of a page: the key of a slot that is lent, over that in the row
+pub kept-slot : (page letters keys : List ℕ) (first j : ℕ) (dst zs : List ℕ) → drop (keySize * j) dst ≡ drop (keySize * j) keys
+    → zs ≡ cond (eqb (getD letters (first + j) 0) usedLetter) (take (((headerSize + keySize * j) + keySize) - (headerSize + keySize * j)) (drop (headerSize + keySize * j) page)) (take ((keySize * j + keySize) - keySize * j) (drop (keySize * j) dst))
+    → zs ≡ keptKey page letters keys first j
+unfolding keptKey keyInPage
+kept-slot page letters keys first j dst zs b e =
+    e
+    ∙ rw (b, lent-part page (headerSize + keySize * j) keySize, lent-part keys (keySize * j) keySize)
+
+-- a page of the next copy, from the old page and a page of noise
+module _ (img letters noise : List ℕ) (last i first : ℕ) (h : first % keysInBlock ≡ keysInPage * i) where
+  old-slot : (j : ℕ) → j < keysInPage → keyInPage (pageAt img (last * pagesInBlock + i)) j ≡ keyInBlock (blockAt img last) (first + j)
+  unfolding keyInBlock
+  old-slot j l =
+      let a : i * pageSize ≡ pageSize * keyPage (first + j) = omega arith in
+      let b : j ≡ keySlot (first + j) = omega arith in
+      rw (page-of-block img last i (omega arith), a) (ap (keyInPage (part (blockAt img last) (pageSize * keyPage (first + j)) pageSize)) b)
+
+  noise-slot : (j : ℕ) → j < keysInPage → part (part noise (keySize * first) payloadSize) (keySize * j) keySize ≡ keyInNoise noise (first + j)
+  unfolding keyInNoise
+  noise-slot j l =
+      let a : keySize * first + keySize * j ≡ keySize * (first + j) = omega arith in
+      part-part noise (keySize * first) payloadSize (keySize * j) keySize (omega arith) ∙ ap (λ (m : ℕ). part noise m keySize) a
+
+  pub renewed-page : keysFrom (keptKey (pageAt img (last * pagesInBlock + i)) letters (part noise (keySize * first) payloadSize) first) keysInPage 0
+      ≡ keysFrom (renewedKey (blockAt img last) letters noise) keysInPage first
+  unfolding keptKey renewedKey
+  renewed-page = keys-along _ _ keysInPage 0 first (λ j l. rw (zero-add, old-slot j l, noise-slot j l))
 
 -- ---- the pages of a key block
 module _ (epoch block : ℕ) (key : ℕ → List ℕ) (sizes : (p : ℕ) → p < positions → length (key p) ≡ keySize) (h : block < 2) where

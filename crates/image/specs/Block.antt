@@ -7,7 +7,7 @@ use lib.Dec.{eqb}
 use Rattle.base.specs.Part.{part}
 use Rattle.base.specs.Fold.{listFrom}
 use Rattle.page.specs.Frame.{pageSize}
-use Rattle.page.specs.Key.{keysInPage, keysInBlock, keyPage, keySlot, keyInPage, keyInNoise}
+use Rattle.page.specs.Key.{keySize, keysInPage, keysInBlock, keyPage, keySlot, keyInPage, keyInNoise}
 use Rattle.page.specs.Entry.{usedLetter, parts, commitPayload}
 use Rattle.page.specs.Page.{keysPage, commitPage}
 use Rattle.image.specs.Size.{pagesInBlock}
@@ -29,6 +29,11 @@ keysFrom key (suc n) p = key p ++ keysFrom key n (suc p)
 -- commit: used keys in place, all others from noise
 unfoldable pub renewedKey : List ℕ → List ℕ → List ℕ → ℕ → List ℕ
 renewedKey old letters noise p = cond (eqb (getD letters p 0) usedLetter) (keyInBlock old p) (keyInNoise noise p)
+
+-- the same in a slot of a key page of positions from first on, over a row of keys
+unfoldable pub keptKey : List ℕ → List ℕ → List ℕ → ℕ → ℕ → List ℕ
+keptKey page letters keys first j =
+    cond (eqb (getD letters (first + j) 0) usedLetter) (keyInPage page j) (part keys (keySize * j) keySize)
 
 -- page i of key block 0 or 1 of an epoch, from the key of each position
 abbrev pub keyBlockPage : ℕ → ℕ → (ℕ → List ℕ) → ℕ → List ℕ

@@ -53,7 +53,7 @@ fn program_next_keys(
 {
     let mut next = [0u8; Frame::PAYLOAD];
     let first = KEYS_IN_BLOCK * block as usize + KEYS_IN_PAGE * i;
-    keys::renew_keys(&mut next, image, last, letters, noise, first);
+    keys::renew_keys(&mut next, image, last, i, letters, noise, first);
     steps::program_page(
         image,
         b * look::PAGES_IN_BLOCK + i,

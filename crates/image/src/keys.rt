@@ -7,14 +7,15 @@ use page::keys;
 use page::keys::KEY_SIZE;
 use page::keys::KEYS_IN_PAGE;
 ghost use mathlib.Core.Path.{_≡_};
-ghost use Prim.Native.Nat.{_≤_, _<_, _+_, _*_};
+ghost use mathlib.Core.Bool.{cond};
+ghost use Prim.Native.Nat.{_≤_, _<_, _+_, _*_, _%_};
 ghost use lib.ListN.{length};
 ghost use Rattle.base.specs.Lent.{old, new};
-ghost use Rattle.page.specs.Frame.{payloadSize};
-ghost use Rattle.page.specs.Key.{keySize, keysInPage, positions, noiseSize, keyInNoise};
+ghost use Rattle.page.specs.Frame.{payloadSize, pageSize};
+ghost use Rattle.page.specs.Key.{keysInPage, keysInBlock, positions, noiseSize};
 ghost use Rattle.image.specs.Size.{blockSize};
 ghost use Rattle.image.specs.Look.{blockAt};
-ghost use Rattle.image.specs.Block.{keyInBlock, keysFrom, renewedKey};
+ghost use Rattle.image.specs.Block.{keyInBlock, keysFrom, keptKey, renewedKey};
 
 // The key of position p in the key block at block b.
 pub fn key_in_block(image: &[u8], b: usize, p: usize) -> [u8; 16]
@@ -25,65 +26,54 @@ pub fn key_in_block(image: &[u8], b: usize, p: usize) -> [u8; 16]
     keys::key_in_page(&image[start..start + Frame::PAGE], keys::slot_of(p))
 }
 
-// The key of position p in the noise.
-fn key_in_noise(noise: &[u8], p: usize) -> [u8; 16]
-    requires { ⌜ (length (now noise) ≡ noiseSize) × (p < positions) ⌝ }
-    ensures { λ r. ⌜ r ≡ keyInNoise (old noise) p ⌝ }
+// Writes the key over dst where its position is used.
+fn keep_if(dst: &mut [u8], key: &[u8], used: bool)
+    requires { ⌜ length (now dst) ≡ length (now key) ⌝ }
+    ensures { λ _. ⌜ new dst ≡ cond used (old key) (old dst) ⌝ }
 {
-    let at = KEY_SIZE * p;
-    let mut key = [0u8; 16];
-    bytes::copy(&mut key, &noise[at..at + KEY_SIZE]);
-    key
-}
-
-// The next key of position p: the old one where the position is used, else that of the noise.
-fn next_key(image: &[u8], last: usize, letters: &[u8], noise: &[u8], p: usize) -> [u8; 16]
-    requires { ⌜ last * blockSize + blockSize ≤ length (now image) ⌝ }
-    requires { ⌜ (length (now letters) ≡ positions) × (length (now noise) ≡ noiseSize) × (p < positions) ⌝ }
-    ensures { λ r. ⌜ r ≡ renewedKey (blockAt (old image) last) (old letters) (old noise) p ⌝ }
-{
-    if letters[p] == entries::USED {
-        return key_in_block(image, last, p);
+    if used {
+        bytes::copy(dst, key);
     }
-    key_in_noise(noise, p)
 }
 
-// Writes the next key of position p.
-fn renew_key(dst: &mut [u8], image: &[u8], last: usize, letters: &[u8], noise: &[u8], p: usize)
-    requires { ⌜ (length (now dst) ≡ keySize) × (last * blockSize + blockSize ≤ length (now image)) ⌝ }
-    requires { ⌜ (length (now letters) ≡ positions) × (length (now noise) ≡ noiseSize) × (p < positions) ⌝ }
-    ensures { λ _. ⌜ new dst ≡ renewedKey (blockAt (old image) last) (old letters) (old noise) p ⌝ }
+// Writes the keys of a key page over those in dst where their position is used, the positions from first on.
+fn keep_used(dst: &mut [u8], page: &[u8], letters: &[u8], first: usize)
+    requires { ⌜ (length (now dst) ≡ payloadSize) × (length (now page) ≡ pageSize) ⌝ }
+    requires { ⌜ (length (now letters) ≡ positions) × (first + keysInPage ≤ positions) ⌝ }
+    ensures { λ _. ⌜ new dst ≡ keysFrom (keptKey (old page) (old letters) (old dst) first) keysInPage 0 ⌝ }
 {
-    let key = next_key(image, last, letters, noise, p);
-    bytes::copy(dst, &key);
+    let mut j = 0;
+    while j < KEYS_IN_PAGE {
+        let to = KEY_SIZE * j;
+        let from = Frame::HEADER + to;
+        let used = letters[first + j] == entries::USED;
+        keep_if(
+            &mut dst[to..to + KEY_SIZE],
+            &page[from..from + KEY_SIZE],
+            used,
+        );
+        j += 1;
+    }
 }
 
-// Writes the next keys of a key page, the positions from first on.
+// Writes the next keys of page i of a key block, the positions from first on: those of used positions stay, all others are noise.
 pub fn renew_keys(
     dst: &mut [u8],
     image: &[u8],
     last: usize,
+    i: usize,
     letters: &[u8],
     noise: &[u8],
     first: usize,
 )
     requires { ⌜ (length (now dst) ≡ payloadSize) × (last * blockSize + blockSize ≤ length (now image)) ⌝ }
-    requires { ⌜ (length (now letters)
-        ≡ positions) × (length (now noise) ≡ noiseSize) × (first + keysInPage ≤ positions) ⌝ }
+    requires { ⌜ (length (now letters) ≡ positions) × (length (now noise) ≡ noiseSize) ⌝ }
+    requires { ⌜ (first < positions) × (first % keysInBlock ≡ keysInPage * i) ⌝ }
     ensures { λ _. ⌜ new dst
         ≡ keysFrom (renewedKey (blockAt (old image) last) (old letters) (old noise)) keysInPage first ⌝ }
 {
-    let mut j = 0;
-    while j < KEYS_IN_PAGE {
-        let at = KEY_SIZE * j;
-        renew_key(
-            &mut dst[at..at + KEY_SIZE],
-            image,
-            last,
-            letters,
-            noise,
-            first + j,
-        );
-        j += 1;
-    }
+    let at = KEY_SIZE * first;
+    bytes::copy(dst, &noise[at..at + Frame::PAYLOAD]);
+    let page = look::page_at(image, last * look::PAGES_IN_BLOCK + i);
+    keep_used(dst, page, letters, first);
 }

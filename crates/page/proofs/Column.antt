@@ -2,20 +2,21 @@
 use Prim.Native.Nat.{ℕ, zero, suc, _+_, _*_, _-_, _/_, _%_, _^_, _<_, _≤_}
 use native.Mathlib.Omega.{arith}
 use native.Mathlib.Nat.{pow-suc}
-use native.Mathlib.Numerals.{add-one, sub-one}
+use native.Mathlib.Numerals.{sub-one}
 use mathlib.Core.Path.{_≡_, refl, sym, ap, subst, _∙_}
 use mathlib.Core.List.{List, [], _∷_}
 use mathlib.Core.Bool.{Bool, true, false, cond}
-use lib.ListN.{length, getD, set, drop, length-set, drop-of-length-le}
-use lib.Seq.{drop-cons, drop-drop, drop-set-lt, getD-set-same}
-use lib.Dec.{eqb, ltb}
-use borrow.Author.Tests.{eqb-true, le-ltb, ltb-false}
+use lib.ListN.{length, set, drop, length-set, drop-of-length-le}
+use lib.Seq.{drop-cons, drop-set-lt, getD-set-same}
+use lib.Dec.{eqb, leb, ltb}
+use borrow.Author.Tests.{eqb-true, eq-eqb, ne-eqb, le-leb, leb-true, le-ltb, ltb-false}
+use Rattle.base.proofs.Choice.{and-true, and-intro}
 use Rattle.base.specs.Part.{part}
 use Rattle.base.specs.Each.{Bytes, same}
 use Rattle.base.proofs.Parts.{part-length}
 use Rattle.base.proofs.Eachs.{same-true, same-refl}
 use Rattle.page.specs.Frame.{space}
-use Rattle.page.specs.Column.{zeroDigit, column, columns, spell, digit, valueAfter, numberIn}
+use Rattle.page.specs.Column.{zeroDigit, column, columns, spell, digit, isDigit, valueAfter, numberIn}
 use Rattle.page.specs.declared.Number.the-variants.{Is, Misspelt}
 
 -- ---- columns, from the right
@@ -23,13 +24,6 @@ pub columns-step : (i m : ℕ) (t : List ℕ) → 0 < i → columns i m t ≡ co
 unfolding columns
 columns-step zero m t h = absurd (omega arith)
 columns-step (suc i) m t h = rw sub-one
-
-pub drop-columns : (i m : ℕ) (t : List ℕ) → drop i (columns i m t) ≡ t
-unfolding columns
-drop-columns zero m t = refl
-drop-columns (suc i) m t =
-    rw (← add-one)
-    (sym (drop-drop 1 i (columns i (m / 10) (column m ∷ t))) ∙ ap (drop 1) (drop-columns i (m / 10) (column m ∷ t)))
 
 pub length-columns : (i m : ℕ) (t : List ℕ) → length (columns i m t) ≡ i + length t
 unfolding columns
@@ -45,17 +39,9 @@ module _ (xs : List ℕ) (w n : ℕ) (l : length xs ≡ w) (some : 1 ≤ w) wher
   none-past : drop (suc (w - 1)) xs ≡ []
   none-past = drop-of-length-le xs {i = suc (w - 1)} (omega arith)
 
-  pub last-column : drop (w - 1) xs ≡ getD xs (w - 1) 0 ∷ []
-  last-column = drop-cons xs (w - 1) 0 (omega arith) ∙ rw none-past
-
   pub put-last : spell w n ≡ columns (w - 1) (n / 10) (drop (w - 1) (set xs (w - 1) (zeroDigit + n % 10)))
   unfolding spell
   put-last = rw (drop-set xs (w - 1) (zeroDigit + n % 10) (omega arith), none-past)
-
-  pub last-differs : (getD xs (w - 1) 0 ≡ zeroDigit + n % 10 → ⊥) → spell w n ≡ xs → ⊥
-  unfolding spell
-  last-differs d e =
-      d (cc (drop-cons xs (w - 1) 0 (omega arith), ap (drop (w - 1)) e, drop-columns (w - 1) (n / 10) ((zeroDigit + n % 10) ∷ [])))
 
 -- one column more is written
 module _ (xs s : List ℕ) (i m : ℕ) (more : 0 < i) (h : i < length xs) (e : s ≡ columns i m (drop i xs)) where
@@ -80,6 +66,26 @@ digit-lt b = go (ltb b zeroDigit) (ltb (zeroDigit + 9) b) refl
 pub digit-of-digit : (d : ℕ) → d < 10 → digit (zeroDigit + d) ≡ d
 digit-of-digit d h = rw (le-ltb (zeroDigit + d) zeroDigit (omega arith), le-ltb (zeroDigit + 9) (zeroDigit + d) (omega arith)) (omega arith)
 
+-- a digit is the byte of its value
+pub digit-byte : (b : ℕ) → isDigit b ≡ true → zeroDigit + digit b ≡ b
+digit-byte b h =
+    let t = and-true (leb zeroDigit b) (leb b (zeroDigit + 9)) h in
+    let low : zeroDigit ≤ b = leb-true zeroDigit b (t .0) in
+    rw (le-ltb b zeroDigit low, le-ltb (zeroDigit + 9) b (leb-true b (zeroDigit + 9) (t .1))) (omega arith)
+
+-- the bytes of the digits are digits
+pub digit-is : (d : ℕ) → d < 10 → isDigit (zeroDigit + d) ≡ true
+digit-is d h =
+    and-intro (leb zeroDigit (zeroDigit + d)) (leb (zeroDigit + d) (zeroDigit + 9)) (le-leb zeroDigit (zeroDigit + d) (omega arith))
+    (le-leb (zeroDigit + d) (zeroDigit + 9) (omega arith))
+
+-- a column where nothing is left of the number, and where something is
+pub column-none : (m : ℕ) → m ≡ 0 → column m ≡ space
+column-none m e = rw (eq-eqb m 0 e)
+
+pub column-some : (m : ℕ) → (m ≡ 0 → ⊥) → column m ≡ zeroDigit + m % 10
+column-some m h = rw (ne-eqb m 0 h)
+
 pub value-column : (m : ℕ) → m / 10 * 10 + digit (column m) ≡ m
 value-column m = go (eqb m 0) refl
   where
@@ -93,6 +99,14 @@ value-columns zero m t h = ap (λ (k : ℕ). valueAfter k t) (omega arith)
 value-columns (suc i) m t h =
     let k : m < 10 ^ i * 10 = rw pow-suc at h in
     value-columns i (m / 10) (column m ∷ t) (omega arith) ∙ ap (λ (k : ℕ). valueAfter k t) (value-column m)
+
+-- a value after i digits is below 10 ^ i
+pub value-lt : (xs : List ℕ) (n i : ℕ) → n < 10 ^ i → valueAfter n xs < 10 ^ (i + length xs)
+unfolding valueAfter
+value-lt [] n i h = subst (λ (k : ℕ). n < 10 ^ k) (omega arith) h
+value-lt (b ∷ bs) n i h =
+    subst (λ (k : ℕ). valueAfter (n * 10 + digit b) bs < 10 ^ k) (omega arith)
+    (value-lt bs (n * 10 + digit b) (suc i) (rw pow-suc (omega (arith, digit-lt b))))
 
 -- ---- spellings
 module _ (w n : ℕ) (some : 1 ≤ w) where

@@ -14,8 +14,7 @@ use Rattle.base.proofs.Eachs.{same-true, same-refl}
 use Rattle.page.specs.Frame.{space}
 use Rattle.page.specs.Column.{zeroDigit, column, columns, spell, digit, isDigit, valueAfter, numberIn, numberThen}
 use Rattle.page.specs.declared.Number.the-variants.{Is, Misspelt}
-use Rattle.page.proofs.Column.{digit-lt, digit-of-digit}
-use Rattle.page.proofs.ColumnReading.{digit-byte, digit-is, column-some, value-lt}
+use Rattle.page.proofs.Column.{digit-lt, digit-of-digit, digit-byte, digit-is, column-some, value-lt}
 
 -- all columns are digits
 unfoldable pub allDigits : List ℕ → Bool

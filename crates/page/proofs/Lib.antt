@@ -1,7 +1,6 @@
 -- Laws of the definitions of specs/.
 --   Slices        parts of lists that are joined, and parts that are lent
 --   Column        decimal columns: what is written is what is read, and a number has one spelling
---   ColumnReading columns read from the left: which byte may come next, and when they are a spelling
 --   Counted       columns that hold a number from 1 on: spaces, a digit that is not 0, digits
 --   Plans         the file plan: a node has one place, and a place one node
 --   Ranges        the ranges of a header's fields for each kind, and that there are four kinds
@@ -11,7 +10,7 @@
 --   Pages         the bytes of a page: length, what reads back, what a cut program leaves
 --   FormLaws      page forms: the form of a page that was programmed whole or in part
 --   WordLaws      several bytes as one number: compared, taken from a list, written into one
---   Spellings     four columns as the word that code makes of them
+--   Spellings     three, four and eight columns as the words that code makes of them
 --   Lanes         numbers made of lanes: operations that work on each lane apart
 --   CountedWords  eight columns as one word: whether they hold a number from 1 on
 --   ColumnValues  eight columns as one word: the number that they hold
@@ -20,7 +19,6 @@
 --   Repeats       lists that are their first elements again and again
 pub mod Slices
 pub mod Column
-pub mod ColumnReading
 pub mod Counted
 pub mod Plans
 pub mod Ranges

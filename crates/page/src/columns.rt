@@ -4,20 +4,17 @@ use crate::words;
 ghost use mathlib.Core.Path.{_≡_};
 ghost use mathlib.Core.Bool.{true, false};
 ghost use mathlib.Core.List.{_++_};
-ghost use Prim.Native.Nat.{suc, _+_, _≤_, _<_};
-ghost use lib.ListN.{length, getD, drop};
+ghost use Prim.Native.Nat.{_+_, _≤_, _<_};
+ghost use lib.ListN.{length};
 ghost use lib.Dec.{leb};
 ghost use Rattle.base.specs.Lent.{old, new};
 ghost use Rattle.base.specs.Part.{part, splice};
-ghost use Rattle.page.specs.Frame.{space};
 ghost use Rattle.page.specs.Word.{wordBytes};
-ghost use Rattle.page.specs.Column.{zeroDigit, column, columns, spell, digit, isDigit, valueAfter, numberIn, numberThen};
+ghost use Rattle.page.specs.Column.{zeroDigit, column, spell, valueAfter, numberIn, numberThen};
 
 const SPACE: u8 = 0x20;
 
 const ZERO: u8 = 0x30;
-
-const NINE: u8 = 0x39;
 
 // The same byte in each byte of a word: the digit 0, the bit in which a space differs from it, the lower and the upper half of a
 // byte, and what carries 10 to 15 from the lower half into the upper.
@@ -144,88 +141,6 @@ pub fn put8(dst: &mut [u8], at: usize, n: u32)
 {
     words::put_word4(dst, at, spelt_high(n));
     words::put_word4(dst, at + 4, spelt_low(n));
-}
-
-// A digit's value; 0 for any other byte.
-fn digit_of(b: u8) -> u32
-    ensures { λ r. ⌜ r ≡ digit b ⌝ }
-{
-    if b < ZERO {
-        return 0;
-    }
-    if NINE < b {
-        return 0;
-    }
-    (b - ZERO) as u32
-}
-
-// Whether b is a digit.
-fn is_digit(b: u8) -> bool
-    ensures { λ r. ⌜ r ≡ isDigit b ⌝ }
-{
-    (ZERO <= b) & (b <= NINE)
-}
-
-// How many columns on the left of src are spaces, the last column not counted.
-fn spaces(src: &[u8]) -> usize
-    requires { ⌜ 1 ≤ length (now src) ⌝ }
-    ensures { λ r. ⌜ r < length (old src) ⌝ }
-    ensures { λ r. ⌜ columns r 0 (drop r (old src)) ≡ old src ⌝ }
-    ensures { λ r. ⌜ (suc r < length (old src) → getD (old src) r 0 ≡ space → ⊥) ⌝ }
-{
-    let last = src.len() - 1;
-    let mut i = 0;
-    while i < last {
-        if src[i] != SPACE {
-            return i;
-        }
-        i += 1;
-    }
-    last
-}
-
-// The number that the columns of src hold: after the spaces digits, of which the first is 0 in the last column only.
-pub fn get(src: &[u8]) -> Number
-    requires { ⌜ (1 ≤ length (now src)) × (length (now src) ≤ 8) ⌝ }
-    ensures { λ r. ⌜ r ≡ numberIn (old src) ⌝ }
-{
-    let last = src.len() - 1;
-    let first = spaces(src);
-    if (first < last) & (src[first] == ZERO) {
-        return Number::Misspelt;
-    }
-    let mut n: u32 = 0;
-    let mut i = first;
-    while i < last {
-        if !is_digit(src[i]) {
-            return Number::Misspelt;
-        }
-        n = n * 10 + digit_of(src[i]);
-        i += 1;
-    }
-    if !is_digit(src[last]) {
-        return Number::Misspelt;
-    }
-    Number::Is(n * 10 + digit_of(src[last]))
-}
-
-// The number that the w columns of src from at on hold.
-pub fn get_at(src: &[u8], at: usize, w: usize) -> Number
-    requires { ⌜ (at + w ≤ length (now src)) × (1 ≤ w) × (w ≤ 8) ⌝ }
-    ensures { λ r. ⌜ r ≡ numberIn (part (old src) at w) ⌝ }
-{
-    get(&src[at..at + w])
-}
-
-// Whether the columns of src hold a number from 1 on.
-pub fn is_from_one(src: &[u8]) -> bool
-    requires { ⌜ (1 ≤ length (now src)) × (length (now src) ≤ 8) ⌝ }
-    ensures { λ r. ⌜ r ≡ numberThen (numberIn (old src)) false (leb 1) ⌝ }
-{
-    match get(src) {
-        Number::Is(n) => 1 <= n,
-        Number::Misspelt => false,
-    }
 }
 
 // Whether the eight columns of a word hold a number from 1 on: below the lowest digit that is not 0 spaces, above it digits.

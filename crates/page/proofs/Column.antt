@@ -8,23 +8,24 @@ use mathlib.Core.List.{List, [], _∷_}
 use mathlib.Core.Bool.{Bool, true, false, cond}
 use lib.ListN.{length, set, drop, length-set, drop-of-length-le}
 use lib.Seq.{drop-cons, drop-set-lt, getD-set-same}
-use lib.Dec.{eqb, ltb}
-use borrow.Author.Tests.{eqb-true, le-ltb, ltb-false}
+use lib.Dec.{eqb, leb, ltb}
+use borrow.Author.Tests.{eqb-true, eq-eqb, ne-eqb, le-leb, leb-true, le-ltb, ltb-false}
+use Rattle.base.proofs.Choice.{and-true, and-intro}
 use Rattle.base.specs.Part.{part}
 use Rattle.base.specs.Each.{Bytes, same}
 use Rattle.base.proofs.Parts.{part-length}
 use Rattle.base.proofs.Eachs.{same-true, same-refl}
 use Rattle.page.specs.Frame.{space}
-use Rattle.page.specs.Column.{zeroDigit, column, columns, spell, digit, valueAfter, numberIn}
+use Rattle.page.specs.Column.{zeroDigit, column, columns, spell, digit, isDigit, valueAfter, numberIn}
 use Rattle.page.specs.declared.Number.the-variants.{Is, Misspelt}
 
 -- ---- columns, from the right
-columns-step : (i m : ℕ) (t : List ℕ) → 0 < i → columns i m t ≡ columns (i - 1) (m / 10) (column m ∷ t)
+pub columns-step : (i m : ℕ) (t : List ℕ) → 0 < i → columns i m t ≡ columns (i - 1) (m / 10) (column m ∷ t)
 unfolding columns
 columns-step zero m t h = absurd (omega arith)
 columns-step (suc i) m t h = rw sub-one
 
-length-columns : (i m : ℕ) (t : List ℕ) → length (columns i m t) ≡ i + length t
+pub length-columns : (i m : ℕ) (t : List ℕ) → length (columns i m t) ≡ i + length t
 unfolding columns
 length-columns zero m t = omega arith
 length-columns (suc i) m t = omega (arith, length-columns i (m / 10) (column m ∷ t))
@@ -33,7 +34,7 @@ drop-set : (l : List ℕ) (i a : ℕ) → i < length l → drop i (set l i a) �
 drop-set l i a h =
     drop-cons (set l i a) i 0 (simp length-set h) ∙ rw (getD-set-same l i a 0 h, drop-set-lt (suc i) l i a (omega arith))
 
--- the last of w columns is written
+-- the last of w columns: alone there, written, or another byte there
 module _ (xs : List ℕ) (w n : ℕ) (l : length xs ≡ w) (some : 1 ≤ w) where
   none-past : drop (suc (w - 1)) xs ≡ []
   none-past = drop-of-length-le xs {i = suc (w - 1)} (omega arith)
@@ -65,14 +66,34 @@ digit-lt b = go (ltb b zeroDigit) (ltb (zeroDigit + 9) b) refl
 pub digit-of-digit : (d : ℕ) → d < 10 → digit (zeroDigit + d) ≡ d
 digit-of-digit d h = rw (le-ltb (zeroDigit + d) zeroDigit (omega arith), le-ltb (zeroDigit + 9) (zeroDigit + d) (omega arith)) (omega arith)
 
-value-column : (m : ℕ) → m / 10 * 10 + digit (column m) ≡ m
+-- a digit is the byte of its value
+pub digit-byte : (b : ℕ) → isDigit b ≡ true → zeroDigit + digit b ≡ b
+digit-byte b h =
+    let t = and-true (leb zeroDigit b) (leb b (zeroDigit + 9)) h in
+    let low : zeroDigit ≤ b = leb-true zeroDigit b (t .0) in
+    rw (le-ltb b zeroDigit low, le-ltb (zeroDigit + 9) b (leb-true b (zeroDigit + 9) (t .1))) (omega arith)
+
+-- the bytes of the digits are digits
+pub digit-is : (d : ℕ) → d < 10 → isDigit (zeroDigit + d) ≡ true
+digit-is d h =
+    and-intro (leb zeroDigit (zeroDigit + d)) (leb (zeroDigit + d) (zeroDigit + 9)) (le-leb zeroDigit (zeroDigit + d) (omega arith))
+    (le-leb (zeroDigit + d) (zeroDigit + 9) (omega arith))
+
+-- a column where nothing is left of the number, and where something is
+pub column-none : (m : ℕ) → m ≡ 0 → column m ≡ space
+column-none m e = rw (eq-eqb m 0 e)
+
+pub column-some : (m : ℕ) → (m ≡ 0 → ⊥) → column m ≡ zeroDigit + m % 10
+column-some m h = rw (ne-eqb m 0 h)
+
+pub value-column : (m : ℕ) → m / 10 * 10 + digit (column m) ≡ m
 value-column m = go (eqb m 0) refl
   where
     go : (b : Bool) → eqb m 0 ≡ b → m / 10 * 10 + digit (cond b space (zeroDigit + m % 10)) ≡ m
     go true e = omega (arith, eqb-true m 0 e)
     go false e = rw (digit-of-digit (m % 10) (omega arith)) (omega arith)
 
-value-columns : (i m : ℕ) (t : List ℕ) → m < 10 ^ i → valueAfter 0 (columns i m t) ≡ valueAfter m t
+pub value-columns : (i m : ℕ) (t : List ℕ) → m < 10 ^ i → valueAfter 0 (columns i m t) ≡ valueAfter m t
 unfolding columns valueAfter
 value-columns zero m t h = ap (λ (k : ℕ). valueAfter k t) (omega arith)
 value-columns (suc i) m t h =

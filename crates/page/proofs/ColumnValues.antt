@@ -16,7 +16,7 @@ use Rattle.page.specs.Column.{zeroDigit, column, columns, spell, digit, 
 use Rattle.page.specs.declared.Number.{Number}
 use Rattle.page.specs.declared.Number.the-variants.{Is, Misspelt}
 use Rattle.page.specs.Word.{wordBytes}
-use Rattle.page.proofs.Column.{digit-lt, value-lt, number-is}
+use Rattle.page.proofs.Column.{digit-lt, number-is, value-lt}
 use Rattle.page.proofs.Counted.{Low, low-from-one, counted}
 use Rattle.page.proofs.WordLaws.{word-is, part-three, part-four}
 use Rattle.page.proofs.Lanes.{lanes, mask-lanes, word-lanes, bytes-word}

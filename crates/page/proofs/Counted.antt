@@ -7,31 +7,14 @@ use mathlib.Core.List.{List, [], _∷_}
 use mathlib.Core.Bool.{Bool, true, false, cond, _&&_}
 use lib.ListN.{length}
 use lib.Dec.{eqb, leb}
-use borrow.Author.Tests.{eqb-true, eqb-false, leb-true, le-leb, ne-eqb, le-ltb}
+use borrow.Author.Tests.{eqb-true, eqb-false, leb-true, le-leb, ne-eqb}
 use Rattle.base.specs.Each.{Each, same}
 use Rattle.base.proofs.Choice.{and-true, and-intro, true-false, both-ways}
 use Rattle.base.proofs.Eachs.{same-true, same-refl}
 use Rattle.page.specs.Frame.{space}
-use Rattle.page.specs.Column.{zeroDigit, column, columns, spell, digit, valueAfter, numberIn, numberThen}
+use Rattle.page.specs.Column.{zeroDigit, column, columns, spell, digit, isDigit, valueAfter, numberIn, numberThen}
 use Rattle.page.specs.declared.Number.the-variants.{Is, Misspelt}
-use Rattle.page.proofs.Column.{digit-lt, digit-of-digit, value-lt}
-
--- a byte is a digit
-abbrev pub isDigit : ℕ → Bool
-isDigit b = leb zeroDigit b && leb b (zeroDigit + 9)
-
--- a digit is the byte of its value
-digit-byte : (b : ℕ) → isDigit b ≡ true → zeroDigit + digit b ≡ b
-digit-byte b h =
-    let t = and-true (leb zeroDigit b) (leb b (zeroDigit + 9)) h in
-    let low : zeroDigit ≤ b = leb-true zeroDigit b (t .0) in
-    rw (le-ltb b zeroDigit low, le-ltb (zeroDigit + 9) b (leb-true b (zeroDigit + 9) (t .1))) (omega arith)
-
--- the bytes of the digits are digits
-digit-is : (d : ℕ) → d < 10 → isDigit (zeroDigit + d) ≡ true
-digit-is d h =
-    and-intro (leb zeroDigit (zeroDigit + d)) (leb (zeroDigit + d) (zeroDigit + 9)) (le-leb zeroDigit (zeroDigit + d) (omega arith))
-    (le-leb (zeroDigit + d) (zeroDigit + 9) (omega arith))
+use Rattle.page.proofs.Column.{digit-lt, digit-of-digit, digit-byte, digit-is, column-some, value-lt}
 
 -- all columns are digits
 unfoldable pub allDigits : List ℕ → Bool
@@ -54,7 +37,7 @@ unfolding columns
 next-digit t c i n d h =
     let m = n * 10 + digit c in
     let rest : m / 10 ≡ n = omega (arith, digit-lt c) in
-    let this : column m ≡ c = rw (ne-eqb m 0 (λ e. omega arith)) (omega (arith, digit-lt c, digit-byte c d)) in
+    let this : column m ≡ c = column-some m (λ e. omega arith) ∙ omega (arith, digit-lt c, digit-byte c d) in
     rw (rest, this)
 
 digits-spelt : (t : List ℕ) (c i n : ℕ) → isDigit c ≡ true → 1 ≤ n * 10 + digit c → allDigits t ≡ true → (columns i n (c ∷ t) ≡ spell (suc (i + length t)) (valueAfter n (c ∷ t))) × (1 ≤ valueAfter n (c ∷ t))

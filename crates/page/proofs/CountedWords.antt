@@ -15,9 +15,9 @@ use Rattle.base.specs.Each.{Bytes, every}
 use Rattle.base.proofs.Choice.{and-true, and-passed, true-false, cond-same}
 use Rattle.base.proofs.Eachs.{table-rule}
 use Rattle.page.specs.Frame.{space}
-use Rattle.page.specs.Column.{numberIn, numberThen}
+use Rattle.page.specs.Column.{isDigit, numberIn, numberThen}
 use Rattle.page.specs.Word.{wordBytes}
-use Rattle.page.proofs.Counted.{isDigit, allDigits, isFirst, fromOne, counted}
+use Rattle.page.proofs.Counted.{allDigits, isFirst, fromOne, counted}
 use Rattle.page.proofs.Lanes.{lanes, xor-lanes, and-lanes, or-lanes, sum-lanes, word-lanes, bytes-word, low-decides}
 
 -- ---- one column

@@ -3,7 +3,7 @@ use Prim.Native.Nat.{ℕ, suc, _+_, _*_, _/_, _^_, _<_, _≤_}
 use native.Mathlib.Omega.{arith}
 use mathlib.Core.Path.{_≡_, refl, sym, ap, _∙_}
 use mathlib.Core.Bool.{Bool, true, false, _&&_}
-use mathlib.Core.List.{List, [], _∷_, _++_, append-assoc}
+use mathlib.Core.List.{List, _++_, append-assoc}
 use lib.ListN.{length, getD, take, drop, length-append}
 use lib.Seq.{take-all}
 use lib.Dec.{eqb, leb}
@@ -13,11 +13,11 @@ use Rattle.base.proofs.Choice.{and-true, and-intro, both-ways}
 use Rattle.base.proofs.Parts.{part-length, part-part, part-splice, part-splice-before, part-splice-after}
 use Rattle.base.proofs.Eachs.{same-true, same-refl}
 use Rattle.page.specs.Frame.{headerSize, colonSpace}
-use Rattle.page.specs.Column.{spell, columns, numberIn, numberThen}
+use Rattle.page.specs.Column.{spell, numberIn, numberThen}
 use Rattle.page.specs.Word.{wordBytes}
 use Rattle.page.specs.Header.{nodeLetter, nodeFrame, inRange, headerBytes, headerOf, nodeWith, withPart, headerLike}
 use Rattle.page.specs.declared.Frame.{Frame}
-use Rattle.page.specs.declared.Header.the-variants.{Is, Invalid}
+use Rattle.page.specs.declared.Header.the-variants.{Is}
 use Rattle.page.proofs.Slices.{part-all}
 use Rattle.page.proofs.Column.{length-spell}
 use Rattle.page.specs.Plan.{filePlan}
@@ -28,6 +28,7 @@ use Rattle.page.specs.Form.{closed, formOf, wholeLike}
 use Rattle.page.specs.declared.Form.the-variants.{Whole}
 use Rattle.page.proofs.FormLaws.{whole-is}
 use Rattle.page.proofs.HeaderTests.{after-number, fields-decide, put-part, spelling-decides, whole-decides}
+use Rattle.page.proofs.Spellings.{last-three}
 use Rattle.page.proofs.WordLaws.{part-join, word-length, words-decide, bytes-joined, same-append}
 
 -- ---- a header in parts
@@ -113,17 +114,13 @@ bytes-after n w xs at e =
     sym (take-all n (wordBytes n (w / 256)) (omega (arith, word-length n (w / 256)))) ∙ ap (λ (l : List ℕ). take n (drop 1 l)) e ∙ part-part xs at (suc n) 1 n (omega arith)
 
 module _ (xs : List ℕ) (v text w file offset : ℕ) (e : wordBytes 8 v ≡ part xs 8 8) (t : wordBytes 4 text ≡ spell 4 file) (o : wordBytes 4 w ≡ spell 4 offset) where
-  file-text : wordBytes 3 (text / 256) ≡ spell 3 file
-  unfolding wordBytes spell columns
-  file-text = ap (drop 1) t
-
   pub place-decides : v < 256 ^ 8 → text < 256 ^ 4 → w < 256 ^ 4 → eqb (v / 256) (text / 256 + w * 0x1000000) ≡ same (part xs 9 7) (spell 3 file ++ spell 4 offset)
   place-decides a b c =
       words-decide 7 (v / 256) (text / 256 + w * 0x1000000) (omega arith) (omega arith)
       ∙ (λ i. same (bytes-after 7 v xs 8 e i) (joined i))
     where
       joined : wordBytes 7 (text / 256 + w * 0x1000000) ≡ spell 3 file ++ spell 4 offset
-      joined = bytes-joined 3 4 7 (text / 256) w refl (omega arith) ∙ (λ i. file-text i ++ o i)
+      joined = bytes-joined 3 4 7 (text / 256) w refl (omega arith) ∙ (λ i. last-three file text t i ++ o i)
 
 -- ---- what follows a header's number, field by field
 regroup : (l a b c d : Bool) → (((l && a) && b) && c) && d ≡ l && (a && (b && (c && d)))

@@ -10,7 +10,7 @@
 --   Pages         the bytes of a page: length, what reads back, what a cut program leaves
 --   FormLaws      page forms: the form of a page that was programmed whole or in part
 --   WordLaws      several bytes as one number: compared, taken from a list, written into one
---   Spellings     four columns as the word that code makes of them
+--   Spellings     three, four and eight columns as the words that code makes of them
 --   Lanes         numbers made of lanes: operations that work on each lane apart
 --   CountedWords  eight columns as one word: whether they hold a number from 1 on
 --   ColumnValues  eight columns as one word: the number that they hold

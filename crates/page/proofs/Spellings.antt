@@ -1,21 +1,13 @@
 -- The spelling of a number in three, four and eight columns, by the words that code makes of it.
-use Prim.Native.Nat.{ℕ, zero, suc, _+_, _*_, _-_, _/_, _%_, _<_, _≤_}
+use Prim.Native.Nat.{ℕ, _+_, _*_, _/_, _%_, _<_, _≤_}
 use native.Mathlib.Omega.{arith}
 use mathlib.Core.Path.{_≡_, refl, sym, ap, _∙_}
-use mathlib.Core.List.{List, [], _∷_, _++_}
+use mathlib.Core.List.{[], _∷_, _++_}
 use lib.ListN.{drop}
-use borrow.Author.Tests.{eq-eqb, ne-eqb}
-use Rattle.page.specs.Frame.{space}
 use Rattle.page.specs.Column.{zeroDigit, column, columns, spell}
 use Rattle.page.specs.Word.{wordBytes}
+use Rattle.page.proofs.Column.{column-none, column-some}
 use Rattle.page.proofs.WordLaws.{four-bytes}
-
--- a column where nothing is left of the number, and where something is
-column-none : (m : ℕ) → m ≡ 0 → column m ≡ space
-column-none m e = rw (eq-eqb m 0 e)
-
-column-some : (m : ℕ) → (m ≡ 0 → ⊥) → column m ≡ zeroDigit + m % 10
-column-some m h = rw (ne-eqb m 0 h)
 
 -- four columns of which each is known
 four-columns : (n a b c d : ℕ) → a ≡ column (n / 10 / 10 / 10) → b ≡ column (n / 10 / 10) → c ≡ column (n / 10) → d ≡ zeroDigit + n % 10 → a ∷ b ∷ c ∷ d ∷ [] ≡ spell 4 n

@@ -1,9 +1,9 @@
 -- Document 01, "Page forms": a number in columns is decimal, right-justified with spaces, without leading zeros.
 use Prim.Native.Nat.{ℕ, zero, suc, _+_, _*_, _-_, _/_, _%_}
 use mathlib.Core.List.{List, [], _∷_}
-use mathlib.Core.Bool.{cond}
+use mathlib.Core.Bool.{Bool, cond, _&&_}
 use lib.ListN.{length}
-use lib.Dec.{eqb, ltb}
+use lib.Dec.{eqb, leb, ltb}
 use Rattle.base.specs.Each.{same}
 use Rattle.page.specs.Frame.{space}
 use Rattle.page.specs.declared.Number.{Number}
@@ -29,6 +29,10 @@ spell w n = columns (w - 1) (n / 10) ((zeroDigit + n % 10) ∷ [])
 -- a byte's value as a digit, 0 where it is none
 abbrev pub digit : ℕ → ℕ
 digit b = cond (ltb b zeroDigit) 0 (cond (ltb (zeroDigit + 9) b) 0 (b - zeroDigit))
+
+-- whether a byte is a digit
+abbrev pub isDigit : ℕ → Bool
+isDigit b = leb zeroDigit b && leb b (zeroDigit + 9)
 
 -- the decimal value of bytes that follow the number n
 unfoldable pub valueAfter : ℕ → List ℕ → ℕ

@@ -9,9 +9,8 @@ ghost use lib.ListN.{length};
 ghost use lib.Dec.{leb};
 ghost use Rattle.base.specs.Lent.{old, new};
 ghost use Rattle.base.specs.Part.{part, splice};
-ghost use Rattle.page.specs.Frame.{space};
 ghost use Rattle.page.specs.Word.{wordBytes};
-ghost use Rattle.page.specs.Column.{zeroDigit, column, columns, spell, digit, valueAfter, numberIn, numberThen};
+ghost use Rattle.page.specs.Column.{zeroDigit, column, spell, valueAfter, numberIn, numberThen};
 
 const SPACE: u8 = 0x20;
 

@@ -14,7 +14,7 @@ ghost use Rattle.page.specs.declared.Frame.{Frame as HeaderFrame};
 ghost use Rattle.page.specs.Header.{nodeFrame, inRange, withPart};
 ghost use Rattle.page.specs.Column.{spell};
 ghost use Rattle.page.specs.Word.{wordBytes};
-ghost use Rattle.page.specs.Form.{isEmpty, closed, formOf, wholeWith, wholeNode, wholeLike};
+ghost use Rattle.page.specs.Form.{isEmpty, closed, formOf, wholeNode, wholeLike};
 
 // Whether all bytes are FFh. The loop has no other way out, so that it goes over many bytes at once.
 fn all_erased(bytes: &[u8]) -> bool
@@ -71,14 +71,6 @@ pub fn form(page: &[u8]) -> Form
             }
         }
     }
-}
-
-// Whether a page is whole, with the header of f.
-pub fn is_whole_with(page: &[u8], f: Frame) -> bool
-    requires { ⌜ (length (now page) ≡ pageSize) × (inRange f ≡ true) ⌝ }
-    ensures { λ r. ⌜ r ≡ wholeWith f (formOf (old page)) ⌝ }
-{
-    headers::is_header_of(&page[0..Frame::HEADER], f) & is_closed(page)
 }
 
 // Whether a page is a whole node with these fields, of any sequence. The file's columns are given as they are spelt.

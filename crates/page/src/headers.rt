@@ -8,7 +8,7 @@ use crate::keys;
 use crate::plan;
 use crate::words;
 ghost use mathlib.Core.Path.{_≡_};
-ghost use mathlib.Core.Bool.{true, _||_};
+ghost use mathlib.Core.Bool.{true};
 ghost use mathlib.Core.List.{_++_};
 ghost use Prim.Native.Nat.{_<_};
 ghost use lib.ListN.{length};
@@ -16,7 +16,7 @@ ghost use Rattle.base.specs.Lent.{old, new};
 ghost use Rattle.base.specs.Part.{part, splice};
 ghost use Rattle.base.specs.Each.{same};
 ghost use Rattle.page.specs.Frame.{headerSize, colonSpace};
-ghost use Rattle.page.specs.Header.{lastNumber, isKind, within, inPlan, nodeRanges, cutOffRanges, keysRanges, commitRanges, inRange, nodeFrame, headerBytes, headerOf, headerWith, nodeWith, unitAt, unitWidth, partAt, partWidth, withPart, headerLike};
+ghost use Rattle.page.specs.Header.{lastNumber, isKind, within, inPlan, nodeRanges, cutOffRanges, keysRanges, commitRanges, inRange, nodeFrame, headerBytes, headerOf, nodeWith, unitAt, unitWidth, partAt, partWidth, withPart, headerLike};
 ghost use Rattle.page.specs.Word.{wordBytes};
 ghost use Rattle.page.specs.Column.{spell};
 ghost use Rattle.page.specs.declared.Frame.{Frame as HeaderFrame};
@@ -187,16 +187,6 @@ pub fn read_header(src: &[u8]) -> Header
         return Header::Invalid;
     }
     read_fields(src)
-}
-
-// Whether 30 bytes are the header of f: they are compared with its spelling.
-pub fn is_header_of(src: &[u8], f: Frame) -> bool
-    requires { ⌜ (length (now src) ≡ headerSize) × (inRange f ≡ true) ⌝ }
-    ensures { λ r. ⌜ r ≡ headerWith f (headerOf (old src)) ⌝ }
-{
-    let mut expected = [0u8; Frame::HEADER];
-    write_header(&mut expected, f);
-    bytes::same(src, &expected)
 }
 
 // Whether the columns of a header are those of a file and an offset. The file's are given as they are spelt.

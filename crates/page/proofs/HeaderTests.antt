@@ -1,7 +1,6 @@
 -- Tests of headers and pages against fields that they must have: by comparing bytes.
-use Prim.Native.Nat.{ℕ, suc, _+_, _*_, _^_, _<_, _≤_}
+use Prim.Native.Nat.{ℕ, _+_, _^_, _<_, _≤_}
 use native.Mathlib.Omega.{arith}
-use native.Mathlib.Nat.{pow-suc}
 use mathlib.Core.Path.{_≡_, refl, sym, ap, _∙_}
 use mathlib.Core.Bool.{Bool, true, false, cond, _&&_}
 use mathlib.Core.List.{List, [], _∷_, _++_, append-assoc}
@@ -14,7 +13,7 @@ use Rattle.base.proofs.Choice.{and-true, and-intro, and-passed, true-false, bot
 use Rattle.base.proofs.Parts.{part-part, part-length}
 use Rattle.base.proofs.Eachs.{same-true, same-refl}
 use Rattle.page.specs.Frame.{headerSize, colonSpace}
-use Rattle.page.specs.Column.{spell, digit, valueAfter, numberIn, numberThen}
+use Rattle.page.specs.Column.{spell, valueAfter, numberIn, numberThen}
 use Rattle.page.specs.Header.{nodeLetter, lastNumber, nodeFrame, inRange, headerBytes, headerOf, sameFrame, headerWith, nodeWith, withPart, headerLike}
 use Rattle.page.specs.Form.{isEmpty, closed, formOf, wholeWith, wholeNode}
 use Rattle.page.specs.declared.Number.{Number}
@@ -25,7 +24,7 @@ use Rattle.page.specs.declared.Header.the-variants.{Is, Invalid}
 use Rattle.page.specs.declared.Form.{Form}
 use Rattle.page.specs.declared.Form.the-variants.{Empty, Whole, Torn, Spoilt}
 use Rattle.page.proofs.Slices.{part-past, splice-middle}
-use Rattle.page.proofs.Column.{digit-lt, length-spell}
+use Rattle.page.proofs.Column.{value-lt, length-spell}
 use Rattle.page.proofs.Ranges.{NodeRange, node-range}
 use Rattle.page.proofs.HeaderLaws.{Spelt, spelt-header, header-spelt, written-spelt, header-read, header-is, header-range}
 use Rattle.page.proofs.FormLaws.{formFrom, form-from}
@@ -99,15 +98,6 @@ spelling-decides xs f l r =
 
 -- ---- a node of given fields, whatever its sequence
 -- the number of eight columns is a sequence
-value-below : (n w : ℕ) (xs : List ℕ) → n < 10 ^ w → valueAfter n xs < 10 ^ (w + length xs)
-unfolding valueAfter
-value-below n w [] h = rw (let e : w + 0 ≡ w = omega arith in e) h
-value-below n w (b ∷ bs) h =
-    let d = digit-lt b in
-    let p = pow-suc 10 w in
-    let e : w + suc (length bs) ≡ suc w + length bs = omega arith in
-    rw e (value-below (n * 10 + digit b) (suc w) bs (omega (arith, p)))
-
 number-value : (xs : List ℕ) (n : ℕ) → numberIn xs ≡ IsNumber n → valueAfter 0 xs ≡ n
 unfolding numberIn
 number-value xs n e = go (same (spell (length xs) (valueAfter 0 xs)) xs) e
@@ -145,7 +135,7 @@ module _ (xs : List ℕ) (file offset p : ℕ) (l : length xs ≡ headerSize) (r
       let field : (i m : ℕ) → i + m ≤ 21 → part xs (9 + i) m ≡ part (headerBytes h) (9 + i) m =
       λ i m q. sym (part-part xs 9 21 i m q) ∙ ap (λ (t : List ℕ). part t i m) (same-true _ _ (b .1)) ∙ part-part (headerBytes h) 9 21 i m q in
       let width : length (part xs 1 8) ≡ 8 = part-length xs 1 8 (omega arith) in
-      let small : n .0 < 10 ^ 8 = rw (number-value (part xs 1 8) (n .0) (n .1), width) at (value-below 0 0 (part xs 1 8) (omega arith)) in
+      let small : n .0 < 10 ^ 8 = rw (number-value (part xs 1 8) (n .0) (n .1), width) at (value-lt (part xs 1 8) 0 0 (omega arith)) in
       let range = node-range h refl .0 r in
       let f : Frame = nodeFrame (n .0) file offset p in
       let s : Spelt xs f = record {

@@ -1,3 +1,4 @@
+-- `store::fit::is_vacant_run` meets its contract.
 use borrow.Author.Tests.{eq-eqb, ne-eqb}
 use borrow.Author.Needs.{needs}
 use Rattle.store.proofs.fit.is_vacant_run.Statement.{statement}

@@ -77,12 +77,12 @@ pub fn same8(a: &[u8], i: usize, b: &[u8], j: usize) -> bool
     word8(a, i) == word8(b, j)
 }
 
-// Whether four bytes of a from i on are those of the word w.
-pub fn is_word4(a: &[u8], i: usize, w: u32) -> bool
+// Whether four bytes of a from i on are those of the word v.
+pub fn is_word4(a: &[u8], i: usize, v: u32) -> bool
     requires { ⌜ i + 4 ≤ length (now a) ⌝ }
-    ensures { λ r. ⌜ r ≡ same (part (old a) i 4) (wordBytes 4 w) ⌝ }
+    ensures { λ r. ⌜ r ≡ same (part (old a) i 4) (wordBytes 4 v) ⌝ }
 {
-    word4(a, i) == w
+    word4(a, i) == v
 }
 
 // Writes the three lowest bytes of w into dst from at on.

@@ -11,7 +11,7 @@ word4-requires : tie.Need-word4-requires
 word4-requires c κs = search needs
 
 returns : tie.Need-returns
-returns c = words-decide 4 _ _ (search needs) (search needs) ∙ (λ i. same (c .word4 .ensures i) (wordBytes 4 (c .before .before .args .w)))
+returns c = words-decide 4 _ _ (search needs) (search needs) ∙ (λ i. same (c .word4 .ensures i) (wordBytes 4 (c .before .before .args .v)))
 
 pub is-word4-spec : {M : Type 1} → statement M
 is-word4-spec = tie.close (tie.spec word4-requires returns)

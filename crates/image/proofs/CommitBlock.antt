@@ -9,13 +9,22 @@ use Rattle.base.proofs.Folds.{length-listFrom}
 use Rattle.page.specs.Frame.{pageSize}
 use Rattle.page.specs.Key.{positions}
 use Rattle.page.specs.Entry.{parts, commitPayload}
-use Rattle.page.specs.Page.{commitPage}
+use Rattle.page.specs.Header.{headerBytes, commitFrame}
+use Rattle.page.specs.Page.{pageLike, commitPage}
+use Rattle.page.specs.declared.Frame.{Frame}
 use Rattle.page.proofs.Commits.{payload-length}
 use Rattle.page.proofs.Pages.{commit-length}
+use Rattle.page.proofs.HeaderTests.{page-like}
 use Rattle.image.specs.Size.{blockSize, pagesInBlock}
 use Rattle.image.specs.Step.{Inside}
 use Rattle.image.specs.Block.{commitBlockSteps, commitBlockPage}
 use Rattle.image.proofs.Rows.{rowSteps, row-inside}
+
+-- a page of the block's first header with the part's number
+pub commit-like : (epoch i covered : ℕ) (header payload : List ℕ) (f : Frame) → header ≡ headerBytes f → f ≡ commitFrame epoch 0 covered
+    → pageLike header i payload ≡ commitPage epoch i covered payload
+unfolding commitPage
+commit-like epoch i covered header payload f h e = rw (h, e) (page-like (commitFrame epoch 0 covered) i payload)
 
 module _ (epoch covered : ℕ) (map letters : List ℕ) where
   pub commit-block-steps : (b : ℕ) → commitBlockSteps epoch covered b map letters ≡ rowSteps b (commitBlockPage epoch covered map letters) parts 0

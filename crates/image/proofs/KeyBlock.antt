@@ -17,9 +17,12 @@ use Rattle.base.proofs.Folds.{length-listFrom, listFrom-agree}
 use Rattle.page.specs.Frame.{pageSize, headerSize, payloadSize}
 use Rattle.page.specs.Entry.{usedLetter}
 use Rattle.page.specs.Key.{keySize, keysInPage, keysInBlock, positions, keyBlock, keyPage, keySlot, keyInPage, keyInNoise}
-use Rattle.page.specs.Page.{keysPage}
+use Rattle.page.specs.Header.{headerBytes, keysFrame}
+use Rattle.page.specs.Page.{pageLike, keysPage}
+use Rattle.page.specs.declared.Frame.{Frame}
 use Rattle.page.proofs.Slices.{lent-part}
 use Rattle.page.proofs.Pages.{keys-length, key-back}
+use Rattle.page.proofs.HeaderTests.{page-like}
 use Rattle.image.specs.Size.{blockSize, pagesInBlock}
 use Rattle.image.specs.Look.{pageAt, blockAt}
 use Rattle.image.specs.Step.{program, Inside, playAll}
@@ -163,6 +166,12 @@ module _ (img letters noise : List ℕ) (last i first : ℕ) (h : first % keysIn
   renewed-page = keys-along _ _ keysInPage 0 first (λ j l. rw (zero-add, old-slot j l, noise-slot j l))
 
 -- ---- the pages of a key block
+-- a page of the block's first header with the page's number
+pub keys-like : (epoch block i : ℕ) (header keys : List ℕ) (f : Frame) → header ≡ headerBytes f → f ≡ keysFrame epoch block 0
+    → pageLike header i keys ≡ keysPage epoch block i keys
+unfolding keysPage
+keys-like epoch block i header keys f h e = rw (h, e) (page-like (keysFrame epoch block 0) i keys)
+
 module _ (epoch block : ℕ) (key : ℕ → List ℕ) (sizes : (p : ℕ) → p < positions → length (key p) ≡ keySize) (h : block < 2) where
   keys-size : (i : ℕ) → i < pagesInBlock → length (keysFrom key keysInPage (keysInBlock * block + keysInPage * i)) ≡ payloadSize
   keys-size i l = keys-from-length key keysInPage (keysInBlock * block + keysInPage * i) (λ j a b. sizes j (omega arith))

@@ -5,19 +5,22 @@ use crate::look;
 use crate::steps;
 use page::Frame;
 use page::entries;
+use page::headers;
 use page::keys::KEYS_IN_BLOCK;
 use page::keys::KEYS_IN_PAGE;
 ghost use mathlib.Core.Path.{_≡_};
 ghost use Prim.Native.Nat.{_≤_, _<_, _+_, _*_};
 ghost use lib.ListN.{length};
 ghost use Rattle.base.specs.Lent.{old, new};
-ghost use Rattle.page.specs.Key.{positions, noiseSize};
-ghost use Rattle.page.specs.Entry.{parts, mapSize};
+ghost use Rattle.page.specs.Frame.{headerSize};
+ghost use Rattle.page.specs.Key.{keysInPage, keysInBlock, positions, noiseSize};
+ghost use Rattle.page.specs.Entry.{mapSize};
+ghost use Rattle.page.specs.Page.{pageLike};
 ghost use Rattle.image.specs.Size.{blockSize, pagesInBlock, blocks};
 ghost use Rattle.image.specs.Look.{blockAt};
 ghost use Rattle.image.specs.Step.{program};
 ghost use Rattle.image.specs.Power.{device, act, run};
-ghost use Rattle.image.specs.Block.{erasesFrom, renewedKey, keyBlockSteps, commitBlockSteps, keyBlockPage, commitBlockPage};
+ghost use Rattle.image.specs.Block.{erasesFrom, keysFrom, renewedKey, keyBlockSteps, commitBlockSteps};
 
 // Erases every block, in order.
 pub fn erase_all(image: &mut [u8], p: Power) -> Power
@@ -33,11 +36,11 @@ pub fn erase_all(image: &mut [u8], p: Power) -> Power
     q
 }
 
-// Programs page i of block b with the next keys of key block 0 or 1, whose last copy is block last.
+// Programs page i of block b with the next keys of key block 0 or 1, whose last copy is block last, and a header of that block.
 fn program_next_keys(
     image: &mut [u8],
     b: usize,
-    epoch: u32,
+    header: &[u8],
     block: u32,
     i: usize,
     last: usize,
@@ -45,19 +48,21 @@ fn program_next_keys(
     noise: &[u8],
     p: Power,
 ) -> Power
-    requires { ⌜ (b * blockSize + blockSize ≤ length (now image))
+    requires { ⌜ (b * blockSize + blockSize ≤ length (now image)) × (length (now header) ≡ headerSize)
         × (last * blockSize + blockSize ≤ length (now image)) × (block < 2) × (i < pagesInBlock) ⌝ }
     requires { ⌜ (length (now letters) ≡ positions) × (length (now noise) ≡ noiseSize) ⌝ }
-    ensures { λ r. ⌜ device r (new image) ≡ act (program (b * pagesInBlock + i) (keyBlockPage epoch block
-        (renewedKey (blockAt (old image) last) (old letters) (old noise)) i)) (device p (old image)) ⌝ }
+    ensures { λ r. ⌜ device r (new image) ≡ act (program (b * pagesInBlock + i) (pageLike (old header) i (keysFrom
+        (renewedKey (blockAt (old image) last) (old letters) (old noise)) keysInPage (keysInBlock * block + keysInPage * i))))
+        (device p (old image)) ⌝ }
 {
     let mut next = [0u8; Frame::PAYLOAD];
     let first = KEYS_IN_BLOCK * block as usize + KEYS_IN_PAGE * i;
     keys::renew_keys(&mut next, image, last, i, letters, noise, first);
-    steps::program_page(
+    steps::program_like(
         image,
         b * look::PAGES_IN_BLOCK + i,
-        Frame::keys(epoch, block, i as u32),
+        header,
+        i as u32,
         &next,
         p,
     )
@@ -80,40 +85,19 @@ pub fn program_key_block(
     ensures { λ r. ⌜ device r (new image) ≡ run (keyBlockSteps epoch block b
         (renewedKey (blockAt (old image) last) (old letters) (old noise))) (device p (old image)) ⌝ }
 {
-    let mut q = p;
+    let mut header = [0u8; Frame::HEADER];
+    headers::write_header(&mut header, Frame::keys(epoch, block, 0));
+    let mut q = Power {
+        steps: p.steps,
+        bytes: p.bytes,
+        on: p.on,
+    };
     let mut i = 0;
     while i < look::PAGES_IN_BLOCK {
-        q = program_next_keys(image, b, epoch, block, i, last, letters, noise, q);
+        q = program_next_keys(image, b, &header, block, i, last, letters, noise, q);
         i += 1;
     }
     q
-}
-
-// Programs page i of block b with part i of a commit.
-fn program_part(
-    image: &mut [u8],
-    b: usize,
-    epoch: u32,
-    covered: u32,
-    i: usize,
-    map: &[u16],
-    letters: &[u8],
-    p: Power,
-) -> Power
-    requires { ⌜ (b * blockSize + blockSize ≤ length (now image)) × (i < parts) ⌝ }
-    requires { ⌜ (length (now map) ≡ mapSize) × (length (now letters) ≡ positions) ⌝ }
-    ensures { λ r. ⌜ device r (new image) ≡ act (program (b * pagesInBlock + i)
-        (commitBlockPage epoch covered (old map) (old letters) i)) (device p (old image)) ⌝ }
-{
-    let mut payload = [0u8; Frame::PAYLOAD];
-    entries::write_commit_payload(&mut payload, map, letters, i);
-    steps::program_page(
-        image,
-        b * look::PAGES_IN_BLOCK + i,
-        Frame::commit(epoch, i as u32, covered),
-        &payload,
-        p,
-    )
 }
 
 // Programs block b with a commit of an epoch and a covered sequence, from map and letters.
@@ -131,10 +115,17 @@ pub fn program_commit_block(
     ensures { λ r. ⌜ device r (new image)
         ≡ run (commitBlockSteps epoch covered b (old map) (old letters)) (device p (old image)) ⌝ }
 {
-    let mut q = p;
+    let mut header = [0u8; Frame::HEADER];
+    headers::write_header(&mut header, Frame::commit(epoch, 0, covered));
+    let mut q = Power {
+        steps: p.steps,
+        bytes: p.bytes,
+        on: p.on,
+    };
     let mut i = 0;
     while i < entries::PARTS {
-        q = program_part(image, b, epoch, covered, i, map, letters, q);
+        let g = b * look::PAGES_IN_BLOCK + i;
+        q = steps::program_part(image, g, &header, i, map, letters, q);
         i += 1;
     }
     q

@@ -5,11 +5,13 @@ use page::Frame;
 use page::bytes;
 use page::writers;
 ghost use mathlib.Core.Path.{_≡_};
-ghost use Prim.Native.Nat.{_≤_, _+_, _*_, min};
+ghost use Prim.Native.Nat.{_≤_, _<_, _+_, _*_, min};
 ghost use lib.ListN.{length};
 ghost use Rattle.base.specs.Lent.{old, new};
-ghost use Rattle.page.specs.Frame.{pageSize, payloadSize};
-ghost use Rattle.page.specs.Page.{pageBytes, nodePage, cutOffPage};
+ghost use Rattle.page.specs.Frame.{headerSize, payloadSize, pageSize};
+ghost use Rattle.page.specs.Key.{positions};
+ghost use Rattle.page.specs.Entry.{parts, mapSize, commitPayload};
+ghost use Rattle.page.specs.Page.{pageBytes, pageLike, nodePage, cutOffPage};
 ghost use Rattle.image.specs.Size.{blockSize};
 ghost use Rattle.image.specs.Step.{program, erase};
 ghost use Rattle.image.specs.Power.{device, act, reach, lessStep};
@@ -99,7 +101,7 @@ pub fn program_node(
     after_step(p)
 }
 
-// Programs page g with a header and a payload that stands there as it is: keys, a part of a commit, a cut-off's spaces.
+// Programs page g with a header and a payload that stands there as it is, a cut-off's spaces.
 pub fn program_page(image: &mut [u8], g: usize, f: Frame, payload: &[u8], p: Power) -> Power
     requires { ⌜ (g * pageSize + pageSize ≤ length (now image)) × (length (now payload) ≡ payloadSize) ⌝ }
     ensures { λ r. ⌜ device r (new image) ≡ act (program g (pageBytes f (old payload))) (device p (old image)) ⌝ }
@@ -112,6 +114,64 @@ pub fn program_page(image: &mut [u8], g: usize, f: Frame, payload: &[u8], p: Pow
         &mut image[start..start + Frame::PAGE],
         f,
         payload,
+        reach_of(p),
+    );
+    after_step(p)
+}
+
+// Programs page g with a header's 30 bytes with another part, and a payload.
+pub fn program_like(
+    image: &mut [u8],
+    g: usize,
+    header: &[u8],
+    part: u32,
+    payload: &[u8],
+    p: Power,
+) -> Power
+    requires { ⌜ (g * pageSize + pageSize ≤ length (now image)) × (length (now header) ≡ headerSize) ⌝ }
+    requires { ⌜ (part < 10_000) × (length (now payload) ≡ payloadSize) ⌝ }
+    ensures { λ r. ⌜ device r (new image)
+        ≡ act (program g (pageLike (old header) part (old payload))) (device p (old image)) ⌝ }
+{
+    if !p.on {
+        return p;
+    }
+    let start = g * Frame::PAGE;
+    writers::write_like(
+        &mut image[start..start + Frame::PAGE],
+        header,
+        part,
+        payload,
+        reach_of(p),
+    );
+    after_step(p)
+}
+
+// Programs page g with part i of a commit, from a header's 30 bytes, map and letters.
+pub fn program_part(
+    image: &mut [u8],
+    g: usize,
+    header: &[u8],
+    i: usize,
+    map: &[u16],
+    letters: &[u8],
+    p: Power,
+) -> Power
+    requires { ⌜ (g * pageSize + pageSize ≤ length (now image)) × (length (now header) ≡ headerSize) ⌝ }
+    requires { ⌜ (i < parts) × (length (now map) ≡ mapSize) × (length (now letters) ≡ positions) ⌝ }
+    ensures { λ r. ⌜ device r (new image) ≡ act (program g (pageLike (old header) i
+        (commitPayload (old map) (old letters) i))) (device p (old image)) ⌝ }
+{
+    if !p.on {
+        return p;
+    }
+    let start = g * Frame::PAGE;
+    writers::write_part(
+        &mut image[start..start + Frame::PAGE],
+        header,
+        i,
+        map,
+        letters,
         reach_of(p),
     );
     after_step(p)

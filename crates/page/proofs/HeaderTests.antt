@@ -12,9 +12,10 @@ use Rattle.base.specs.Each.{same}
 use Rattle.base.proofs.Choice.{and-true, and-intro, and-passed, true-false, both-ways}
 use Rattle.base.proofs.Parts.{part-part, part-length}
 use Rattle.base.proofs.Eachs.{same-true, same-refl}
-use Rattle.page.specs.Frame.{headerSize, colonSpace}
+use Rattle.page.specs.Frame.{headerSize, colonSpace, closing}
 use Rattle.page.specs.Column.{spell, valueAfter, numberIn, numberThen}
 use Rattle.page.specs.Header.{nodeLetter, lastNumber, nodeFrame, inRange, headerBytes, headerOf, sameFrame, headerWith, nodeWith, withPart, headerLike}
+use Rattle.page.specs.Page.{pageBytes, pageLike}
 use Rattle.page.specs.Form.{isEmpty, closed, formOf, wholeWith, wholeNode}
 use Rattle.page.specs.declared.Number.{Number}
 use Rattle.page.specs.declared.Number.the-variants.{Is as IsNumber, Misspelt}
@@ -84,6 +85,11 @@ module _ (f : Frame) (n : ℕ) where
       ap (λ (t : List ℕ). splice t 12 (spell 4 n)) (split (spell 4 (f .part)))
       ∙ splice-middle p (spell 4 (f .part)) tail (spell 4 n) 12 before-part (widths 4 (f .part) n (omega arith))
       ∙ sym (split (spell 4 n))
+
+-- a page of a header with another part
+pub page-like : (f : Frame) (n : ℕ) (payload : List ℕ) → pageLike (headerBytes f) n payload ≡ pageBytes (withPart n f) payload
+unfolding pageLike pageBytes
+page-like f n payload = ap (λ (xs : List ℕ). xs ++ (payload ++ closing)) (put-part f n)
 
 -- ---- a given header, by its spelling
 header-with : (h : Frame) (m : Header) → headerWith h m ≡ true → m ≡ Is h

@@ -5,20 +5,22 @@ use native.Mathlib.Decide.{decLe}
 use mathlib.Core.Path.{_≡_, refl, sym, ap, _∙_}
 use mathlib.Core.List.{List, _++_, append-assoc, append-nil}
 use lib.ListN.{length, take, drop, replicate, length-append, length-replicate, length-take, length-drop, drop-of-length-le}
-use lib.Seq.{take-all}
+use lib.Seq.{take-at, take-all}
 use borrow.Rule.Slice.PartMut.{putMid}
 use Rattle.base.specs.Part.{part, splice}
-use Rattle.base.proofs.Parts.{part-part, part-splice-before}
+use Rattle.base.proofs.Parts.{part-part, splice-length, part-splice-before, put-next}
 use Rattle.cipher.specs.CounterMode.{counterMode}
 use Rattle.cipher.specs.KeyExpansion.{keyExpansion}
 use Rattle.cipher.proofs.Laws.{length-counter-mode, counter-mode-twice}
 use Rattle.page.specs.Frame.{headerSize, payloadSize, closingSize, pageSize, closingAt, erased, closing, space}
-use Rattle.page.specs.Header.{headerBytes, nodeFrame, cutOffFrame, keysFrame, commitFrame}
+use Rattle.page.specs.Column.{spell}
+use Rattle.page.specs.Header.{partAt, partWidth, headerBytes, nodeFrame, cutOffFrame, keysFrame, commitFrame}
 use Rattle.page.specs.Key.{keySize, keysInPage, keyInPage}
-use Rattle.page.specs.Page.{pageBytes, enciphered, nodePage, cutOffPage, keysPage, commitPage, payloadOf, cutPage}
+use Rattle.page.specs.Page.{pageBytes, pageLike, enciphered, nodePage, cutOffPage, keysPage, commitPage, payloadOf, cutPage}
 use Rattle.page.specs.declared.Frame.{Frame}
+use Rattle.page.proofs.Column.{length-spell}
 use Rattle.page.proofs.HeaderLaws.{length-header}
-use Rattle.page.proofs.Slices.{part-front, part-past, part-middle, part-back, part-replicate, splice-middle, three-parts}
+use Rattle.page.proofs.Slices.{part-front, part-past, part-middle, part-back, part-replicate, splice-middle}
 
 -- ---- enciphering
 pub enciphered-length : (key payload : List ℕ) → length (enciphered key payload) ≡ length payload
@@ -36,6 +38,18 @@ unfolding enciphered
 enciphered-twice key payload = counter-mode-twice (keyExpansion key) payload
 
 -- ---- header, payload, closing
+-- a closing that is lent and written
+pub put-closing : (page : List ℕ) → length page ≡ pageSize → putMid closingAt closingSize page closing ≡ take closingAt page ++ closing
+put-closing page l =
+    rw (drop-of-length-le (drop closingAt page) {i = closingSize} (simp length-drop (omega arith))) (ap (λ (xs : List ℕ). take closingAt page ++ xs) (append-nil closing))
+
+-- the three parts, written one after the other
+pub closed-parts : (head payload x : List ℕ) → length head ≡ headerSize → length payload ≡ payloadSize
+    → take closingAt (putMid headerSize payloadSize (head ++ drop headerSize x) payload) ++ closing ≡ head ++ (payload ++ closing)
+closed-parts head payload x l h =
+    rw (put-next head (drop headerSize x) payload headerSize payloadSize l, take-at (head ++ payload) (drop payloadSize (drop headerSize x)) closingAt (simp length-append (omega arith)))
+    (append-assoc head payload closing)
+
 module _ (f : Frame) (payload : List ℕ) (h : length payload ≡ payloadSize) where
   pub page-length : length (pageBytes f payload) ≡ pageSize
   unfolding pageBytes
@@ -55,15 +69,27 @@ module _ (f : Frame) (payload : List ℕ) (h : length payload ≡ payloadSize) w
       rw (← append-assoc)
       (part-back (headerBytes f ++ payload) closing closingAt closingSize (let l = length-header f in simp length-append (omega arith)) refl)
 
-  -- the three parts, written one after the other
-  pub page-written : (x : List ℕ) → length x ≡ pageSize → putMid closingAt closingSize (putMid headerSize payloadSize (headerBytes f ++ drop headerSize x) payload) closing ≡ pageBytes f payload
+  pub page-written : (x : List ℕ) → take closingAt (putMid headerSize payloadSize (headerBytes f ++ drop headerSize x) payload) ++ closing ≡ pageBytes f payload
   unfolding pageBytes
-  page-written x l = three-parts x (headerBytes f) payload headerSize payloadSize (length-header f) h closing closingSize refl l
+  page-written x = closed-parts (headerBytes f) payload x (length-header f) h
 
   -- another payload in the place of this one
   pub page-splice : (ys : List ℕ) → length ys ≡ payloadSize → splice (pageBytes f payload) headerSize ys ≡ pageBytes f ys
   unfolding pageBytes
   page-splice ys e = splice-middle (headerBytes f) payload closing ys headerSize (length-header f) (h ∙ sym e)
+
+-- ---- a page of a header's 30 bytes with another part
+module _ (header : List ℕ) (n : ℕ) (payload : List ℕ) (l : length header ≡ headerSize) (h : length payload ≡ payloadSize) where
+  put-part-length : length (splice header partAt (spell partWidth n)) ≡ headerSize
+  put-part-length = let w = length-spell partWidth n (omega arith) in splice-length header partAt (spell partWidth n) (omega arith) ∙ l
+
+  pub like-length : length (pageLike header n payload) ≡ pageSize
+  unfolding pageLike
+  like-length = let w = put-part-length in simp length-append (omega arith)
+
+  pub like-written : (x : List ℕ) → take closingAt (putMid headerSize payloadSize (splice header partAt (spell partWidth n) ++ drop headerSize x) payload) ++ closing ≡ pageLike header n payload
+  unfolding pageLike
+  like-written x = closed-parts (splice header partAt (spell partWidth n)) payload x put-part-length h
 
 -- ---- the pages of each kind
 pub node-length : (sequence file offset position : ℕ) (key payload : List ℕ) → length payload ≡ payloadSize → length (nodePage sequence file offset position key payload) ≡ pageSize

@@ -2,8 +2,8 @@
 use Prim.Native.Nat.{ℕ, zero, suc, _+_, _-_, _<_, _≤_}
 use native.Mathlib.Omega.{arith}
 use mathlib.Core.Path.{_≡_, refl}
-use mathlib.Core.List.{List, [], _∷_, _++_, append-assoc, append-nil}
-use lib.ListN.{length, take, drop, getD, replicate, length-replicate, replicate-append-replicate, length-append, length-drop, drop-of-length-le, take-append-drop}
+use mathlib.Core.List.{List, [], _∷_, _++_, append-nil}
+use lib.ListN.{length, take, drop, getD, replicate, length-replicate, replicate-append-replicate, length-drop, drop-of-length-le, take-append-drop}
 use lib.Seq.{take-at, drop-at, take-all, drop-append-add}
 use borrow.Rule.Slice.PartMut.{putMid}
 use Rattle.base.specs.Part.{part, splice}
@@ -58,14 +58,8 @@ pub lent-part : (xs : List ℕ) (a n : ℕ) → take ((a + n) - a) (drop a xs) �
 unfolding part
 lent-part xs a n = let k : (a + n) - a ≡ n = omega arith in rw k
 
--- ---- three parts that fill a list, written one after the other
+-- ---- two parts that fill a list, written one after the other
 module _ (x a b : List ℕ) (i j : ℕ) (la : length a ≡ i) (lb : length b ≡ j) where
-  pub three-parts : (c : List ℕ) (k : ℕ) → length c ≡ k → length x ≡ i + j + k
-      → putMid (i + j) k (putMid i j (a ++ drop i x) b) c ≡ a ++ (b ++ c)
-  three-parts c k lc h =
-      rw (
-        put-next a (drop i x) b i j la,
-        put-next (a ++ b) (drop j (drop i x)) c (i + j) k (simp length-append (omega arith)),
-        drop-of-length-le (drop j (drop i x)) {i = k} (simp length-drop (omega arith)),
-      )
-      (simp (append-assoc, append-nil))
+  pub two-parts : length x ≡ i + j → putMid i j (a ++ drop i x) b ≡ a ++ b
+  two-parts h =
+      rw (put-next a (drop i x) b i j la, drop-of-length-le (drop i x) {i = j} (simp length-drop (omega arith))) (append-nil (a ++ b))

@@ -2,16 +2,21 @@
 use Prim.Native.Nat.{ℕ, _-_}
 use mathlib.Core.List.{List, _++_}
 use lib.ListN.{take, replicate}
-use Rattle.base.specs.Part.{part}
+use Rattle.base.specs.Part.{part, splice}
 use Rattle.cipher.specs.KeyExpansion.{keyExpansion}
 use Rattle.cipher.specs.CounterMode.{counterMode}
 use Rattle.page.specs.Frame.{headerSize, payloadSize, pageSize, closing, erased, space}
-use Rattle.page.specs.Header.{headerBytes, nodeFrame, cutOffFrame, keysFrame, commitFrame}
+use Rattle.page.specs.Column.{spell}
+use Rattle.page.specs.Header.{partAt, partWidth, headerBytes, nodeFrame, cutOffFrame, keysFrame, commitFrame}
 use Rattle.page.specs.declared.Frame.{Frame}
 
 -- header, payload, closing
 unfoldable pub pageBytes : Frame → List ℕ → List ℕ
 pageBytes f payload = headerBytes f ++ (payload ++ closing)
+
+-- the same of a header's 30 bytes with another part
+unfoldable pub pageLike : List ℕ → ℕ → List ℕ → List ℕ
+pageLike header n payload = splice header partAt (spell partWidth n) ++ (payload ++ closing)
 
 -- "Cipher": AES-128 in counter mode from zero, under a key of 16 bytes; the same both ways
 unfoldable pub enciphered : List ℕ → List ℕ → List ℕ

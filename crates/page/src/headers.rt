@@ -232,3 +232,12 @@ pub fn put_part(dst: &mut [u8], part: u32)
 {
     columns::put4(dst, PART_AT, part);
 }
+
+// Writes 30 bytes of a header, with another part, into dst.
+pub fn write_header_like(dst: &mut [u8], header: &[u8], part: u32)
+    requires { ⌜ (length (now dst) ≡ headerSize) × (length (now header) ≡ headerSize) × (part < 10_000) ⌝ }
+    ensures { λ _. ⌜ new dst ≡ splice (old header) partAt (spell partWidth part) ⌝ }
+{
+    bytes::copy(dst, header);
+    put_part(dst, part);
+}

@@ -1,13 +1,26 @@
 // The 256 bytes of a page, written in place up to byte k, and a node's payload read.
 use crate::Frame;
 use crate::bytes;
+use crate::entries;
 use crate::headers;
 ghost use mathlib.Core.Path.{_≡_};
-ghost use lib.ListN.{length};
+ghost use mathlib.Core.List.{_++_};
+ghost use Prim.Native.Nat.{_<_};
+ghost use lib.ListN.{length, take};
 ghost use Rattle.base.specs.Lent.{old, new};
 ghost use Rattle.base.specs.Part.{splice};
-ghost use Rattle.page.specs.Frame.{headerSize, payloadSize, pageSize};
-ghost use Rattle.page.specs.Page.{pageBytes, enciphered, nodePage, payloadOf, cutPage};
+ghost use Rattle.page.specs.Frame.{headerSize, payloadSize, pageSize, closingAt, closing};
+ghost use Rattle.page.specs.Key.{positions};
+ghost use Rattle.page.specs.Entry.{parts, mapSize, commitPayload};
+ghost use Rattle.page.specs.Page.{pageBytes, pageLike, enciphered, nodePage, payloadOf, cutPage};
+
+// Writes a page's closing.
+fn close(page: &mut [u8])
+    requires { ⌜ length (now page) ≡ pageSize ⌝ }
+    ensures { λ _. ⌜ new page ≡ take closingAt (old page) ++ closing ⌝ }
+{
+    bytes::copy(&mut page[Frame::CLOSING_AT..Frame::PAGE], b"\r\n");
+}
 
 // Writes a page whole: header, payload, closing.
 fn write_whole(page: &mut [u8], f: Frame, payload: &[u8])
@@ -16,7 +29,7 @@ fn write_whole(page: &mut [u8], f: Frame, payload: &[u8])
 {
     headers::write_header(&mut page[0..Frame::HEADER], f);
     bytes::copy(&mut page[Frame::HEADER..Frame::CLOSING_AT], payload);
-    bytes::copy(&mut page[Frame::CLOSING_AT..Frame::PAGE], b"\r\n");
+    close(page);
 }
 
 // Leaves of a page what a program that is cut after k bytes leaves.
@@ -46,6 +59,35 @@ pub fn write_page(page: &mut [u8], f: Frame, payload: &[u8], k: usize)
     ensures { λ _. ⌜ new page ≡ cutPage k (pageBytes f (old payload)) ⌝ }
 {
     write_whole(page, f, payload);
+    cut(page, k);
+}
+
+// Writes a page of a header's 30 bytes with another part and of a payload, as a program that is cut after k bytes.
+pub fn write_like(page: &mut [u8], header: &[u8], part: u32, payload: &[u8], k: usize)
+    requires { ⌜ (length (now page) ≡ pageSize) × (length (now header) ≡ headerSize) ⌝ }
+    requires { ⌜ (part < 10_000) × (length (now payload) ≡ payloadSize) ⌝ }
+    ensures { λ _. ⌜ new page ≡ cutPage k (pageLike (old header) part (old payload)) ⌝ }
+{
+    headers::write_header_like(&mut page[0..Frame::HEADER], header, part);
+    bytes::copy(&mut page[Frame::HEADER..Frame::CLOSING_AT], payload);
+    close(page);
+    cut(page, k);
+}
+
+// Writes the page of a commit's part i, of a header's 30 bytes with that part, as a program that is cut after k bytes.
+pub fn write_part(page: &mut [u8], header: &[u8], i: usize, map: &[u16], letters: &[u8], k: usize)
+    requires { ⌜ (length (now page) ≡ pageSize) × (length (now header) ≡ headerSize) ⌝ }
+    requires { ⌜ (i < parts) × (length (now map) ≡ mapSize) × (length (now letters) ≡ positions) ⌝ }
+    ensures { λ _. ⌜ new page ≡ cutPage k (pageLike (old header) i (commitPayload (old map) (old letters) i)) ⌝ }
+{
+    headers::write_header_like(&mut page[0..Frame::HEADER], header, i as u32);
+    entries::write_commit_payload(
+        &mut page[Frame::HEADER..Frame::CLOSING_AT],
+        map,
+        letters,
+        i,
+    );
+    close(page);
     cut(page, k);
 }
 

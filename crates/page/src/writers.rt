@@ -81,12 +81,7 @@ pub fn write_part(page: &mut [u8], header: &[u8], i: usize, map: &[u16], letters
     ensures { λ _. ⌜ new page ≡ cutPage k (pageLike (old header) i (commitPayload (old map) (old letters) i)) ⌝ }
 {
     headers::write_header_like(&mut page[0..Frame::HEADER], header, i as u32);
-    entries::write_commit_payload(
-        &mut page[Frame::HEADER..Frame::CLOSING_AT],
-        map,
-        letters,
-        i,
-    );
+    entries::write_commit_payload(&mut page[Frame::HEADER..Frame::CLOSING_AT], map, letters, i);
     close(page);
     cut(page, k);
 }

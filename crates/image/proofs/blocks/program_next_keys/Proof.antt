@@ -45,7 +45,7 @@ same-length : tie.Need-same-length
 same-length c = search needs
 
 returns : tie.Need-returns
-returns c = 
+returns c =
     let a = c .before .before .before .before .before .before .before .before .before .before .before .before .before .args in
     c .before .before .program-like .ensures
     ∙ ap (λ (keys : List ℕ). act (program (a .b * pagesInBlock + a .i) (pageLike (now (a .header)) (a .i) keys)) (device (a .p) (now (a .image)))) (c .before .before .before .before .before .before .renew-keys .ensures)

@@ -41,7 +41,7 @@ same-length : tie.Need-same-length
 same-length c = search needs
 
 returns-2 : tie.Need-returns-2
-returns-2 c = 
+returns-2 c =
     let s = c .before .before .before .before .before .before .before .before .before .before .before in
     let a = s .args in
     lent-program (now (a .image)) (a .p) (c .after-step .result) (not-false _ (c .before .before .before .before .before .before .if1 .left)) (c .after-step .ensures)

@@ -19,7 +19,7 @@ same-length : tie.Need-same-length
 same-length c = search needs
 
 returns : tie.Need-returns
-returns c = 
+returns c =
     c .before .before .put-part .ensures
     ∙ ap (λ (xs : List ℕ). splice xs partAt (spell partWidth (c .before .before .before .before .before .before .before .before .before .before .args .part))) (c .before .before .before .before .before .before .copy .ensures)
 

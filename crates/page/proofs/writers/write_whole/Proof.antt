@@ -37,7 +37,7 @@ same-length : tie.Need-same-length
 same-length c = search needs
 
 returns : tie.Need-returns
-returns c = 
+returns c =
     let s = c .before .before .before .before .before .before .before .before .before .before .before .before .before .before in
     c .before .before .close .ensures
     ∙ rw (c .before .before .before .before .before .before .before .before .before .before .write-header .ensures, c .before .before .before .before .before .before .copy .ensures) (page-written (s .args .f) (now (s .args .payload)) (s .pre .1) (now (s .args .page)))

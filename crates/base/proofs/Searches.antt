@@ -280,13 +280,20 @@ module _ (p : ℕ → Bool) (n i : ℕ) (h : i < n) where
   unfolding whichFrom
   which-here e = let k : n - i ≡ suc (n - (i + 1)) = omega arith in rw (k, e, add-one)
 
-  pub which-next : p i ≡ false → whichFrom p (n - i) i ≡ whichFrom p (n - (i + 1)) (i + 1)
-  unfolding whichFrom
-  which-next e = let k : n - i ≡ suc (n - (i + 1)) = omega arith in rw (k, e, add-one)
-
 pub which-none : (p : ℕ → Bool) (n i : ℕ) → n ≤ i → whichFrom p (n - i) i ≡ []
 unfolding whichFrom
 which-none p n i h = let k : n - i ≡ 0 = omega arith in rw k
+
+-- it begins with the first of them
+pub which-first : (p : ℕ → Bool) (n i : ℕ) → whichFrom p n i ≡ whichFrom p (i + n - firstFrom p n i) (firstFrom p n i)
+unfolding firstFrom whichFrom
+which-first p zero i = let k : i + 0 - i ≡ 0 = omega arith in rw k
+which-first p (suc n) i = go (p i) refl (which-first p n (suc i))
+  where
+    go : (t : Bool) → p i ≡ t → whichFrom p n (suc i) ≡ whichFrom p (suc i + n - firstFrom p n (suc i)) (firstFrom p n (suc i))
+        → cond t (i ∷ whichFrom p n (suc i)) (whichFrom p n (suc i)) ≡ whichFrom p (i + suc n - cond t i (firstFrom p n (suc i))) (cond t i (firstFrom p n (suc i)))
+    go true e r = let k : i + suc n - i ≡ suc n = omega arith in rw (k, e)
+    go false e r = let k : i + suc n ≡ suc i + n = omega arith in rw k r
 
 pub which-agree : (p q : ℕ → Bool) (n i : ℕ) → ((j : ℕ) → i ≤ j → j < i + n → p j ≡ q j) → whichFrom p n i ≡ whichFrom q n i
 unfolding whichFrom

@@ -17,7 +17,7 @@ ghost use Rattle.base.specs.Search.{allFrom};
 ghost use Rattle.page.specs.Frame.{payloadSize};
 ghost use Rattle.page.specs.Plan.{places};
 ghost use Rattle.page.specs.Key.{positions};
-ghost use Rattle.page.specs.Entry.{isLetter, vacantEntry, entrySize, entriesInPart, parts, entryBytes, entryOf, isEntry, entryPart, entryAt, entriesFrom, commitPayload, validPayload};
+ghost use Rattle.page.specs.Entry.{isLetter, vacantEntry, entrySize, entriesInPart, parts, entryBytes, entryOf, isEntry, entriesFrom, commitPayload, validPayload};
 
 // The letters of a key position: free, used, deleted.
 pub const FREE: u8 = b'f';
@@ -33,11 +33,11 @@ pub const NONE: u16 = 65_535;
 pub const PARTS: usize = 10;
 
 // An entry has 8 bytes; a part holds 28 of them, from part 2 on.
-const ENTRY_SIZE: usize = 8;
+pub const ENTRY_SIZE: usize = 8;
 
-const ENTRIES_IN_PART: usize = 28;
+pub const ENTRIES_IN_PART: usize = 28;
 
-const FIRST_ENTRY_PART: usize = 2;
+pub const FIRST_ENTRY_PART: usize = 2;
 
 // Where the columns of its page and of its key start.
 const PAGE_AT: usize = 0;
@@ -98,20 +98,11 @@ pub fn read_entry(src: &[u8]) -> Entry
     Entry::At(page, key)
 }
 
-// The part of a commit that holds the entry of place x.
-pub fn entry_part(x: usize) -> usize
-    requires { ⌜ x < places ⌝ }
-    ensures { λ r. ⌜ (r ≡ entryPart x) × (r < parts) ⌝ }
+// The entry at byte at of a payload.
+pub fn entry_at(payload: &[u8], at: usize) -> Entry
+    requires { ⌜ (length (now payload) ≡ payloadSize) × (at + entrySize ≤ payloadSize) ⌝ }
+    ensures { λ r. ⌜ r ≡ entryOf (part (old payload) at entrySize) ⌝ }
 {
-    FIRST_ENTRY_PART + x / ENTRIES_IN_PART
-}
-
-// The entry of place x in the payload of its part.
-pub fn entry_in(payload: &[u8], x: usize) -> Entry
-    requires { ⌜ length (now payload) ≡ payloadSize ⌝ }
-    ensures { λ r. ⌜ r ≡ entryOf (part (old payload) (entryAt x) entrySize) ⌝ }
-{
-    let at = ENTRY_SIZE * (x % ENTRIES_IN_PART);
     read_entry(&payload[at..at + ENTRY_SIZE])
 }
 

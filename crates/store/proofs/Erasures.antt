@@ -1,14 +1,14 @@
 -- Blocks that a test picks, erased in order as code does it: from one to the next, on the image as it then is. The strays of a mount are such blocks.
-use Prim.Native.Nat.{ℕ, zero, suc, _+_, _-_, _<_, _≤_, _*_}
+use Prim.Native.Nat.{ℕ, _+_, _-_, _<_, _≤_, _*_}
 use native.Mathlib.Omega.{arith}
 use native.Mathlib.Nat.{sub-zero}
 use mathlib.Core.Path.{_≡_, refl, sym, ap, _∙_}
 use mathlib.Core.Bool.{Bool, true, false, cond, not, _&&_, _||_}
-use mathlib.Core.List.{List, _∷_, map}
+use mathlib.Core.List.{List, map}
 use lib.Dec.{eqb}
 use lib.ListN.{length, getD}
 use Rattle.base.specs.Search.{firstFrom, whichFrom}
-use Rattle.base.proofs.Searches.{first-bounds, first-holds, first-agree, which-here, which-none}
+use Rattle.base.proofs.Searches.{first-bounds, first-holds, first-agree, which-here, which-none, which-first}
 use Rattle.image.specs.Size.{blockSize, blocks}
 use Rattle.image.specs.Look.{blockAt, blockEmpty}
 use Rattle.image.specs.Step.{erase}
@@ -19,17 +19,6 @@ use Rattle.store.specs.Kind.{isChosen, hasEvents, isData}
 use Rattle.store.specs.Mount.{isStray}
 use Rattle.store.specs.Replay.{EmptyTable}
 use Rattle.store.specs.declared.Numbers.{Numbers}
-
--- ---- the numbers that a test picks begin with the first
-which-first : (p : ℕ → Bool) (n i : ℕ) → whichFrom p n i ≡ whichFrom p (i + n - firstFrom p n i) (firstFrom p n i)
-unfolding firstFrom whichFrom
-which-first p zero i = let k : i + 0 - i ≡ 0 = omega arith in rw k
-which-first p (suc n) i = go (p i) refl (which-first p n (suc i))
-  where
-    go : (t : Bool) → p i ≡ t → whichFrom p n (suc i) ≡ whichFrom p (suc i + n - firstFrom p n (suc i)) (firstFrom p n (suc i))
-        → cond t (i ∷ whichFrom p n (suc i)) (whichFrom p n (suc i)) ≡ whichFrom p (i + suc n - cond t i (firstFrom p n (suc i))) (cond t i (firstFrom p n (suc i)))
-    go true e r = let k : i + suc n - i ≡ suc n = omega arith in rw (k, e)
-    go false e r = let k : i + suc n ≡ suc i + n = omega arith in rw k r
 
 -- ---- a test picks blocks of the n of an image
 module _ (picked : ℕ → Bool) (n : ℕ) (img₀ : List ℕ) (p₀ : Power) where

@@ -10,29 +10,22 @@ use lib.Dec.{eqb, leb, ltb}
 use lib.ListN.{length, getD, set, replicate, length-set, getD-replicate}
 use lib.Seq.{getD-set-same, getD-set-other, ext-getD}
 use borrow.Author.Tests.{eq-eqb, ne-eqb, le-leb, lt-leb, lt-ltb, le-ltb, eqb-true, eqb-false}
-use Rattle.base.specs.Part.{part}
 use Rattle.base.specs.Search.{anyFrom, highestFrom}
 use Rattle.base.specs.Fold.{foldFrom, listFrom}
 use Rattle.base.proofs.Choice.{and-true, and-intro, true-false, cond-same}
-use Rattle.base.proofs.Parts.{part-length}
 use Rattle.base.proofs.Searches.{any-holds, any-intro, any-join, highest-join}
 use Rattle.base.proofs.Folds.{fold-join, length-listFrom, listFrom-at}
-use Rattle.page.specs.Frame.{pageSize, headerSize, payloadSize}
 use Rattle.page.specs.Plan.{filePlan, lastFile, places, countOf, startOf}
 use Rattle.page.specs.Header.{nodeLetter, cutOffLetter, inRange}
 use Rattle.page.specs.Key.{positions}
-use Rattle.page.specs.Entry.{none, freeLetter, deletedLetter, entrySize, entryPart, entryAt, entryOf}
-use Rattle.page.specs.Page.{payloadOf}
+use Rattle.page.specs.Entry.{none, freeLetter, deletedLetter}
 use Rattle.page.specs.declared.Frame.{Frame}
 use Rattle.page.specs.declared.Form.{Form}
 use Rattle.page.specs.declared.Form.the-variants.{Empty, Whole, Torn, Spoilt}
-use Rattle.page.specs.declared.Entry.{Entry}
-use Rattle.page.specs.declared.Entry.the-variants.{At as EntryAt, Vacant, Misspelt}
 use Rattle.page.proofs.Plans.{start-after, plan-sum, place-at}
 use Rattle.page.proofs.Ranges.{node-range, cut-off-range}
-use Rattle.page.proofs.Commits.{entry-is}
 use Rattle.image.specs.Size.{blockSize, pagesInBlock, mostBlocks, blocks, pages, sizeRight}
-use Rattle.image.specs.Look.{pageAt, blockEmpty, formAt}
+use Rattle.image.specs.Look.{blockEmpty, formAt}
 use Rattle.image.proofs.Empties.{empty-block-page}
 use Rattle.image.proofs.Looks.{sized, block-inside}
 use Rattle.store.specs.Kind.{pageIn, kindOf, headed, hasEvents}
@@ -102,19 +95,23 @@ module _ (map scratch : List ℕ) (x : ℕ) (d : Decision) where
       go false e = refl
 
 -- ---- places in a row
--- what an event makes of the places from first up to x
-abbrev pub rowTaken : Decision → ℕ → ℕ → ℕ → Decision → Decision
-rowTaken d first x y held = cond (leb first y && ltb y x) (outranks d held) held
+-- each place from first up to x is changed by f
+abbrev pub rowBy : (ℕ → Decision → Decision) → ℕ → ℕ → ℕ → Decision → Decision
+rowBy f first x y held = cond (leb first y && ltb y x) (f y held) held
 
-module _ (d : Decision) (first : ℕ) where
-  pub row-none : (map scratch : List ℕ) → EachPlace (rowTaken d first first) map scratch map scratch
+-- what an event makes of them
+abbrev pub rowTaken : Decision → ℕ → ℕ → ℕ → Decision → Decision
+rowTaken d = rowBy (λ y. outranks d)
+
+module _ (f : ℕ → Decision → Decision) (first : ℕ) where
+  pub row-none : (map scratch : List ℕ) → EachPlace (rowBy f first first) map scratch map scratch
   row-none map scratch y h =
       elim (decLt y first) [
         | yes l ↦ rw (lt-leb first y l)
         | no l ↦ rw (le-leb first y (omega arith), le-ltb y first (omega arith))
       ]
 
-  one-more : (x y : ℕ) (held : Decision) → first ≤ x → cond (eqb x y) (outranks d (rowTaken d first x y held)) (rowTaken d first x y held) ≡ rowTaken d first (x + 1) y held
+  one-more : (x y : ℕ) (held : Decision) → first ≤ x → cond (eqb x y) (f y (rowBy f first x y held)) (rowBy f first x y held) ≡ rowBy f first (x + 1) y held
   one-more x y held after =
       elim (decLt y x) [
         | yes l ↦ rw (ne-eqb x y (λ e. omega arith), lt-ltb y x l, lt-ltb y (x + 1) (omega arith))
@@ -124,11 +121,11 @@ module _ (d : Decision) (first : ℕ) where
         ]
       ]
 
-  pub row-next : (map₀ scratch₀ map scratch map' scratch' : List ℕ) (x : ℕ) → first ≤ x → EachPlace (rowTaken d first x) map₀ scratch₀ map scratch
-      → EachPlace (λ y held. cond (eqb x y) (outranks d held) held) map scratch map' scratch' → EachPlace (rowTaken d first (x + 1)) map₀ scratch₀ map' scratch'
+  pub row-next : (map₀ scratch₀ map scratch map' scratch' : List ℕ) (x : ℕ) → first ≤ x → EachPlace (rowBy f first x) map₀ scratch₀ map scratch
+      → EachPlace (λ y held. cond (eqb x y) (f y held) held) map scratch map' scratch' → EachPlace (rowBy f first (x + 1)) map₀ scratch₀ map' scratch'
   row-next map₀ scratch₀ map scratch map' scratch' x after so-far next y h =
       next y h
-      ∙ ap (λ (held : Decision). cond (eqb x y) (outranks d held) held) (so-far y h)
+      ∙ ap (λ (held : Decision). cond (eqb x y) (f y held) held) (so-far y h)
       ∙ one-more x y (heldAt map₀ scratch₀ y) after
 
 -- ---- one event
@@ -184,38 +181,6 @@ key-spent letters s f above node inside p h = rw (node, lt-ltb s (f .number) abo
     go : (b : Bool) → eqb (f .key) p ≡ b → getD (set letters (f .key) deletedLetter) p 0 ≡ cond b deletedLetter (getD letters p 0)
     go true e = let q : f .key ≡ p = eqb-true _ _ e in rw (← q) (getD-set-same letters (f .key) deletedLetter 0 inside)
     go false e = let apart = eqb-false (f .key) p e in getD-set-other letters (f .key) p deletedLetter 0 (λ q. apart (sym q))
-
--- ---- what the commit says
-entry-decision : (e : Entry) → record { sequence = 0; page = byEntry e .page; key = byEntry e .key } ≡ byEntry e
-entry-decision (EntryAt page key) = refl
-entry-decision Vacant = refl
-entry-decision Misspelt = refl
-
--- what an entry gives fits a map
-entry-most : (xs : List ℕ) (e : Entry) → length xs ≡ entrySize → entryOf xs ≡ e → (byEntry e .page ≤ none) × (byEntry e .key ≤ none)
-entry-most xs (EntryAt page key) l q = let r = entry-is xs page key l q in (omega (arith, r .1), omega (arith, r .2))
-entry-most xs Vacant l q = (omega arith, omega arith)
-entry-most xs Misspelt l q = (omega arith, omega arith)
-
-pub entry-in-most : (img : List ℕ) (c x : ℕ) → c * blockSize + blockSize ≤ length img → x < places
-    → (byEntry (entryIn img c x) .page ≤ none) × (byEntry (entryIn img c x) .key ≤ none)
-unfolding entryIn payloadOf pageAt
-entry-in-most img c x inside h =
-    let page : length (part img (pageIn c (entryPart x) * pageSize) pageSize) ≡ pageSize = part-length img (pageIn c (entryPart x) * pageSize) pageSize (omega arith) in
-    let payload : length (part (part img (pageIn c (entryPart x) * pageSize) pageSize) headerSize payloadSize) ≡ payloadSize = part-length _ headerSize payloadSize (omega (arith, page)) in
-    entry-most _ (entryIn img c x) (part-length _ (entryAt x) entrySize (omega (arith, payload))) refl
-
--- one more place has its entry
-pub entries-next : (img : List ℕ) (c : ℕ) (map scratch map' scratch' : List ℕ) (x page key : ℕ) (e : Entry) → x < places
-    → e ≡ entryIn img c x → page ≡ byEntry e .page → key ≡ byEntry e .key
-    → ((y : ℕ) → y < x → heldAt map scratch y ≡ byEntry (entryIn img c y))
-    → EachPlace (λ y held. cond (eqb x y) (record { sequence = 0; page = page; key = key }) held) map scratch map' scratch'
-    → (y : ℕ) → y < x + 1 → heldAt map' scratch' y ≡ byEntry (entryIn img c y)
-entries-next img c map scratch map' scratch' x page key e below entry p k so-far put y h =
-    elim (decLt y x) [
-      | yes l ↦ put y (omega arith) ∙ rw (ne-eqb x y (λ q. omega arith)) (so-far y l)
-      | no l ↦ let q : x ≡ y = omega arith in put y (omega arith) ∙ rw (eq-eqb x y q, p, k, ← q, ← entry) (entry-decision e)
-    ]
 
 -- ---- pages in a row
 -- none leave all as it is

@@ -2,31 +2,34 @@
 --   Pass, pass   what the pass keeps: the lent lists, the blocks that have events, the highest sequence
 --   heldAt       what map and scratch hold of a place
 --   EachPlace, EachLetter   what a change makes of each place, of each letter
+--   partRead, LettersRead   what the payload of a commit's part says of its places, of its positions
 --   outranks     an event against what a place holds
 --   rangeRight   a form whose header, if any, is in range
 --   EmptyTable   a table that says which blocks are empty
 --   eventOf      a page that is a whole or torn N or D page of a block
 --   Passed       what some pages in a row make of it
 --   Replayed     what the whole pass leaves
-use Prim.Native.Nat.{ℕ, _<_, _/_, max}
+use Prim.Native.Nat.{ℕ, _*_, _-_, _<_, _/_, max}
 use mathlib.Core.Path.{_≡_}
 use mathlib.Core.Bool.{Bool, true, cond, _&&_}
 use mathlib.Core.List.{List}
 use lib.ListN.{length, getD}
-use lib.Dec.{eqb, leb}
+use lib.Dec.{eqb, leb, ltb}
+use Rattle.base.specs.Part.{part}
 use Rattle.base.specs.Search.{anyFrom, highestFrom}
 use Rattle.base.specs.Fold.{foldFrom, listFrom}
+use Rattle.page.specs.Frame.{payloadSize}
 use Rattle.page.specs.Plan.{places}
 use Rattle.page.specs.Header.{inRange}
 use Rattle.page.specs.Key.{positions}
-use Rattle.page.specs.Entry.{deletedLetter}
+use Rattle.page.specs.Entry.{freeLetter, deletedLetter, entrySize, entryOf}
 use Rattle.page.specs.declared.Form.{Form}
 use Rattle.page.specs.declared.Form.the-variants.{Empty, Whole, Torn, Spoilt}
 use Rattle.image.specs.Size.{pagesInBlock, mostBlocks, blocks, pages}
 use Rattle.image.specs.Look.{blockEmpty, formAt}
 use Rattle.store.specs.Kind.{headed, hasEvents}
 use Rattle.store.specs.Record.{pageOf, keyOf}
-use Rattle.store.specs.Mount.{Decision, decideBy, spends, sequenceOf, unusedLetter, mountMap, mountScratch}
+use Rattle.store.specs.Mount.{Decision, byEntry, decideBy, spends, sequenceOf, unusedLetter, mountMap, mountScratch}
 
 -- map, letters and scratch, for each block whether an event was seen there, and the highest sequence so far
 pub record Pass : Type 0 where
@@ -51,6 +54,16 @@ EachPlace f map scratch map' scratch' = (x : ℕ) → x < places → heldAt map'
 -- each of the second letters is what f makes of the first
 abbrev pub EachLetter : (ℕ → ℕ → ℕ) → List ℕ → List ℕ → Type 0
 EachLetter f letters letters' = (p : ℕ) → p < positions → getD letters' p 0 ≡ f p (getD letters p 0)
+
+-- the places from first up to x hold what the entries of a payload say, in order
+abbrev pub partRead : List ℕ → ℕ → ℕ → ℕ → Decision → Decision
+partRead payload first x y held =
+    cond (leb first y && ltb y x) (byEntry (entryOf (part payload (entrySize * (y - first)) entrySize))) held
+
+-- the letters of a payload's positions are f where the payload has f, else d
+abbrev pub LettersRead : List ℕ → List ℕ → Type 0
+LettersRead payload letters =
+    (p : ℕ) → p < payloadSize → getD letters p 0 ≡ cond (eqb (getD payload p 0) freeLetter) freeLetter deletedLetter
 
 -- an event's decision against what a place holds: ties to the event, which stands on the higher page
 abbrev pub outranks : Decision → Decision → Decision

@@ -8,6 +8,10 @@ use page::Entry;
 use page::Form;
 use page::Frame;
 use page::entries;
+use page::entries::ENTRIES_IN_PART;
+use page::entries::ENTRY_SIZE;
+use page::entries::FIRST_ENTRY_PART;
+use page::entries::PARTS;
 use page::keys::POSITIONS;
 use page::plan;
 use page::plan::PLACES;
@@ -17,25 +21,17 @@ ghost use Prim.Native.Nat.{ℕ, _≤_, _<_, _+_, _*_, _/_, max};
 ghost use lib.ListN.{length, set, replicate};
 ghost use lib.Dec.{eqb, leb, ltb};
 ghost use Rattle.base.specs.Lent.{old, new};
+ghost use Rattle.page.specs.Frame.{payloadSize};
 ghost use Rattle.page.specs.Plan.{places};
 ghost use Rattle.page.specs.Header.{inRange, nodeLetter};
 ghost use Rattle.page.specs.Key.{positions};
-ghost use Rattle.page.specs.Entry.{none, freeLetter, deletedLetter};
+ghost use Rattle.page.specs.Entry.{none, freeLetter, deletedLetter, entriesInPart};
 ghost use Rattle.image.specs.Size.{blockSize, pagesInBlock, mostBlocks, blocks, pages, sizeRight};
 ghost use Rattle.image.specs.Look.{blockEmpty};
 ghost use Rattle.store.specs.Kind.{kindOf, headed};
 ghost use Rattle.store.specs.Record.{mapSize};
 ghost use Rattle.store.specs.Mount.{letterIn, entryIn, byEntry, decideBy, spends, sequenceOf};
-ghost use Rattle.store.specs.Replay.{pass, EachPlace, EachLetter, outranks, rangeRight, EmptyTable, Passed, Replayed};
-
-// The entry of place x in the commit of block c.
-fn entry_in(image: &[u8], c: usize, x: usize) -> Entry
-    requires { ⌜ (c * blockSize + blockSize ≤ length (now image)) × (x < places) ⌝ }
-    ensures { λ r. ⌜ r ≡ entryIn (old image) c x ⌝ }
-{
-    let g = c * PAGES_IN_BLOCK + entries::entry_part(x);
-    entries::entry_in(look::payload_at(image, g), x)
-}
+ghost use Rattle.store.specs.Replay.{pass, EachPlace, EachLetter, partRead, LettersRead, outranks, rangeRight, EmptyTable, Passed, Replayed};
 
 // The page that an entry gives, none where it gives no page.
 fn entry_page(entry: Entry) -> u16
@@ -72,6 +68,28 @@ fn put_place(map: &mut [u16], scratch: &mut [u32], x: usize, sequence: u32, page
     map[PLACES + x] = key;
 }
 
+// Puts the entries of a part's payload at its places, which begin with first.
+fn read_part(payload: &[u8], map: &mut [u16], scratch: &mut [u32], first: usize)
+    requires { ⌜ (length (now payload) ≡ payloadSize) × (length (now map)
+        ≡ mapSize) × (length (now scratch) ≡ places) × (first + entriesInPart ≤ places) ⌝ }
+    ensures { λ _. ⌜ EachPlace (partRead (old payload) first (first + entriesInPart)) (old map) (old scratch) (new map)
+        (new scratch) ⌝ }
+{
+    let mut j: usize = 0;
+    while j < ENTRIES_IN_PART {
+        let entry = entries::entry_at(payload, ENTRY_SIZE * j);
+        put_place(
+            map,
+            scratch,
+            first + j,
+            0,
+            entry_page(entry),
+            entry_key(entry),
+        );
+        j += 1;
+    }
+}
+
 // Puts the commit's entry at every place.
 fn read_entries(image: &[u8], c: usize, map: &mut [u16], scratch: &mut [u32])
     requires { ⌜ (c * blockSize + blockSize ≤ length (now image))
@@ -79,11 +97,16 @@ fn read_entries(image: &[u8], c: usize, map: &mut [u16], scratch: &mut [u32])
     ensures { λ _. ⌜ EachPlace (λ x held. byEntry (entryIn (old image) c x)) (old map) (old scratch) (new map)
         (new scratch) ⌝ }
 {
-    let mut x: usize = 0;
-    while x < PLACES {
-        let entry = entry_in(image, c, x);
-        put_place(map, scratch, x, 0, entry_page(entry), entry_key(entry));
-        x += 1;
+    let mut part: usize = FIRST_ENTRY_PART;
+    while part < PARTS {
+        let payload = look::payload_at(image, c * PAGES_IN_BLOCK + part);
+        read_part(
+            payload,
+            map,
+            scratch,
+            ENTRIES_IN_PART * (part - FIRST_ENTRY_PART),
+        );
+        part += 1;
     }
 }
 
@@ -97,13 +120,16 @@ fn unspent(letter: u8) -> u8
     entries::DELETED
 }
 
-// The letter of position p in the commit of block c.
-fn letter_in(image: &[u8], c: usize, p: usize) -> u8
-    requires { ⌜ (c * blockSize + blockSize ≤ length (now image)) × (p < positions) ⌝ }
-    ensures { λ r. ⌜ r ≡ letterIn (old image) c p ⌝ }
+// Puts the letters that the positions of a part's payload start with.
+fn read_letter_part(payload: &[u8], letters: &mut [u8])
+    requires { ⌜ (length (now payload) ≡ payloadSize) × (length (now letters) ≡ payloadSize) ⌝ }
+    ensures { λ _. ⌜ LettersRead (old payload) (new letters) ⌝ }
 {
-    let payload = look::payload_at(image, c * PAGES_IN_BLOCK + p / Frame::PAYLOAD);
-    payload[p % Frame::PAYLOAD]
+    let mut p: usize = 0;
+    while p < Frame::PAYLOAD {
+        letters[p] = unspent(payload[p]);
+        p += 1;
+    }
 }
 
 // Puts at every position the letter that it starts with.
@@ -112,11 +138,12 @@ fn read_letters(image: &[u8], c: usize, letters: &mut [u8])
     ensures { λ _. ⌜ EachLetter (λ p l. cond (eqb (letterIn (old image) c p) freeLetter) freeLetter deletedLetter)
         (old letters) (new letters) ⌝ }
 {
-    let mut p: usize = 0;
-    while p < POSITIONS {
-        letters[p] = unspent(letter_in(image, c, p));
-        p += 1;
-    }
+    let g = c * PAGES_IN_BLOCK;
+    read_letter_part(look::payload_at(image, g), &mut letters[0..Frame::PAYLOAD]);
+    read_letter_part(
+        look::payload_at(image, g + 1),
+        &mut letters[Frame::PAYLOAD..POSITIONS],
+    );
 }
 
 // An event gives place x a page and a key, where the place holds no higher sequence.

@@ -5,7 +5,7 @@ use borrow.Author.Needs.{needs}
 use mathlib.Core.Path.{_≡_, refl, _∙_}
 use lib.ListN.{length}
 use Rattle.page.specs.Entry.{none}
-use Rattle.store.specs.Replay.{EachPlace}
+use Rattle.store.specs.Replay.{EachPlace, outranks}
 use Rattle.store.proofs.Replays.{rowTaken, row-none, row-next}
 use Rattle.store.proofs.replay.remove_places.Statement.{statement}
 use Rattle.store.proofs.replay.remove_places.Tie as tie
@@ -19,7 +19,9 @@ abbrev μ-loop : tie.MeasureT-loop
 μ-loop map₀ scratch₀ first end sequence x₀ map scratch x = end - x
 
 loop-holds : tie.Need-loop-holds Inv-loop μ-loop
-loop-holds c = (omega arith, omega arith, refl, refl, row-none _ _ (c .before .before .args .map .now) (c .before .before .args .scratch .now))
+loop-holds c =
+    let a = c .before .before .args in
+    (omega arith, omega arith, refl, refl, row-none (λ y. outranks (record { sequence = a .sequence; page = none; key = none })) (a .first) (a .map .now) (a .scratch .now))
 
 take-place-requires : tie.Need-take-place-requires Inv-loop μ-loop
 take-place-requires c κs = search needs
@@ -39,7 +41,7 @@ loop-again c =
       omega arith,
       t .kept .0 ∙ l .inv .2,
       t .kept .1 .0 ∙ l .inv .3,
-      row-next (record { sequence = a .sequence; page = none; key = none }) (a .first) (a .map .now) (a .scratch .now) (l .map) (l .scratch) (t .last .0) (t .last .1 .0) (l .x) (l .inv .0) (l .inv .4) (t .ensures),
+      row-next (λ y. outranks (record { sequence = a .sequence; page = none; key = none })) (a .first) (a .map .now) (a .scratch .now) (l .map) (l .scratch) (t .last .0) (t .last .1 .0) (l .x) (l .inv .0) (l .inv .4) (t .ensures),
     )
 
 same-length : tie.Need-same-length Inv-loop μ-loop

@@ -1,13 +1,10 @@
--- `page::entries::entry_in` meets its contract: the entry is a part of the payload.
+-- `page::entries::entry_at` meets its contract: the entry is a part of the payload.
 use mathlib.Core.Path.{ap, _∙_}
-use Rattle.page.specs.Entry.{entrySize, entryOf, entryAt}
+use Rattle.page.specs.Entry.{entrySize, entryOf}
 use Rattle.page.proofs.Slices.{lent-part}
 use borrow.Author.Needs.{needs}
-use Rattle.page.proofs.entries.entry_in.Statement.{statement}
-use Rattle.page.proofs.entries.entry_in.Tie as tie
-
-mul-at : tie.Need-mul-at
-mul-at c = search needs
+use Rattle.page.proofs.entries.entry_at.Statement.{statement}
+use Rattle.page.proofs.entries.entry_at.Tie as tie
 
 add-read-entry : tie.Need-add-read-entry
 add-read-entry c = search needs
@@ -27,13 +24,12 @@ read-entry-requires c κs = search needs
 returns : tie.Need-returns
 returns c =
     let a = c .before .before .before .args in
-    c .read-entry .ensures ∙ ap entryOf (lent-part (a .payload .now) (entryAt (a .x)) entrySize)
+    c .read-entry .ensures ∙ ap entryOf (lent-part (a .payload .now) (a .at) entrySize)
 
-pub entry-in-spec : {M : Type 1} → statement M
-entry-in-spec =
+pub entry-at-spec : {M : Type 1} → statement M
+entry-at-spec =
     tie.close
     (tie.spec
-    mul-at
     add-read-entry
     sub-read-entry
     part-read-entry-start

@@ -75,7 +75,8 @@ pub fn form(page: &[u8]) -> Form
 
 // Whether a page is a whole node with these fields, of any sequence. The file's columns are given as they are spelt.
 pub fn is_whole_node(page: &[u8], file: u32, text: u32, offset: u32, position: u32) -> bool
-    requires { ⌜ (length (now page) ≡ pageSize) × (inRange (nodeFrame 1 file offset position) ≡ true) × (wordBytes 4 text ≡ spell 4 file) ⌝ }
+    requires { ⌜ (length (now page) ≡ pageSize) × (inRange (nodeFrame 1 file offset position) ≡ true)
+        × (wordBytes 4 text ≡ spell 4 file) ⌝ }
     ensures { λ r. ⌜ r ≡ wholeNode file offset position (formOf (old page)) ⌝ }
 {
     headers::is_node_of(&page[0..Frame::HEADER], file, text, offset, position) & is_closed(page)

@@ -3,7 +3,6 @@ use crate::Found;
 use crate::Numbers;
 use crate::kinds;
 use image::look;
-use image::look::BLOCK_SIZE;
 use image::look::PAGES_IN_BLOCK;
 use page::entries;
 use page::keys::POSITIONS;
@@ -72,7 +71,7 @@ fn open_page(image: &[u8], numbers: Numbers) -> Found
     requires { ⌜ sizeRight (now image) ≡ true ⌝ }
     ensures { λ r. ⌜ r ≡ found (pages (old image)) (firstFrom (isOpen (old image) numbers) (pages (old image)) 0) ⌝ }
 {
-    let n = image.len() / BLOCK_SIZE;
+    let n = look::blocks(image);
     let mut b = 0;
     while b < n {
         let i = open_from(image, numbers, b);
@@ -88,7 +87,7 @@ fn open_page(image: &[u8], numbers: Numbers) -> Found
 fn fresh_page(image: &[u8]) -> Found
     ensures { λ r. ⌜ r ≡ freshPage (old image) ⌝ }
 {
-    let n = image.len() / BLOCK_SIZE;
+    let n = look::blocks(image);
     let lowest = look::lowest_empty(image);
     let mut b = lowest + 1;
     while b < n {

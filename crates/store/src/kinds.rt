@@ -2,7 +2,6 @@
 use crate::Kind;
 use crate::Numbers;
 use image::look;
-use image::look::BLOCK_SIZE;
 use image::look::PAGES_IN_BLOCK;
 use page::Form;
 use page::Frame;
@@ -172,7 +171,7 @@ pub fn kind_of(image: &[u8], b: usize) -> Kind
     requires { ⌜ length (now image) % blockSize ≡ 0 ⌝ }
     ensures { λ r. ⌜ r ≡ kindOf (old image) b ⌝ }
 {
-    if image.len() / BLOCK_SIZE <= b {
+    if look::blocks(image) <= b {
         return Kind::Other;
     }
     if !is_block_letter(look::letter_at(image, b * PAGES_IN_BLOCK)) {

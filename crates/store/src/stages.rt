@@ -6,7 +6,6 @@ use crate::replies;
 use image::Power;
 use image::blocks;
 use image::look;
-use image::look::BLOCK_SIZE;
 use image::look::PAGES_IN_BLOCK;
 use image::steps;
 use page::plan::PLACES;
@@ -77,7 +76,7 @@ fn is_spare(image: &[u8], first: Numbers, numbers: Numbers, b: usize) -> bool
 fn lowest_spare(image: &[u8], first: Numbers, numbers: Numbers) -> usize
     ensures { λ r. ⌜ r ≡ lowestSpare (old image) first numbers ⌝ }
 {
-    let n = image.len() / BLOCK_SIZE;
+    let n = look::blocks(image);
     let mut b = 0;
     while b < n {
         if is_spare(image, first, numbers, b) {

@@ -4,7 +4,6 @@ use crate::Reply;
 use crate::fit;
 use crate::replies;
 use image::look;
-use image::look::BLOCK_SIZE;
 use page::Frame;
 use page::headers::LAST_NUMBER;
 use page::keys::NOISE_SIZE;
@@ -99,7 +98,7 @@ pub fn refuse_renewal(
     if LAST_NUMBER - more < numbers.epoch {
         return Reply::NumbersSpent;
     }
-    if look::lowest_empty(image) == image.len() / BLOCK_SIZE {
+    if look::lowest_empty(image) == look::blocks(image) {
         return Reply::NoRoom;
     }
     Reply::Done

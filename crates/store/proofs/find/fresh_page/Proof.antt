@@ -21,6 +21,9 @@ Inv-loop image n lowest b₀ b =
 abbrev μ-loop : tie.MeasureT-loop
 μ-loop image n lowest b₀ b = blocks image - b
 
+blocks-requires : tie.Need-blocks-requires Inv-loop μ-loop
+blocks-requires c κs = search needs
+
 lowest-empty-requires : tie.Need-lowest-empty-requires Inv-loop μ-loop
 lowest-empty-requires c κs = search needs
 
@@ -33,13 +36,14 @@ loop-holds c = rw (c .lowest-empty .ensures .0) (two-empty _)
 block-empty-requires : tie.Need-block-empty-requires Inv-loop μ-loop
 block-empty-requires c κs = search needs
 
-mul-t8 : tie.Need-mul-t8 Inv-loop μ-loop
-mul-t8 c = search needs
+mul-t7 : tie.Need-mul-t7 Inv-loop μ-loop
+mul-t7 c = search needs
 
 returns : tie.Need-returns Inv-loop μ-loop
 returns c =
     let l = c .before .before .before .loop in
-    let img = c .before .before .before .before .before .before .args .image .now in
+    let img = c .before .before .before .before .before .before .before .args .image .now in
+    let n = c .before .before .before .before .before .blocks2 .ensures in
     rw (l .inv, any-here (blockEmpty img) (blocks img) (l .b) (omega arith) (sym (c .before .block-empty .ensures) ∙ c .if1 .taken))
 
 add-b-2 : tie.Need-add-b-2 Inv-loop μ-loop
@@ -51,13 +55,15 @@ loop-less c = search needs
 loop-again : tie.Need-loop-again Inv-loop μ-loop
 loop-again c =
     let l = c .before .before .before .loop in
-    let img = c .before .before .before .before .before .before .args .image .now in
+    let img = c .before .before .before .before .before .before .before .args .image .now in
+    let n = c .before .before .before .before .before .blocks2 .ensures in
     rw (l .inv, any-next (blockEmpty img) (blocks img) (l .b) (omega arith) (sym (c .before .block-empty .ensures) ∙ c .if1 .left))
 
 returns-2 : tie.Need-returns-2 Inv-loop μ-loop
 returns-2 c =
     let l = c .before .loop in
-    let img = c .before .before .before .before .args .image .now in
+    let img = c .before .before .before .before .before .args .image .now in
+    let n = c .before .before .before .blocks2 .ensures in
     rw (l .inv, any-none (blockEmpty img) (blocks img) (l .b) (omega arith))
 
 pub fresh-page-spec : {M : Type 1} → statement M
@@ -66,11 +72,12 @@ fresh-page-spec =
     (tie.spec
     Inv-loop
     μ-loop
+    blocks-requires
     lowest-empty-requires
     add-b
     loop-holds
     block-empty-requires
-    mul-t8
+    mul-t7
     returns
     add-b-2
     loop-less

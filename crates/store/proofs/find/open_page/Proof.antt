@@ -21,28 +21,32 @@ Inv-loop image numbers n b₀ b =
 abbrev μ-loop : tie.MeasureT-loop
 μ-loop image numbers n b₀ b = blocks image - b
 
+blocks-requires : tie.Need-blocks-requires Inv-loop μ-loop
+blocks-requires c κs = search needs
+
 loop-holds : tie.Need-loop-holds Inv-loop μ-loop
 loop-holds c =
-    let img = c .before .args .image .now in
+    let img = c .before .before .args .image .now in
     let e : pages img - 0 ≡ pages img = omega arith in
     (omega arith, rw e)
 
 open-from-requires : tie.Need-open-from-requires Inv-loop μ-loop
-open-from-requires c κs = search needs
+open-from-requires c κs = omega (arith, c .before .before .blocks2 .ensures)
 
-mul-t8 : tie.Need-mul-t8 Inv-loop μ-loop
-mul-t8 c = search needs
+mul-t7 : tie.Need-mul-t7 Inv-loop μ-loop
+mul-t7 c = search needs
 
-add-t9 : tie.Need-add-t9 Inv-loop μ-loop
-add-t9 c = search needs
+add-t8 : tie.Need-add-t8 Inv-loop μ-loop
+add-t8 c = search needs
 
 returns : tie.Need-returns Inv-loop μ-loop
 returns c =
     let l = c .before .before .before .loop in
-    let s = c .before .before .before .before .before in
+    let s = c .before .before .before .before .before .before in
     let img = s .args .image .now in
     let r = s .args .numbers in
     let w = sized img (s .pre) in
+    let n = c .before .before .before .before .blocks2 .ensures in
     let f = c .before .open-from .ensures in
     let row = first-in-row (isOpen img r) (pages img) (l .b * pagesInBlock) pagesInBlock (omega arith) (omega arith) in
     rw (l .inv .1, row, ← f .0, lt-ltb (l .b * pagesInBlock + c .before .open-from .result) (pages img) (omega arith))
@@ -56,10 +60,11 @@ loop-less c = search needs
 loop-again : tie.Need-loop-again Inv-loop μ-loop
 loop-again c =
     let l = c .before .before .before .loop in
-    let s = c .before .before .before .before .before in
+    let s = c .before .before .before .before .before .before in
     let img = s .args .image .now in
     let r = s .args .numbers in
     let w = sized img (s .pre) in
+    let n = c .before .before .before .before .blocks2 .ensures in
     let f = c .before .open-from .ensures in
     let e : (l .b + 1) * pagesInBlock ≡ l .b * pagesInBlock + pagesInBlock = omega arith in
     (omega arith, l .inv .1 ∙ rw e (first-past-row (isOpen img r) (pages img) (l .b * pagesInBlock) pagesInBlock (omega arith) (omega arith)))
@@ -67,9 +72,10 @@ loop-again c =
 returns-2 : tie.Need-returns-2 Inv-loop μ-loop
 returns-2 c =
     let l = c .before .loop in
-    let s = c .before .before .before in
+    let s = c .before .before .before .before in
     let img = s .args .image .now in
     let w = sized img (s .pre) in
+    let n = c .before .before .blocks2 .ensures in
     rw (
       l .inv .1,
       first-none (isOpen img (s .args .numbers)) (pages img) (l .b * pagesInBlock) (omega arith),
@@ -82,10 +88,11 @@ open-page-spec =
     (tie.spec
     Inv-loop
     μ-loop
+    blocks-requires
     loop-holds
     open-from-requires
-    mul-t8
-    add-t9
+    mul-t7
+    add-t8
     returns
     add-b
     loop-less

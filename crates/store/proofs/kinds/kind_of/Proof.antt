@@ -21,8 +21,13 @@ by-first : (img : List ℕ) (b : ℕ) (m n : Form) → m ≡ formAt img (b * pag
 unfolding kindOf
 by-first img b m n e q = let f : formAt img (pageIn b 0) ≡ n = rw add-zero (sym e ∙ q) in ap (kindOfFirst img b) f
 
+blocks-requires : tie.Need-blocks-requires
+blocks-requires c κs = search needs
+
 returns : tie.Need-returns
-returns c = sym (kind-outside (c .before .before .args .image .now) (c .before .before .args .b) (omega arith))
+returns c =
+    let a = c .before .before .before .args in
+    sym (kind-outside (a .image .now) (a .b) (omega (arith, c .before .blocks2 .ensures)))
 
 mul-letter-at : tie.Need-mul-letter-at
 mul-letter-at c = search needs
@@ -35,7 +40,7 @@ is-block-letter-requires c κs = search needs
 
 returns-2 : tie.Need-returns-2
 returns-2 c =
-    let a = c .before .before .before .before .before .args in
+    let a = c .before .before .before .before .before .before .args in
     let at : a .b * pagesInBlock * pageSize ≡ a .b * blockSize = omega arith in
     let letter = c .before .before .letter-at .ensures ∙ ap (λ (i : ℕ). getD (a .image .now) i 0) at in
     sym (kind-unlettered (a .image .now) (a .b) (ap isBlockLetter (sym letter) ∙ failed (c .before .is-block-letter .ensures) (c .if2 .taken)))
@@ -63,28 +68,29 @@ enum-told-3 c = search needs
 
 returns-3 : tie.Need-returns-3
 returns-3 c =
-    let a = c .before .before .before .before .before .before .before .before .args in
+    let a = c .before .before .before .before .before .before .before .before .before .args in
     sym (by-first (a .image .now) (a .b) _ _ (c .before .before .form-at .ensures) (c .enum-told .given .1))
 
 returns-4 : tie.Need-returns-4
 returns-4 c =
-    let a = c .before .before .before .before .before .before .before .before .before .before .args in
+    let a = c .before .before .before .before .before .before .before .before .before .before .before .args in
     c .kind-by .ensures ∙ sym (by-first (a .image .now) (a .b) _ _ (c .before .before .before .before .form-at .ensures) (c .before .before .f .given .1))
 
 returns-5 : tie.Need-returns-5
 returns-5 c =
-    let a = c .before .before .before .before .before .before .before .before .args in
+    let a = c .before .before .before .before .before .before .before .before .before .args in
     sym (by-first (a .image .now) (a .b) _ _ (c .before .before .form-at .ensures) (c .enum-told2 .given .1))
 
 returns-6 : tie.Need-returns-6
 returns-6 c =
-    let a = c .before .before .before .before .before .before .before .before .args in
+    let a = c .before .before .before .before .before .before .before .before .before .args in
     sym (by-first (a .image .now) (a .b) _ _ (c .before .before .form-at .ensures) (c .enum-told3 .given .1))
 
 pub kind-of-spec : {M : Type 1} → statement M
 kind-of-spec =
     tie.close
     (tie.spec
+    blocks-requires
     returns
     mul-letter-at
     letter-at-requires

@@ -16,12 +16,15 @@ Inv-loop image first numbers n b₀ b = (b ≤ n) × (lowestSpare image first nu
 abbrev μ-loop : tie.MeasureT-loop
 μ-loop image first numbers n b₀ b = n - b
 
+blocks-requires : tie.Need-blocks-requires Inv-loop μ-loop
+blocks-requires c κs = search needs
+
 loop-holds : tie.Need-loop-holds Inv-loop μ-loop
 unfolding lowestSpare
-loop-holds c = (omega arith, rw sub-zero)
+loop-holds c = (omega arith, rw (c .blocks2 .ensures, sub-zero))
 
 is-spare-requires : tie.Need-is-spare-requires Inv-loop μ-loop
-is-spare-requires c κs = search needs
+is-spare-requires c κs = omega (arith, c .before .before .blocks2 .ensures)
 
 returns : tie.Need-returns Inv-loop μ-loop
 returns c =
@@ -48,6 +51,7 @@ lowest-spare-spec =
     (tie.spec
     Inv-loop
     μ-loop
+    blocks-requires
     loop-holds
     is-spare-requires
     returns

@@ -27,21 +27,26 @@ returns-2 c =
 lowest-empty-requires : tie.Need-lowest-empty-requires
 lowest-empty-requires c κs = search needs
 
+blocks-requires : tie.Need-blocks-requires
+blocks-requires c κs = search needs
+
 returns-3 : tie.Need-returns-3
 returns-3 c =
-    let f = c .before .before .before .before in
-    let a = c .before .before .before .before .before .before .before .before .before .args in
-    let e = c .before .lowest-empty .ensures in
-    rw (passed (f .before .fits2 .ensures) (f .if1 .left), le-leb (a .numbers .epoch + a .more) lastNumber (omega arith), no-room (a .image .now) (sym (e .0) ∙ c .if3 .taken))
+    let f = c .before .before .before .before .before in
+    let a = c .before .before .before .before .before .before .before .before .before .before .args in
+    let e = c .before .before .lowest-empty .ensures in
+    let n = c .before .blocks2 .ensures in
+    rw (passed (f .before .fits2 .ensures) (f .if1 .left), le-leb (a .numbers .epoch + a .more) lastNumber (omega arith), no-room (a .image .now) (sym (e .0) ∙ c .if3 .taken ∙ n))
 
 returns-4 : tie.Need-returns-4
 returns-4 c =
-    let f = c .before .before .before .before in
-    let a = c .before .before .before .before .before .before .before .before .before .args in
-    let e = c .before .lowest-empty .ensures in
-    rw (passed (f .before .fits2 .ensures) (f .if1 .left), le-leb (a .numbers .epoch + a .more) lastNumber (omega arith), some-room (a .image .now) (λ z. c .if3 .left (e .0 ∙ z)) (rw (e .0) at (e .1)))
+    let f = c .before .before .before .before .before in
+    let a = c .before .before .before .before .before .before .before .before .before .before .args in
+    let e = c .before .before .lowest-empty .ensures in
+    let n = c .before .blocks2 .ensures in
+    rw (passed (f .before .fits2 .ensures) (f .if1 .left), le-leb (a .numbers .epoch + a .more) lastNumber (omega arith), some-room (a .image .now) (λ z. c .if3 .left (e .0 ∙ z ∙ sym n)) (rw (e .0) at (e .1)))
 
 pub refuse-renewal-spec : {M : Type 1} → statement M
 refuse-renewal-spec =
     tie.close
-    (tie.spec fits-requires returns sub-if2 returns-2 lowest-empty-requires returns-3 returns-4)
+    (tie.spec fits-requires returns sub-if2 returns-2 lowest-empty-requires blocks-requires returns-3 returns-4)

@@ -187,7 +187,7 @@ extern "C" {
 #define JOHVIMARU_NONE 65535U
 
 /* Bytes of stack that are enough for any call, as measured on x86-64. */
-#define JOHVIMARU_STACK_SIZE 6144UL
+#define JOHVIMARU_STACK_SIZE 7168UL
 
 /* ---- The record's numbers, by their index */
 

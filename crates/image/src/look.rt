@@ -3,10 +3,12 @@ use page::Form;
 use page::Frame;
 use page::forms;
 ghost use mathlib.Core.Path.{_≡_};
+ghost use mathlib.Core.Bool.{true};
 ghost use Prim.Native.Nat.{_≤_, _+_, _*_};
 ghost use lib.ListN.{length};
 ghost use Rattle.base.specs.Lent.{old};
 ghost use Rattle.page.specs.Frame.{pageSize, payloadSize};
+ghost use Rattle.page.specs.Header.{isEventLetter};
 ghost use Rattle.page.specs.Page.{payloadOf};
 ghost use Rattle.image.specs.Size.{blockSize, blocks as blocksIn, pages as pagesIn, sizeRight};
 ghost use Rattle.image.specs.Look.{pageAt, letterAt, formAt, pageEmpty, blockEmpty, lowestEmpty};
@@ -42,6 +44,15 @@ pub fn form_at(image: &[u8], g: usize) -> Form
 {
     let at = g * Frame::PAGE;
     forms::form(&image[at..at + Frame::PAGE])
+}
+
+// The same of a page that begins with the letter of a node or a cut-off.
+pub fn event_form_at(image: &[u8], g: usize) -> Form
+    requires { ⌜ (g * pageSize + pageSize ≤ length (now image)) × (isEventLetter (letterAt (now image) g) ≡ true) ⌝ }
+    ensures { λ r. ⌜ r ≡ formAt (old image) g ⌝ }
+{
+    let at = g * Frame::PAGE;
+    forms::event_form(&image[at..at + Frame::PAGE])
 }
 
 // The bytes of page g.

@@ -8,6 +8,8 @@ use Rattle.base.specs.Each.{same}
 use Rattle.page.specs.Frame.{space}
 use Rattle.page.specs.declared.Number.{Number}
 use Rattle.page.specs.declared.Number.the-variants.{Is, Misspelt}
+use Rattle.page.specs.declared.Pair.{Pair}
+use Rattle.page.specs.declared.Pair.the-variants.{Are, Misspelt as NoPair}
 
 -- the digits 0 to 9 are the bytes 30h to 39h
 abbrev pub zeroDigit : ℕ
@@ -47,3 +49,7 @@ numberIn xs = let n = valueAfter 0 xs in cond (same (spell (length xs) n) xs) (I
 abbrev pub numberThen : {A : Type 0} → Number → A → (ℕ → A) → A
 numberThen (Is n) otherwise f = f n
 numberThen Misspelt otherwise f = otherwise
+
+-- the two numbers that columns side by side hold
+unfoldable pub pairIn : List ℕ → List ℕ → Pair
+pairIn xs ys = numberThen (numberIn xs) NoPair λ a. numberThen (numberIn ys) NoPair λ b. Are a b

@@ -144,6 +144,10 @@ headerBytes f =
 abbrev pub isKind : ℕ → Bool
 isKind b = eqb b nodeLetter || eqb b cutOffLetter || eqb b keysLetter || eqb b commitLetter
 
+-- whether it is the letter of a node or a cut-off
+abbrev pub isEventLetter : ℕ → Bool
+isEventLetter kind = eqb kind nodeLetter || eqb kind cutOffLetter
+
 -- the header that 30 bytes are: every field spelt right and in its range
 unfoldable pub headerOf : List ℕ → Header
 headerOf xs =

@@ -1,5 +1,6 @@
 // Decimal columns: a number right-justified with spaces, without leading zeros.
 use crate::Number;
+use crate::Pair;
 use crate::words;
 ghost use mathlib.Core.Path.{_≡_};
 ghost use mathlib.Core.Bool.{true, false};
@@ -10,7 +11,7 @@ ghost use lib.Dec.{leb};
 ghost use Rattle.base.specs.Lent.{old, new};
 ghost use Rattle.base.specs.Part.{part, splice};
 ghost use Rattle.page.specs.Word.{wordBytes};
-ghost use Rattle.page.specs.Column.{zeroDigit, column, spell, valueAfter, numberIn, numberThen};
+ghost use Rattle.page.specs.Column.{zeroDigit, column, spell, valueAfter, numberIn, numberThen, pairIn};
 
 const SPACE: u8 = 0x20;
 
@@ -33,10 +34,17 @@ const EVEN_BYTES: u64 = 0x00ff00ff00ff00ff;
 
 const EVEN_PAIRS: u64 = 0x0000ffff0000ffff;
 
-// Four columns of spaces, and the number 0 in eight columns, as words.
+// Four columns of spaces, and the number 0 in four columns and in eight, as words.
 const SPACES: u32 = 0x20202020;
 
+pub const SPELT_ZERO4: u32 = 0x30202020;
+
 const SPELT_ZERO: u64 = 0x3020202020202020;
+
+// Of each four columns in a word: a bit of the last one's digit, and the lowest bit of the first.
+const LAST_DIGITS: u64 = 0x0100000001000000;
+
+const FIRST_BITS: u64 = 0x0000000100000001;
 
 // The digit of a number below 10.
 fn digit_byte(n: u32) -> u8
@@ -206,4 +214,26 @@ pub fn get3(src: &[u8], at: usize) -> Number
         SPACES,
         words::four(SPACE, src[at], src[at + 1], src[at + 2]),
     ))
+}
+
+// The numbers that two words of four columns hold, read as one word: in each, spaces before the lowest digit that is not 0, at most
+// up to the last column, and digits from there on.
+pub fn pair_of(low: u32, high: u32) -> Pair
+    ensures { λ r. ⌜ r ≡ pairIn (wordBytes 4 low) (wordBytes 4 high) ⌝ }
+{
+    let changed = words::eight(low, high) ^ ZEROS;
+    let spaces = changed & SPACE_BITS;
+    let digits = changed ^ spaces;
+    let over = digits | ((digits & LOW_HALVES) + SIXES);
+    let marked = digits | LAST_DIGITS;
+    let right = (over & HIGH_HALVES == 0) & (spaces == (marked ^ (marked - FIRST_BITS)) & SPACE_BITS);
+    if !right {
+        return Pair::Misspelt;
+    }
+    let pairs = ((digits & EVEN_BYTES) * 10 + digits / 0x100) & EVEN_BYTES;
+    let fours = ((pairs & EVEN_PAIRS) * 100 + pairs / 0x10000) & EVEN_PAIRS;
+    Pair::Are(
+        (fours % 0x100000000) as u32,
+        (fours / 0x100000000) as u32,
+    )
 }

@@ -1,7 +1,7 @@
 // A commit's payloads: the letters of key positions, and the entries of places.
 use crate::Entry;
 use crate::Frame;
-use crate::Number;
+use crate::Pair;
 use crate::bytes;
 use crate::columns;
 use crate::keys;
@@ -83,10 +83,8 @@ pub fn read_entry(src: &[u8]) -> Entry
     if is_vacant(src) {
         return Entry::Vacant;
     }
-    let Number::Is(page) = columns::get4(src, PAGE_AT) else {
-        return Entry::Misspelt;
-    };
-    let Number::Is(key) = columns::get4(src, KEY_AT) else {
+    let numbers = columns::pair_of(words::word4(src, PAGE_AT), words::word4(src, KEY_AT));
+    let Pair::Are(page, key) = numbers else {
         return Entry::Misspelt;
     };
     if LAST_PAGE < page {
@@ -165,7 +163,7 @@ fn is_entry(src: &[u8]) -> bool
 }
 
 // Whether every entry of a payload is vacant: the first is, and each byte is as the one an entry before it.
-fn all_vacant(payload: &[u8]) -> bool
+pub fn all_vacant(payload: &[u8]) -> bool
     requires { ⌜ length (now payload) ≡ payloadSize ⌝ }
     ensures { λ r. ⌜ r ≡ allFrom (λ j. same (part (old payload) (entrySize * j) entrySize) vacantEntry) entriesInPart 0 ⌝ }
 {

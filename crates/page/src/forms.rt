@@ -7,11 +7,11 @@ use crate::words;
 ghost use mathlib.Core.Path.{_≡_};
 ghost use mathlib.Core.Bool.{true};
 ghost use Prim.Native.Nat.{_<_};
-ghost use lib.ListN.{length};
+ghost use lib.ListN.{length, getD};
 ghost use Rattle.base.specs.Lent.{old};
 ghost use Rattle.page.specs.Frame.{pageSize};
 ghost use Rattle.page.specs.declared.Frame.{Frame as HeaderFrame};
-ghost use Rattle.page.specs.Header.{nodeFrame, inRange, withPart};
+ghost use Rattle.page.specs.Header.{nodeFrame, inRange, withPart, isEventLetter, kindAt};
 ghost use Rattle.page.specs.Column.{spell};
 ghost use Rattle.page.specs.Word.{wordBytes};
 ghost use Rattle.page.specs.Form.{isEmpty, closed, formOf, wholeNode, wholeLike};
@@ -70,6 +70,23 @@ pub fn form(page: &[u8]) -> Form
                 Form::Spoilt
             }
         }
+    }
+}
+
+// The same of a page that begins with the letter of a node or a cut-off, and so is not empty.
+pub fn event_form(page: &[u8]) -> Form
+    requires { ⌜ (length (now page) ≡ pageSize) × (isEventLetter (getD (now page) kindAt 0) ≡ true) ⌝ }
+    ensures { λ r. ⌜ r ≡ formOf (old page) ⌝ }
+{
+    match headers::read_event(&page[0..Frame::HEADER]) {
+        Header::Is(f) => {
+            if is_closed(page) {
+                Form::Whole(f)
+            } else {
+                Form::Torn(f)
+            }
+        }
+        Header::Invalid => Form::Spoilt,
     }
 }
 

@@ -2,6 +2,7 @@
 use crate::Frame;
 use crate::Header;
 use crate::Number;
+use crate::Pair;
 use crate::bytes;
 use crate::columns;
 use crate::keys;
@@ -11,12 +12,12 @@ ghost use mathlib.Core.Path.{_≡_};
 ghost use mathlib.Core.Bool.{true};
 ghost use mathlib.Core.List.{_++_};
 ghost use Prim.Native.Nat.{_<_};
-ghost use lib.ListN.{length};
+ghost use lib.ListN.{length, getD};
 ghost use Rattle.base.specs.Lent.{old, new};
 ghost use Rattle.base.specs.Part.{part, splice};
 ghost use Rattle.base.specs.Each.{same};
 ghost use Rattle.page.specs.Frame.{headerSize, colonSpace};
-ghost use Rattle.page.specs.Header.{lastNumber, isKind, within, inPlan, nodeRanges, cutOffRanges, keysRanges, commitRanges, inRange, nodeFrame, headerBytes, headerOf, nodeWith, unitAt, unitWidth, partAt, partWidth, withPart, headerLike};
+ghost use Rattle.page.specs.Header.{lastNumber, isKind, isEventLetter, kindAt, within, inPlan, nodeRanges, cutOffRanges, keysRanges, commitRanges, inRange, nodeFrame, headerBytes, headerOf, nodeWith, unitAt, unitWidth, partAt, partWidth, withPart, headerLike};
 ghost use Rattle.page.specs.Word.{wordBytes};
 ghost use Rattle.page.specs.Column.{spell};
 ghost use Rattle.page.specs.declared.Frame.{Frame as HeaderFrame};
@@ -115,6 +116,17 @@ pub fn in_range(f: Frame) -> bool
     false
 }
 
+// The same of a node or a cut-off.
+fn event_in_range(f: Frame) -> bool
+    requires { ⌜ isEventLetter (f .kind) ≡ true ⌝ }
+    ensures { λ r. ⌜ r ≡ inRange f ⌝ }
+{
+    if f.kind == Frame::NODE_LETTER {
+        return is_node(f);
+    }
+    is_cut_off(f)
+}
+
 // Writes the header of f into the 30 bytes of dst.
 pub fn write_header(dst: &mut [u8], f: Frame)
     requires { ⌜ length (now dst) ≡ headerSize ⌝ }
@@ -187,6 +199,44 @@ pub fn read_header(src: &[u8]) -> Header
         return Header::Invalid;
     }
     read_fields(src)
+}
+
+// File and offset of a node's or a cut-off's header: the file's columns with a space before them, so that both have four.
+fn read_place(src: &[u8]) -> Pair
+    requires { ⌜ length (now src) ≡ headerSize ⌝ }
+    ensures { λ r. ⌜ r ≡ pairIn (part (old src) unitAt unitWidth) (part (old src) partAt partWidth) ⌝ }
+{
+    let file = words::four(b' ', src[UNIT_AT], src[UNIT_AT + 1], src[UNIT_AT + 2]);
+    columns::pair_of(file, words::word4(src, PART_AT))
+}
+
+// The header that 30 bytes are whose kind letter is that of a node or a cut-off: the second number is 0.
+pub fn read_event(src: &[u8]) -> Header
+    requires { ⌜ (length (now src) ≡ headerSize) × (isEventLetter (getD (now src) kindAt 0) ≡ true) ⌝ }
+    ensures { λ r. ⌜ r ≡ headerOf (old src) ⌝ }
+{
+    if !words::same8(src, SECOND_AT, b"       0: ", 0) {
+        return Header::Invalid;
+    }
+    if !words::same2(src, END_AT, b"       0: ", 8) {
+        return Header::Invalid;
+    }
+    let Number::Is(number) = columns::get8(src, NUMBER_AT) else {
+        return Header::Invalid;
+    };
+    let Pair::Are(unit, part) = read_place(src) else {
+        return Header::Invalid;
+    };
+    let Pair::Are(key, second) = columns::pair_of(words::word4(src, KEY_AT), columns::SPELT_ZERO4) else {
+        return Header::Invalid;
+    };
+    let kind = src[KIND_AT];
+    let f = Frame { kind, number, unit, part, key, second };
+    if event_in_range(f) {
+        Header::Is(f)
+    } else {
+        Header::Invalid
+    }
 }
 
 // Whether the columns of a header are those of a file and an offset. The file's are given as they are spelt.

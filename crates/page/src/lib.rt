@@ -16,6 +16,12 @@ pub enum Number {
     Misspelt,
 }
 
+// What eight columns hold as two numbers, four columns each.
+pub enum Pair {
+    Are(u32, u32),
+    Misspelt,
+}
+
 // What stands around a page's payload: the fields of its header. The closing is the same on every page.
 pub struct Frame {
     pub kind: u8,

@@ -18,7 +18,7 @@ use Rattle.base.proofs.Parts.{part-at}
 use Rattle.base.proofs.Searches.{all-holds, all-intro, all-agree, any-agree, any-all-fail}
 use Rattle.base.proofs.Eachs.{same-true}
 use Rattle.page.specs.Frame.{pageSize, headerSize, closingAt, closingSize, closing, erased}
-use Rattle.page.specs.Header.{nodeLetter, cutOffLetter, keysLetter, commitLetter, lastNumber, lastPosition, lastKeyBlock, lastKeyPage, lastPart, within, inPlan, nodeRanges, cutOffRanges, keysRanges, commitRanges, keysFrame, commitFrame, inRange, headerOf}
+use Rattle.page.specs.Header.{nodeLetter, cutOffLetter, keysLetter, commitLetter, lastNumber, lastPosition, lastKeyBlock, lastKeyPage, lastPart, within, inPlan, nodeRanges, cutOffRanges, keysRanges, commitRanges, keysFrame, commitFrame, inRange, headerOf, isEventLetter}
 use Rattle.page.specs.Form.{isEmpty, closed, formBy, formOf}
 use Rattle.page.specs.Entry.{parts, validPayload}
 use Rattle.page.specs.Page.{payloadOf}
@@ -32,7 +32,7 @@ use Rattle.page.proofs.HeaderLaws.{header-spelt}
 pub use Rattle.page.proofs.HeaderTests.{same-frame, frame-same, whole-with, with-whole}
 use Rattle.image.specs.Size.{blockSize, pagesInBlock, blocks}
 use Rattle.image.specs.Look.{pageAt, formAt, pageEmpty}
-use Rattle.store.specs.Kind.{pageIn, sameFrame, wholeWith, keyBlockWhole, commitBlockWhole, isBlockLetter, kindOfFirst, kindOf, isEventLetter, headed, isChosen, isData, hasEvents}
+use Rattle.store.specs.Kind.{pageIn, sameFrame, wholeWith, keyBlockWhole, commitBlockWhole, isBlockLetter, kindOfFirst, kindOf, headed, isChosen, isData, hasEvents}
 use Rattle.store.specs.Find.{isOpen}
 use Rattle.store.specs.declared.Numbers.{Numbers}
 use Rattle.store.specs.declared.Kind.{Kind}

@@ -11,14 +11,14 @@ use lib.ListN.{getD, length}
 use Rattle.base.proofs.Searches.{all-holds, highest-least}
 use Rattle.base.proofs.Folds.{listFrom-at, length-listFrom}
 use Rattle.page.specs.Plan.{places}
-use Rattle.page.specs.Header.{lastNumber}
+use Rattle.page.specs.Header.{lastNumber, isEventLetter}
 use Rattle.page.specs.Key.{positions}
 use Rattle.page.specs.Entry.{freeLetter, usedLetter, deletedLetter}
 use Rattle.page.specs.declared.Form.{Form}
 use Rattle.page.specs.declared.Form.the-variants.{Empty, Whole, Torn, Spoilt}
 use Rattle.image.specs.Size.{blocks, pages}
 use Rattle.image.specs.Look.{formAt}
-use Rattle.store.specs.Kind.{kindOf, coveredBy, isEventLetter}
+use Rattle.store.specs.Kind.{kindOf, coveredBy}
 use Rattle.store.specs.Record.{placeFits, namedTimes, keysApart, fits}
 use Rattle.store.specs.Find.{isFound, foundAt}
 use Rattle.store.specs.Mount.{chosenCommit, chosenKeys, coveredIn, letterIn, mountMap, entriesFit, isSpent, mountLetter, sequenceOf, epochOf, mountNumbers, mounted}

@@ -4,7 +4,7 @@ use mathlib.Core.Bool.{Bool, false, cond, not, _&&_, _||_}
 use mathlib.Core.List.{List}
 use lib.Dec.{eqb}
 use Rattle.base.specs.Search.{allFrom, anyFrom}
-use Rattle.page.specs.Header.{nodeLetter, cutOffLetter, keysLetter, commitLetter, keysFrame, commitFrame}
+use Rattle.page.specs.Header.{keysLetter, commitLetter, keysFrame, commitFrame, isEventLetter}
 pub use Rattle.page.specs.Header.{sameFrame}
 pub use Rattle.page.specs.Form.{wholeWith}
 use Rattle.page.specs.Entry.{parts, validPayload}
@@ -72,9 +72,6 @@ coveredBy (Commit e s) = s
 coveredBy Other = 0
 
 -- ---- data blocks
-abbrev pub isEventLetter : ℕ → Bool
-isEventLetter kind = eqb kind nodeLetter || eqb kind cutOffLetter
-
 -- a whole or torn N or D page
 abbrev pub headed : Form → Bool
 headed Empty = false

@@ -9,7 +9,7 @@ use Rattle.base.specs.Search.{allFrom, anyFrom, whichFrom, highestFrom}
 use Rattle.base.specs.Fold.{foldFrom, listFrom}
 use Rattle.page.specs.Frame.{payloadSize}
 use Rattle.page.specs.Plan.{filePlan, places, countOf, startOf, placeOf}
-use Rattle.page.specs.Header.{nodeLetter, cutOffLetter}
+use Rattle.page.specs.Header.{nodeLetter, cutOffLetter, isEventLetter}
 use Rattle.page.specs.Key.{positions}
 use Rattle.page.specs.Entry.{none, freeLetter, usedLetter, deletedLetter, entrySize, entryPart, entryAt, entryOf}
 use Rattle.page.specs.Page.{payloadOf}
@@ -22,7 +22,7 @@ use Rattle.image.specs.Size.{sizeRight, blocks, pages}
 use Rattle.image.specs.Look.{pageAt, blockEmpty, formAt}
 use Rattle.image.specs.Step.{Step, erase}
 use Rattle.store.specs.Reply.{Test, _else_, verdict, numberOf}
-use Rattle.store.specs.Kind.{pageIn, kindOf, keysEpoch, commitEpoch, coveredBy, isEventLetter, isData, isChosen}
+use Rattle.store.specs.Kind.{pageIn, kindOf, keysEpoch, commitEpoch, coveredBy, isData, isChosen}
 use Rattle.store.specs.Record.{Record, mapSize, isAt, placeFits, namedTimes, keysApart}
 use Rattle.store.specs.Outcome.{Outcome, Left, decided}
 use Rattle.store.specs.Find.{isFound, foundAt}

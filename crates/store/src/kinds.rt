@@ -16,13 +16,13 @@ ghost use Rattle.base.specs.Lent.{old};
 ghost use Rattle.base.specs.Search.{allFrom};
 ghost use Rattle.page.specs.Frame.{pageSize};
 ghost use Rattle.page.specs.declared.Frame.{Frame as HeaderFrame};
-ghost use Rattle.page.specs.Header.{commitFrame, inRange, withPart};
+ghost use Rattle.page.specs.Header.{commitFrame, inRange, withPart, isEventLetter};
 ghost use Rattle.page.specs.Form.{wholeLike};
 ghost use Rattle.page.specs.Entry.{parts, validPayload};
 ghost use Rattle.page.specs.Page.{payloadOf};
 ghost use Rattle.image.specs.Size.{blockSize, pagesInBlock};
 ghost use Rattle.image.specs.Look.{pageAt, pageEmpty, formAt};
-ghost use Rattle.store.specs.Kind.{pageIn, sameFrame, wholeWith, keyBlockWhole, partWhole, isBlockLetter, kindBy, kindOf, keysEpoch, commitEpoch, coveredBy, isEventLetter, headed, hasEvents, isChosen, isData};
+ghost use Rattle.store.specs.Kind.{pageIn, sameFrame, wholeWith, keyBlockWhole, partWhole, isBlockLetter, kindBy, kindOf, keysEpoch, commitEpoch, coveredBy, headed, hasEvents, isChosen, isData};
 
 // Whether two headers are the same, field by field.
 fn same_frame(f: Frame, h: Frame) -> bool

@@ -134,17 +134,6 @@ fn use_keys(map: &[u16], letters: &mut [u8]) -> bool
     true
 }
 
-// Makes every number 0.
-fn clear_scratch(scratch: &mut [u32])
-    ensures { λ _. ⌜ new scratch ≡ replicate (length (old scratch)) 0 ⌝ }
-{
-    let mut i = 0;
-    while i < scratch.len() {
-        scratch[i] = 0;
-        i += 1;
-    }
-}
-
 // Makes every place vacant, every position deleted and every deciding sequence 0.
 pub fn clear_record(map: &mut [u16], letters: &mut [u8], scratch: &mut [u32])
     requires { ⌜ (length (now map) ≡ mapSize) × (length (now letters) ≡ positions) × (length (now scratch) ≡ places) ⌝ }
@@ -152,7 +141,7 @@ pub fn clear_record(map: &mut [u16], letters: &mut [u8], scratch: &mut [u32])
 {
     format::clear_map(map);
     bytes::fill(letters, entries::DELETED);
-    clear_scratch(scratch);
+    replay::clear_scratch(scratch);
 }
 
 // Replays the pages over the commit in block c, then tests what it gives. Events get 1 for each block with a whole or torn N or D page; empties have it for each empty one.

@@ -1,5 +1,6 @@
 // Mount's pass over the pages: what the commit says of each place and position, then every whole or torn N or D page in order.
 use crate::Kind;
+use crate::format;
 use crate::kinds;
 use crate::record;
 use image::look;
@@ -23,11 +24,11 @@ ghost use lib.Dec.{eqb, leb, ltb};
 ghost use Rattle.base.specs.Lent.{old, new};
 ghost use Rattle.page.specs.Frame.{payloadSize};
 ghost use Rattle.page.specs.Plan.{places};
-ghost use Rattle.page.specs.Header.{inRange, nodeLetter};
+ghost use Rattle.page.specs.Header.{inRange, nodeLetter, isEventLetter};
 ghost use Rattle.page.specs.Key.{positions};
 ghost use Rattle.page.specs.Entry.{none, freeLetter, deletedLetter, entriesInPart};
 ghost use Rattle.image.specs.Size.{blockSize, pagesInBlock, mostBlocks, blocks, pages, sizeRight};
-ghost use Rattle.image.specs.Look.{blockEmpty};
+ghost use Rattle.image.specs.Look.{letterAt, blockEmpty};
 ghost use Rattle.store.specs.Kind.{kindOf, headed};
 ghost use Rattle.store.specs.Record.{mapSize};
 ghost use Rattle.store.specs.Mount.{letterIn, entryIn, byEntry, decideBy, spends, sequenceOf};
@@ -90,22 +91,33 @@ fn read_part(payload: &[u8], map: &mut [u16], scratch: &mut [u32], first: usize)
     }
 }
 
-// Puts the commit's entry at every place.
+// Makes every number 0.
+pub fn clear_scratch(scratch: &mut [u32])
+    ensures { λ _. ⌜ new scratch ≡ replicate (length (old scratch)) 0 ⌝ }
+{
+    let mut i = 0;
+    while i < scratch.len() {
+        scratch[i] = 0;
+        i += 1;
+    }
+}
+
+// Puts the commit's entry at every place: first none at each, then what the parts say that are not vacant throughout.
 fn read_entries(image: &[u8], c: usize, map: &mut [u16], scratch: &mut [u32])
     requires { ⌜ (c * blockSize + blockSize ≤ length (now image))
         × (length (now map) ≡ mapSize) × (length (now scratch) ≡ places) ⌝ }
     ensures { λ _. ⌜ EachPlace (λ x held. byEntry (entryIn (old image) c x)) (old map) (old scratch) (new map)
         (new scratch) ⌝ }
 {
+    format::clear_map(map);
+    clear_scratch(scratch);
     let mut part: usize = FIRST_ENTRY_PART;
     while part < PARTS {
         let payload = look::payload_at(image, c * PAGES_IN_BLOCK + part);
-        read_part(
-            payload,
-            map,
-            scratch,
-            ENTRIES_IN_PART * (part - FIRST_ENTRY_PART),
-        );
+        if !entries::all_vacant(payload) {
+            let first = ENTRIES_IN_PART * (part - FIRST_ENTRY_PART);
+            read_part(payload, map, scratch, first);
+        }
         part += 1;
     }
 }
@@ -273,7 +285,7 @@ fn higher(a: u32, b: u32) -> u32
     a
 }
 
-// What page g makes of the lists, by its form; returns the highest sequence.
+// What page g, which begins with N or D, makes of the lists, by its form; returns the highest sequence.
 fn replay_form(
     image: &[u8],
     g: usize,
@@ -284,14 +296,15 @@ fn replay_form(
     scratch: &mut [u32],
     events: &mut [u8],
 ) -> u32
-    requires { ⌜ (sizeRight (now image) ≡ true) × (g < pages (now image)) ⌝ }
+    requires { ⌜ (sizeRight (now image) ≡ true) × (g < pages (now image))
+        × (isEventLetter (letterAt (now image) g) ≡ true) ⌝ }
     requires { ⌜ (length (now map) ≡ mapSize)
         × (length (now letters) ≡ positions) × (length (now scratch) ≡ places) × (length (now events) ≡ mostBlocks) ⌝ }
     ensures { λ r. ⌜ Passed (old image) covered 1 g
         (pass (old map) (old letters) (old scratch) (old events) highest)
         (pass (new map) (new letters) (new scratch) (new events) r) ⌝ }
 {
-    let form = look::form_at(image, g);
+    let form = look::event_form_at(image, g);
     apply(map, scratch, g, form, covered);
     spend(letters, form, covered);
     note(events, g, form);

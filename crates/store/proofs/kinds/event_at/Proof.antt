@@ -1,7 +1,8 @@
 -- A page whose first byte is no N and no D is none; of any other the form tells.
 use mathlib.Core.Path.{sym, ap, _∙_}
 use borrow.Author.Needs.{needs}
-use Rattle.store.specs.Kind.{isEventLetter, headed}
+use Rattle.page.specs.Header.{isEventLetter}
+use Rattle.store.specs.Kind.{headed}
 use Rattle.store.proofs.BlockKinds.{unheaded}
 use Rattle.store.proofs.Refusals.{failed}
 use Rattle.store.proofs.kinds.event_at.Statement.{statement}

@@ -1,7 +1,7 @@
 -- `store::replay::replay_page` meets its contract: a page that begins with another byte than N and D changes nothing; any other does by its form.
 use mathlib.Core.Path.{sym, ap, _∙_}
 use native.Mathlib.Omega.{arith}
-use Rattle.store.specs.Kind.{isEventLetter}
+use Rattle.page.specs.Header.{isEventLetter}
 use Rattle.store.specs.Replay.{pass}
 use Rattle.store.proofs.BlockKinds.{unheaded}
 use Rattle.store.proofs.Refusals.{failed}

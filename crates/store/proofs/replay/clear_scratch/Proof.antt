@@ -7,8 +7,8 @@ use lib.ListN.{length, replicate, drop, length-set, drop-of-length-le}
 use denote.Ref.{now}
 use borrow.Author.Needs.{needs}
 use borrow.Author.Fill.{fill-more}
-use Rattle.store.proofs.rebuild.clear_scratch.Statement.{statement}
-use Rattle.store.proofs.rebuild.clear_scratch.Tie as tie
+use Rattle.store.proofs.replay.clear_scratch.Statement.{statement}
+use Rattle.store.proofs.replay.clear_scratch.Tie as tie
 
 abbrev Inv-loop : tie.InvT-loop
 Inv-loop scratch₀ i₀ scratch i = (i ≤ length scratch₀) × (length scratch ≡ length scratch₀) × (scratch ≡ replicate i 0 ++ drop i scratch₀)

@@ -12,12 +12,15 @@ use lib.Dec.{eqb, leb, ltb}
 use borrow.Author.Tests.{eqb-true, eq-eqb, ne-eqb, le-leb, leb-true, le-ltb, ltb-false}
 use Rattle.base.proofs.Choice.{and-true, and-intro}
 use Rattle.base.specs.Part.{part}
-use Rattle.base.specs.Each.{Bytes, same}
+use Rattle.base.specs.Each.{Each, Bytes, same}
 use Rattle.base.proofs.Parts.{part-length}
 use Rattle.base.proofs.Eachs.{same-true, same-refl}
 use Rattle.page.specs.Frame.{space}
-use Rattle.page.specs.Column.{zeroDigit, column, columns, spell, digit, isDigit, valueAfter, numberIn}
+use Rattle.page.specs.Column.{zeroDigit, column, columns, spell, digit, isDigit, valueAfter, numberIn, numberThen, pairIn}
+use Rattle.page.specs.declared.Number.{Number}
 use Rattle.page.specs.declared.Number.the-variants.{Is, Misspelt}
+use Rattle.page.specs.declared.Pair.{Pair}
+use Rattle.page.specs.declared.Pair.the-variants.{Are, Misspelt as NoPair}
 
 -- ---- columns, from the right
 pub columns-step : (i m : ℕ) (t : List ℕ) → 0 < i → columns i m t ≡ columns (i - 1) (m / 10) (column m ∷ t)
@@ -142,19 +145,43 @@ number-part xs a w n h e = number-is (part xs a w) n e ∙ rw (part-length xs a 
 pub one-spelling : (xs ys : List ℕ) (n : ℕ) → length xs ≡ length ys → numberIn xs ≡ Is n → numberIn ys ≡ Is n → xs ≡ ys
 one-spelling xs ys n l p q = number-is xs n p ∙ rw l (sym (number-is ys n q))
 
--- ---- each column is a byte
-column-byte : (m : ℕ) → column m < 256
-column-byte m = go (eqb m 0)
-  where
-    go : (b : Bool) → cond b space (zeroDigit + m % 10) < 256
-    go true = omega arith
-    go false = omega arith
+-- ---- two numbers side by side
+-- what is made of the two, or of columns of which one holds none
+abbrev pub pairThen : {A : Type 0} → Pair → A → (ℕ → ℕ → A) → A
+pairThen (Are a b) otherwise f = f a b
+pairThen NoPair otherwise f = otherwise
 
-bytes-columns : (i m : ℕ) (t : List ℕ) → Bytes t → Bytes (columns i m t)
-unfolding columns
-bytes-columns zero m t b = b
-bytes-columns (suc i) m t b = bytes-columns i (m / 10) (column m ∷ t) (column-byte m, b)
+-- two numbers that are read one after the other are their pair
+pub pair-then : {A : Type 0} (xs ys : List ℕ) (z : A) (f : ℕ → ℕ → A)
+    → numberThen (numberIn xs) z (λ a. numberThen (numberIn ys) z (f a)) ≡ pairThen (pairIn xs ys) z f
+unfolding pairIn
+pair-then xs ys z f = go (numberIn xs) (numberIn ys)
+  where
+    go : (m n : Number) → numberThen m z (λ a. numberThen n z (f a)) ≡ pairThen (numberThen m NoPair λ a. numberThen n NoPair λ b. Are a b) z f
+    go (Is a) (Is b) = refl
+    go (Is a) Misspelt = refl
+    go Misspelt n = refl
+
+-- ---- what a space has and every digit, each column of a spelling has
+module _ (P : ℕ → Type 0) (blank : P space) (ten : (d : ℕ) → d < 10 → P (zeroDigit + d)) where
+  each-column : (m : ℕ) → P (column m)
+  each-column m = go (eqb m 0)
+    where
+      go : (b : Bool) → P (cond b space (zeroDigit + m % 10))
+      go true = blank
+      go false = ten (m % 10) (omega arith)
+
+  each-columns : (i m : ℕ) (t : List ℕ) → Each P t → Each P (columns i m t)
+  unfolding columns
+  each-columns zero m t b = b
+  each-columns (suc i) m t b = each-columns i (m / 10) (column m ∷ t) (each-column m, b)
+
+  each-spell : (w n : ℕ) → Each P (spell w n)
+  unfolding spell
+  each-spell w n = each-columns (w - 1) (n / 10) ((zeroDigit + n % 10) ∷ []) (ten (n % 10) (omega arith), tt)
+
+  pub each-read : (xs : List ℕ) (n : ℕ) → numberIn xs ≡ Is n → Each P xs
+  each-read xs n e = subst (Each P) (sym (number-is xs n e)) (each-spell (length xs) n)
 
 pub bytes-spell : (w n : ℕ) → Bytes (spell w n)
-unfolding spell
-bytes-spell w n = bytes-columns (w - 1) (n / 10) ((zeroDigit + n % 10) ∷ []) (omega arith, tt)
+bytes-spell = each-spell (λ c. c < 256) (omega arith) (λ d h. omega arith)

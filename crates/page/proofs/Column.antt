@@ -16,8 +16,11 @@ use Rattle.base.specs.Each.{Bytes, same}
 use Rattle.base.proofs.Parts.{part-length}
 use Rattle.base.proofs.Eachs.{same-true, same-refl}
 use Rattle.page.specs.Frame.{space}
-use Rattle.page.specs.Column.{zeroDigit, column, columns, spell, digit, isDigit, valueAfter, numberIn}
+use Rattle.page.specs.Column.{zeroDigit, column, columns, spell, digit, isDigit, valueAfter, numberIn, numberThen, pairIn}
+use Rattle.page.specs.declared.Number.{Number}
 use Rattle.page.specs.declared.Number.the-variants.{Is, Misspelt}
+use Rattle.page.specs.declared.Pair.{Pair}
+use Rattle.page.specs.declared.Pair.the-variants.{Are, Misspelt as NoPair}
 
 -- ---- columns, from the right
 pub columns-step : (i m : ℕ) (t : List ℕ) → 0 < i → columns i m t ≡ columns (i - 1) (m / 10) (column m ∷ t)
@@ -141,6 +144,23 @@ number-part xs a w n h e = number-is (part xs a w) n e ∙ rw (part-length xs a 
 
 pub one-spelling : (xs ys : List ℕ) (n : ℕ) → length xs ≡ length ys → numberIn xs ≡ Is n → numberIn ys ≡ Is n → xs ≡ ys
 one-spelling xs ys n l p q = number-is xs n p ∙ rw l (sym (number-is ys n q))
+
+-- ---- two numbers side by side
+-- what is made of the two, or of columns of which one holds none
+abbrev pub pairThen : {A : Type 0} → Pair → A → (ℕ → ℕ → A) → A
+pairThen (Are a b) otherwise f = f a b
+pairThen NoPair otherwise f = otherwise
+
+-- two numbers that are read one after the other are their pair
+pub pair-then : {A : Type 0} (xs ys : List ℕ) (z : A) (f : ℕ → ℕ → A)
+    → numberThen (numberIn xs) z (λ a. numberThen (numberIn ys) z (f a)) ≡ pairThen (pairIn xs ys) z f
+unfolding pairIn
+pair-then xs ys z f = go (numberIn xs) (numberIn ys)
+  where
+    go : (m n : Number) → numberThen m z (λ a. numberThen n z (f a)) ≡ pairThen (numberThen m NoPair λ a. numberThen n NoPair λ b. Are a b) z f
+    go (Is a) (Is b) = refl
+    go (Is a) Misspelt = refl
+    go Misspelt n = refl
 
 -- ---- each column is a byte
 column-byte : (m : ℕ) → column m < 256

@@ -1,0 +1,25 @@
+-- `headers::event_in_range` goes by the kind letter: what is no node is a cut-off.
+use borrow.Author.Needs.{needs}
+use borrow.Author.Tests.{eq-eqb, ne-eqb}
+use Rattle.page.specs.Header.{inRange}
+use Rattle.page.proofs.headers.event_in_range.Statement.{statement}
+use Rattle.page.proofs.headers.event_in_range.Tie as tie
+
+is-node-requires : tie.Need-is-node-requires
+is-node-requires c κs = search needs
+
+returns : tie.Need-returns
+unfolding inRange
+returns c = rw (eq-eqb _ _ (c .before .if1 .taken)) (c .is-node .ensures)
+
+is-cut-off-requires : tie.Need-is-cut-off-requires
+is-cut-off-requires c κs = search needs
+
+returns-2 : tie.Need-returns-2
+unfolding inRange
+returns-2 c =
+    let no-node = ne-eqb _ _ (c .before .if1 .left) in
+    rw (no-node, rw no-node at (c .before .before .before .pre)) (c .is-cut-off .ensures)
+
+pub event-in-range-spec : {M : Type 1} → statement M
+event-in-range-spec = tie.close (tie.spec is-node-requires returns is-cut-off-requires returns-2)

@@ -125,8 +125,8 @@ empty-form page = (
   λ e. form-from page ∙ rw (empty-header page e, e),
 )
 
--- and where a node or a cut-off starts the page is not empty
-pub event-used : (page : List ℕ) → isEventLetter (getD page 0 0) ≡ true → isEmpty page ≡ false
+-- a page that begins with the letter of a node or a cut-off is not empty, so that without a header it is spoilt
+event-used : (page : List ℕ) → isEventLetter (getD page 0 0) ≡ true → isEmpty page ≡ false
 unfolding isEmpty allAre
 event-used [] h = absurd (true-false h refl)
 event-used (x ∷ xs) h = go (eqb x erased) refl
@@ -134,6 +134,9 @@ event-used (x ∷ xs) h = go (eqb x erased) refl
     go : (b : Bool) → eqb x erased ≡ b → b && allAre erased xs ≡ false
     go true e = absurd (true-false (rw (eqb-true x erased e) at h) refl)
     go false e = refl
+
+pub event-spoilt : (page : List ℕ) → isEventLetter (getD page 0 0) ≡ true → headerOf (part page 0 headerSize) ≡ Invalid → formOf page ≡ Spoilt
+event-spoilt page h e = form-from page ∙ rw (e, event-used page h)
 
 -- ---- the form of what a program leaves
 -- a letter is no erased byte

@@ -1,11 +1,12 @@
 -- `forms::event_form` goes by the header, then by the closing; without a header the page is spoilt, since it is not empty.
 use borrow.Author.Needs.{needs}
 use native.Mathlib.Omega.{arith}
+use mathlib.Core.Path.{sym, ap, _∙_}
 use denote.Ref.{now}
 use Rattle.base.specs.Part.{part}
 use Rattle.base.proofs.Parts.{part-at, part-length}
-use Rattle.page.specs.Form.{formOf}
-use Rattle.page.proofs.FormLaws.{event-used}
+use Rattle.page.specs.Header.{isEventLetter}
+use Rattle.page.proofs.FormLaws.{is-whole, is-torn, event-spoilt}
 use Rattle.page.proofs.forms.event_form.Statement.{statement}
 use Rattle.page.proofs.forms.event_form.Tie as tie
 
@@ -23,7 +24,7 @@ unfolding part
 read-event-requires c κs =
     let s = c .before .before in
     let page = now (s .args .page) in
-    (part-length page 0 30 (omega (arith, s .pre .0)), rw (part-at page 0 30 0 0 (omega arith)) (s .pre .1))
+    (part-length page 0 30 (omega (arith, s .pre .0)), ap isEventLetter (part-at page 0 30 0 0 (omega arith)) ∙ s .pre .1)
 
 enum-known-f : tie.Need-enum-known-f
 enum-known-f c = search needs
@@ -35,18 +36,27 @@ enum-told : tie.Need-enum-told
 enum-told c = search needs
 
 returns : tie.Need-returns
-unfolding formOf part
-returns c = rw (← c .before .before .before .before .before .read-event .ensures, c .before .before .before .f .given .1, ← c .before .is-closed .ensures, c .if1 .taken)
+unfolding part
+returns c =
+    let f = c .before .before .before in
+    let header = f .before .before in
+    let s = header .before .before .before in
+    sym (is-whole (now (s .args .page)) _ (sym (header .read-event .ensures) ∙ f .f .given .1) (sym (c .before .is-closed .ensures) ∙ c .if1 .taken))
 
 returns-2 : tie.Need-returns-2
-unfolding formOf part
-returns-2 c = rw (← c .before .before .before .before .before .read-event .ensures, c .before .before .before .f .given .1, ← c .before .is-closed .ensures, c .if1 .left)
+unfolding part
+returns-2 c =
+    let f = c .before .before .before in
+    let header = f .before .before in
+    let s = header .before .before .before in
+    sym (is-torn (now (s .args .page)) _ (sym (header .read-event .ensures) ∙ f .f .given .1) (sym (c .before .is-closed .ensures) ∙ c .if1 .left))
 
 returns-3 : tie.Need-returns-3
-unfolding formOf part
+unfolding part
 returns-3 c =
-    let s = c .before .before .before .before .before in
-    rw (← c .before .before .read-event .ensures, c .enum-told .given .1, event-used (now (s .args .page)) (s .pre .1))
+    let header = c .before .before in
+    let s = header .before .before .before in
+    sym (event-spoilt (now (s .args .page)) (s .pre .1) (sym (header .read-event .ensures) ∙ c .enum-told .given .1))
 
 pub event-form-spec : {M : Type 1} → statement M
 event-form-spec =

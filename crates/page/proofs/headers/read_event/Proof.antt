@@ -115,7 +115,8 @@ returns-5 c =
     let xs = now (s .args .src) in
     let second = ends .before .before .before in
     let read = past xs _ _ (second .before .same8 .ensures) (second .if1 .left) (ends .before .same2 .ensures) (ends .if2 .left) in
-    let pair = key .pair-of .ensures ∙ (λ i. pairIn (key .before .word4 .ensures i) (spelt-zero-four i)) in
+    let pair : key .pair-of .result ≡ pairIn (part xs 16 4) (spell 4 0) =
+    key .pair-of .ensures ∙ (λ i. pairIn (key .before .word4 .ensures i) (spelt-zero-four i)) in
     rw (
       read,
       ← number .before .before .get8 .ensures,
@@ -144,7 +145,8 @@ returns-6 c =
     let xs = now (s .args .src) in
     let second = ends .before .before .before in
     let read = past xs _ _ (second .before .same8 .ensures) (second .if1 .left) (ends .before .same2 .ensures) (ends .if2 .left) in
-    let pair = key .pair-of .ensures ∙ (λ i. pairIn (key .before .word4 .ensures i) (spelt-zero-four i)) in
+    let pair : key .pair-of .result ≡ pairIn (part xs 16 4) (spell 4 0) =
+    key .pair-of .ensures ∙ (λ i. pairIn (key .before .word4 .ensures i) (spelt-zero-four i)) in
     rw (
       read,
       ← number .before .before .get8 .ensures,
@@ -169,7 +171,8 @@ returns-7 c =
     let xs = now (s .args .src) in
     let second = ends .before .before .before in
     let read = past xs _ _ (second .before .same8 .ensures) (second .if1 .left) (ends .before .same2 .ensures) (ends .if2 .left) in
-    let pair = key .pair-of .ensures ∙ (λ i. pairIn (key .before .word4 .ensures i) (spelt-zero-four i)) in
+    let pair : key .pair-of .result ≡ pairIn (part xs 16 4) (spell 4 0) =
+    key .pair-of .ensures ∙ (λ i. pairIn (key .before .word4 .ensures i) (spelt-zero-four i)) in
     rw (
       read,
       ← number .before .before .get8 .ensures,

@@ -1,7 +1,9 @@
 -- `headers::read_place` reads the file's three columns as four, with a space before them.
 use borrow.Author.Needs.{needs}
-use mathlib.Core.Path.{_∙_}
+use mathlib.Core.Path.{ap, _∙_}
 use denote.Ref.{now}
+use Rattle.page.specs.Word.{wordBytes}
+use Rattle.page.specs.Column.{pairIn}
 use Rattle.page.proofs.ColumnValues.{pair-three}
 use Rattle.page.proofs.headers.read_place.Statement.{statement}
 use Rattle.page.proofs.headers.read_place.Tie as tie
@@ -34,7 +36,9 @@ returns : tie.Need-returns
 returns c =
     let file = c .before .before .four in
     let s = c .before .before .before .before .before .before .before in
-    rw (← c .before .word4 .ensures) (c .pair-of .ensures ∙ pair-three (now (s .args .src)) _ 9 (file .result) (search needs) (file .ensures))
+    c .pair-of .ensures
+    ∙ ap (pairIn (wordBytes 4 (file .result))) (c .before .word4 .ensures)
+    ∙ pair-three (now (s .args .src)) _ 9 (file .result) (search needs) (file .ensures)
 
 pub read-place-spec : {M : Type 1} → statement M
 read-place-spec =

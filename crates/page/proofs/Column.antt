@@ -12,7 +12,7 @@ use lib.Dec.{eqb, leb, ltb}
 use borrow.Author.Tests.{eqb-true, eq-eqb, ne-eqb, le-leb, leb-true, le-ltb, ltb-false}
 use Rattle.base.proofs.Choice.{and-true, and-intro}
 use Rattle.base.specs.Part.{part}
-use Rattle.base.specs.Each.{Bytes, same}
+use Rattle.base.specs.Each.{Each, Bytes, same}
 use Rattle.base.proofs.Parts.{part-length}
 use Rattle.base.proofs.Eachs.{same-true, same-refl}
 use Rattle.page.specs.Frame.{space}
@@ -162,19 +162,26 @@ pair-then xs ys z f = go (numberIn xs) (numberIn ys)
     go (Is a) Misspelt = refl
     go Misspelt n = refl
 
--- ---- each column is a byte
-column-byte : (m : ℕ) → column m < 256
-column-byte m = go (eqb m 0)
-  where
-    go : (b : Bool) → cond b space (zeroDigit + m % 10) < 256
-    go true = omega arith
-    go false = omega arith
+-- ---- what a space has and every digit, each column of a spelling has
+module _ (P : ℕ → Type 0) (blank : P space) (ten : (d : ℕ) → d < 10 → P (zeroDigit + d)) where
+  each-column : (m : ℕ) → P (column m)
+  each-column m = go (eqb m 0)
+    where
+      go : (b : Bool) → P (cond b space (zeroDigit + m % 10))
+      go true = blank
+      go false = ten (m % 10) (omega arith)
 
-bytes-columns : (i m : ℕ) (t : List ℕ) → Bytes t → Bytes (columns i m t)
-unfolding columns
-bytes-columns zero m t b = b
-bytes-columns (suc i) m t b = bytes-columns i (m / 10) (column m ∷ t) (column-byte m, b)
+  each-columns : (i m : ℕ) (t : List ℕ) → Each P t → Each P (columns i m t)
+  unfolding columns
+  each-columns zero m t b = b
+  each-columns (suc i) m t b = each-columns i (m / 10) (column m ∷ t) (each-column m, b)
+
+  each-spell : (w n : ℕ) → Each P (spell w n)
+  unfolding spell
+  each-spell w n = each-columns (w - 1) (n / 10) ((zeroDigit + n % 10) ∷ []) (ten (n % 10) (omega arith), tt)
+
+  pub each-read : (xs : List ℕ) (n : ℕ) → numberIn xs ≡ Is n → Each P xs
+  each-read xs n e = subst (Each P) (sym (number-is xs n e)) (each-spell (length xs) n)
 
 pub bytes-spell : (w n : ℕ) → Bytes (spell w n)
-unfolding spell
-bytes-spell w n = bytes-columns (w - 1) (n / 10) ((zeroDigit + n % 10) ∷ []) (omega arith, tt)
+bytes-spell = each-spell (λ c. c < 256) (omega arith) (λ d h. omega arith)

@@ -1,25 +1,24 @@
 -- Laws of eight columns as one word: by few operations on the word, the number that they hold.
-use Prim.Native.Nat.{ℕ, zero, suc, _+_, _*_, _-_, _/_, _%_, _^_, _<_, _≤_}
+use Prim.Native.Nat.{ℕ, _+_, _*_, _/_, _%_, _<_, _≤_}
 use native.Mathlib.Omega.{arith}
-use native.Mathlib.Nat.{pow-suc, zero-add}
-use mathlib.Core.Path.{_≡_, refl, sym, ap, subst, _∙_}
+use mathlib.Core.Path.{_≡_, refl, sym, ap, _∙_}
 use mathlib.Core.List.{List, [], _∷_, _++_}
 use mathlib.Core.Bool.{true, false}
 use lib.Bits.{bitAnd, and-le-r}
-use lib.ListN.{length, getD, replicate}
+use lib.ListN.{length, getD}
 use lib.Dec.{leb}
 use borrow.Author.Tests.{leb-false}
 use Rattle.base.specs.Part.{part}
-use Rattle.base.specs.Each.{Bytes, same}
+use Rattle.base.specs.Each.{Each, same}
 use Rattle.page.specs.Frame.{space}
-use Rattle.page.specs.Column.{zeroDigit, column, columns, spell, digit, valueAfter, numberIn, numberThen, pairIn}
+use Rattle.page.specs.Column.{columns, spell, digit, valueAfter, numberIn, numberThen, pairIn}
 use Rattle.page.specs.declared.Number.{Number}
 use Rattle.page.specs.declared.Number.the-variants.{Is, Misspelt}
 use Rattle.page.specs.Word.{wordBytes}
-use Rattle.page.proofs.Column.{digit-lt, number-is, value-lt}
-use Rattle.page.proofs.Counted.{Low, low-from-one, counted}
+use Rattle.page.proofs.Column.{digit-lt, digit-of-digit, number-is, each-read, value-lt}
+use Rattle.page.proofs.Counted.{counted, read-from-one, number-space, number-spaces}
 use Rattle.page.proofs.WordLaws.{word-is, part-three, part-four}
-use Rattle.page.proofs.Lanes.{lanes, mask-lanes, word-lanes, bytes-word}
+use Rattle.page.proofs.Lanes.{lanes, mask-lanes, lanes-same, word-lanes, bytes-word}
 
 -- two numbers in each lane are joined to one: digits to pairs of them, pairs to fours
 abbrev pub pairsOf : ℕ → ℕ
@@ -33,6 +32,12 @@ eightOf q = q % 0x100000000 * 10000 + q / 0x100000000
 
 pub pairs-le : (d : ℕ) → pairsOf d ≤ 0x00ff00ff00ff00ff
 pairs-le d = and-le-r (bitAnd d 0x00ff00ff00ff00ff * 10 + d / 0x100) 0x00ff00ff00ff00ff
+
+pub fours-le : (p : ℕ) → foursOf p ≤ 0x0000ffff0000ffff
+fours-le p = and-le-r (bitAnd p 0x0000ffff0000ffff * 100 + p / 0x10000) 0x0000ffff0000ffff
+
+eight-of : (a b : ℕ) → a < 10000 → b < 10000 → eightOf (a + b * 0x100000000) ≡ a * 10000 + b
+eight-of a b p q = omega arith
 
 -- a word of four lanes, or of two
 abbrev four : ℕ → ℕ → ℕ → ℕ → ℕ
@@ -107,44 +112,60 @@ module _ (a b c d : ℕ) (p : a < 100) (q : b < 100) (r : c < 100) (s : d < 100)
       ∙ mask-two (a * 100 + b + c * 0x10000) (c * 100 + d) (omega arith) (omega arith)
       ∙ omega arith
 
--- and fours to one number
-eight-of : (a b : ℕ) → a < 10000 → b < 10000 → eightOf (a + b * 0x100000000) ≡ a * 10000 + b
-eight-of a b p q = omega arith
+-- so eight columns give the values of each four
+pub fours-value : (a b c d e f g h : ℕ)
+    → foursOf (pairsOf (lanes 8 digit (a ∷ b ∷ c ∷ d ∷ e ∷ f ∷ g ∷ h ∷ [])))
+    ≡ valueAfter 0 (a ∷ b ∷ c ∷ d ∷ []) + valueAfter 0 (e ∷ f ∷ g ∷ h ∷ []) * 0x100000000
+unfolding lanes valueAfter
+fours-value a b c d e f g h =
+    let i = digit a in
+    let j = digit b in
+    let k = digit c in
+    let l = digit d in
+    let m = digit e in
+    let n = digit f in
+    let o = digit g in
+    let p = digit h in
+    let s : lanes 8 digit (a ∷ b ∷ c ∷ d ∷ e ∷ f ∷ g ∷ h ∷ []) ≡ four (i + j * 256) (k + l * 256) (m + n * 256) (o + p * 256) =
+    omega arith in
+    ap (λ (n : ℕ). foursOf (pairsOf n)) s
+    ∙ ap foursOf
+    (pairs-of i j k l m n o p
+    (digit-lt a) (digit-lt b) (digit-lt c) (digit-lt d) (digit-lt e) (digit-lt f) (digit-lt g) (digit-lt h))
+    ∙ fours-of (i * 10 + j) (k * 10 + l) (m * 10 + n) (o * 10 + p)
+    (omega (arith, digit-lt a, digit-lt b)) (omega (arith, digit-lt c, digit-lt d))
+    (omega (arith, digit-lt e, digit-lt f)) (omega (arith, digit-lt g, digit-lt h))
+    ∙ omega arith
 
-digits-value : (a b c d e f g h : ℕ) → a < 10 → b < 10 → c < 10 → d < 10 → e < 10 → f < 10 → g < 10 → h < 10
-    → eightOf (foursOf (pairsOf (four (a + b * 256) (c + d * 256) (e + f * 256) (g + h * 256))))
-    ≡ (((((((0 * 10 + a) * 10 + b) * 10 + c) * 10 + d) * 10 + e) * 10 + f) * 10 + g) * 10 + h
-digits-value a b c d e f g h p q r s t u v w =
-    ap (λ (n : ℕ). eightOf (foursOf n)) (pairs-of a b c d e f g h p q r s t u v w)
-    ∙ ap eightOf (fours-of (a * 10 + b) (c * 10 + d) (e * 10 + f) (g * 10 + h) (omega arith) (omega arith) (omega arith) (omega arith))
-    ∙ eight-of ((a * 10 + b) * 100 + (c * 10 + d)) ((e * 10 + f) * 100 + (g * 10 + h)) (omega arith) (omega arith)
+-- and both their value
+eight-value : (a b c d e f g h : ℕ)
+    → eightOf (foursOf (pairsOf (lanes 8 digit (a ∷ b ∷ c ∷ d ∷ e ∷ f ∷ g ∷ h ∷ [])))) ≡ valueAfter 0 (a ∷ b ∷ c ∷ d ∷ e ∷ f ∷ g ∷ h ∷ [])
+unfolding valueAfter
+eight-value a b c d e f g h =
+    let low = value-lt (a ∷ b ∷ c ∷ d ∷ []) 0 0 (omega arith) in
+    let high = value-lt (e ∷ f ∷ g ∷ h ∷ []) 0 0 (omega arith) in
+    ap eightOf (fours-value a b c d e f g h)
+    ∙ eight-of (valueAfter 0 (a ∷ b ∷ c ∷ d ∷ [])) (valueAfter 0 (e ∷ f ∷ g ∷ h ∷ [])) low high
     ∙ omega arith
 
 -- ---- the number in eight columns that are a word
 abbrev pub digitsOf : ℕ → ℕ
 digitsOf v = bitAnd v 0x0f0f0f0f0f0f0f0f
 
-digits-of : (a b c d e f g h : ℕ) → Bytes (a ∷ b ∷ c ∷ d ∷ e ∷ f ∷ g ∷ h ∷ []) → Low (a ∷ b ∷ c ∷ d ∷ e ∷ f ∷ g ∷ h ∷ [])
-    → digitsOf (lanes 8 (λ x. x) (a ∷ b ∷ c ∷ d ∷ e ∷ f ∷ g ∷ h ∷ [])) ≡ four (digit a + digit b * 256) (digit c + digit d * 256) (digit e + digit f * 256) (digit g + digit h * 256)
-unfolding lanes
-digits-of a b c d e f g h fit low =
-    mask-lanes 8 4 (omega arith) (a ∷ b ∷ c ∷ d ∷ e ∷ f ∷ g ∷ h ∷ []) fit
-    ∙ rw (low .0, low .1 .0, low .1 .1 .0, low .1 .1 .1 .0, low .1 .1 .1 .1 .0, low .1 .1 .1 .1 .1 .0, low .1 .1 .1 .1 .1 .1 .0, low .1 .1 .1 .1 .1 .1 .1 .0)
-    (omega arith)
-
-columns-value : (a b c d e f g h : ℕ) → Bytes (a ∷ b ∷ c ∷ d ∷ e ∷ f ∷ g ∷ h ∷ []) → Low (a ∷ b ∷ c ∷ d ∷ e ∷ f ∷ g ∷ h ∷ [])
-    → eightOf (foursOf (pairsOf (digitsOf (lanes 8 (λ x. x) (a ∷ b ∷ c ∷ d ∷ e ∷ f ∷ g ∷ h ∷ []))))) ≡ valueAfter 0 (a ∷ b ∷ c ∷ d ∷ e ∷ f ∷ g ∷ h ∷ [])
-unfolding valueAfter
-columns-value a b c d e f g h fit low =
-    ap (λ (n : ℕ). eightOf (foursOf (pairsOf n))) (digits-of a b c d e f g h fit low)
-    ∙ digits-value (digit a) (digit b) (digit c) (digit d) (digit e) (digit f) (digit g) (digit h)
-    (digit-lt a) (digit-lt b) (digit-lt c) (digit-lt d) (digit-lt e) (digit-lt f) (digit-lt g) (digit-lt h)
+-- a digit's value is its lower half, and a space's lower half is 0
+low-half : (cs : List ℕ) (n : ℕ) → numberIn cs ≡ Is n → Each (λ (c : ℕ). c % 16 ≡ digit c) cs
+low-half = each-read (λ c. c % 16 ≡ digit c) refl (λ d h. rw (digit-of-digit d h) (omega arith))
 
 pub value-is : (v : ℕ) → v < 0x10000000000000000 → numberThen (numberIn (wordBytes 8 v)) false (leb 1) ≡ true → eightOf (foursOf (pairsOf (digitsOf v))) ≡ valueAfter 0 (wordBytes 8 v)
-unfolding wordBytes
+unfolding wordBytes lanes
 value-is v h t =
-    ap (λ (n : ℕ). eightOf (foursOf (pairsOf (digitsOf n)))) (sym (word-lanes 8 v h))
-    ∙ columns-value _ _ _ _ _ _ _ _ (bytes-word 8 v) (low-from-one (wordBytes 8 v) (sym (counted (wordBytes 8 v)) ∙ t))
+    let cs = wordBytes 8 v in
+    let e = read-from-one cs (sym (counted cs) ∙ t) in
+    let s : digitsOf v ≡ lanes 8 digit cs =
+    ap digitsOf (sym (word-lanes 8 v h))
+    ∙ mask-lanes 8 4 (omega arith) cs (bytes-word 8 v)
+    ∙ lanes-same 8 (λ x. x % 16) digit cs (low-half cs (valueAfter 0 cs) e) in
+    ap (λ (n : ℕ). eightOf (foursOf (pairsOf n))) s ∙ eight-value _ _ _ _ _ _ _ _
 
 pub value-small : (v : ℕ) → valueAfter 0 (wordBytes 8 v) < 100_000_000
 unfolding wordBytes
@@ -172,32 +193,6 @@ number-none v h z t = go (numberIn (wordBytes 8 v)) refl t
     go Misspelt e t = refl
 
 -- ---- fewer columns are eight with spaces before them
-columns-wider : (i m : ℕ) (t : List ℕ) → m < 10 ^ i → columns (suc i) m t ≡ space ∷ columns i m t
-unfolding columns
-columns-wider zero m t h = let z : m ≡ 0 = omega arith in rw z
-columns-wider (suc i) m t h =
-    let k : m < 10 ^ i * 10 = rw pow-suc at h in
-    columns-wider i (m / 10) (column m ∷ t) (omega arith)
-
-spell-wider : (w n : ℕ) → n < 10 ^ suc w → spell (suc (suc w)) n ≡ space ∷ spell (suc w) n
-unfolding spell
-spell-wider w n h =
-    let k : n < 10 ^ w * 10 = rw pow-suc at h in
-    let e : suc (suc w) - 1 ≡ suc w = omega arith in
-    let f : suc w - 1 ≡ w = omega arith in
-    rw (e, f) (columns-wider w (n / 10) ((zeroDigit + n % 10) ∷ []) (omega arith))
-
-number-space : (c : ℕ) (cs : List ℕ) → numberIn (space ∷ c ∷ cs) ≡ numberIn (c ∷ cs)
-unfolding numberIn valueAfter same
-number-space c cs =
-    let v = valueAfter 0 (c ∷ cs) in
-    rw (spell-wider (length cs) v (subst (λ (k : ℕ). v < 10 ^ k) (zero-add (suc (length cs))) (value-lt (c ∷ cs) 0 0 (omega arith))))
-
-number-spaces : (k c : ℕ) (cs : List ℕ) → numberIn (replicate k space ++ (c ∷ cs)) ≡ numberIn (c ∷ cs)
-number-spaces zero c cs = refl
-number-spaces (suc zero) c cs = number-space c cs
-number-spaces (suc (suc k)) c cs = number-space space (replicate k space ++ (c ∷ cs)) ∙ number-spaces (suc k) c cs
-
 -- a word v whose lower half is spaces and whose upper half, w, is four columns of a list, or a space and three columns
 module _ (xs : List ℕ) (at v w : ℕ) (e : wordBytes 8 v ≡ wordBytes 4 0x20202020 ++ wordBytes 4 w) where
   pub number-four : at + 4 ≤ length xs → wordBytes 4 w ≡ part xs at 4 → numberIn (wordBytes 8 v) ≡ numberIn (part xs at 4)

@@ -24,14 +24,14 @@ use Rattle.page.specs.Frame.{payloadSize}
 use Rattle.page.specs.Plan.{places}
 use Rattle.page.specs.Key.{positions}
 use Rattle.page.specs.Header.{lastPosition}
-use Rattle.page.specs.Column.{spell, columns, numberIn, numberThen}
+use Rattle.page.specs.Column.{spell, columns, numberIn, numberThen, pairIn}
 use Rattle.page.specs.Entry.{isLetter, entrySize, entriesInPart, lastPage, firstEntryPart, parts, none, vacantEntry, entryBytes, entryOf, isEntry, entryPart, entryAt, entriesFrom, commitPayload, validPayload}
 use Rattle.page.specs.declared.Number.{Number}
 use Rattle.page.specs.declared.Number.the-variants.{Is as IsNumber, Misspelt as NoNumber}
 use Rattle.page.specs.declared.Entry.{Entry}
 use Rattle.page.specs.declared.Entry.the-variants.{At, Vacant, Misspelt}
 use Rattle.page.proofs.Slices.{part-front, part-past, part-back, part-halves}
-use Rattle.page.proofs.Column.{length-spell, number-spell, number-part}
+use Rattle.page.proofs.Column.{length-spell, number-spell, number-part, pairThen, pair-then}
 
 -- ---- one entry
 pub entry-length : (page key : ℕ) → length (entryBytes page key) ≡ entrySize
@@ -69,9 +69,17 @@ pub entry-none : (key : ℕ) → entryOf (entryBytes none key) ≡ Vacant
 unfolding entryBytes entryOf same
 entry-none key = refl
 
+-- the numbers of an entry that is not vacant are read as a pair
+abbrev entryWith : ℕ → ℕ → Entry
+entryWith page key = cond (leb page lastPage && leb key lastPosition) (At page key) Misspelt
+
+pub entry-by-pair : (xs : List ℕ) → same xs vacantEntry ≡ false → entryOf xs ≡ pairThen (pairIn (part xs 0 4) (part xs 4 4)) Misspelt entryWith
+unfolding entryOf
+entry-by-pair xs e = rw e (pair-then (part xs 0 4) (part xs 4 4) Misspelt entryWith)
+
 -- one spelling: what is read as an entry is that entry's bytes, and no others
 abbrev read : Bool → Number → Number → Entry
-read b m n = cond b Vacant (numberThen m Misspelt λ page. numberThen n Misspelt λ key. cond (leb page lastPage && leb key lastPosition) (At page key) Misspelt)
+read b m n = cond b Vacant (numberThen m Misspelt λ page. numberThen n Misspelt λ key. entryWith page key)
 
 module _ (xs : List ℕ) where
   pub entry-is : (page key : ℕ) → length xs ≡ entrySize → entryOf xs ≡ At page key

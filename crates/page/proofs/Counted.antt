@@ -1,15 +1,16 @@
--- Laws of columns that hold a number from 1 on: after the spaces a digit that is not 0, then digits only.
+-- Laws of columns that hold a number: after the spaces a digit that is not 0, then digits only, or a last 0.
 use Prim.Native.Nat.{ℕ, zero, suc, _+_, _*_, _-_, _/_, _%_, _^_, _<_, _≤_}
 use native.Mathlib.Omega.{arith}
 use native.Mathlib.Nat.{pow-suc, zero-add}
+use native.Mathlib.Decide.{ℕ-discrete}
 use mathlib.Core.Path.{_≡_, refl, sym, ap, subst, _∙_}
-use mathlib.Core.List.{List, [], _∷_}
+use mathlib.Core.List.{List, [], _∷_, _++_}
 use mathlib.Core.Bool.{Bool, true, false, cond, _&&_}
-use lib.ListN.{length}
+use lib.ListN.{length, getD, replicate}
 use lib.Dec.{eqb, leb}
-use borrow.Author.Tests.{eqb-true, eqb-false, leb-true, le-leb, ne-eqb}
-use Rattle.base.specs.Each.{Each, same}
-use Rattle.base.proofs.Choice.{and-true, and-intro, true-false, both-ways}
+use borrow.Author.Tests.{eqb-true, eqb-false, eq-eqb, leb-true, le-leb, ne-eqb}
+use Rattle.base.specs.Each.{same}
+use Rattle.base.proofs.Choice.{and-true, and-intro, and-passed, true-false, both-ways}
 use Rattle.base.proofs.Eachs.{same-true, same-refl}
 use Rattle.page.specs.Frame.{space}
 use Rattle.page.specs.Column.{zeroDigit, column, columns, spell, digit, isDigit, valueAfter, numberIn, numberThen}
@@ -114,47 +115,106 @@ spell-from-one (suc w) n h k =
     let l : n < 10 ^ w * 10 = rw pow-suc at k in
     rw e (columns-from-one w (n / 10) _ (omega arith) (after-digit n [] h refl))
 
--- ---- both ways
--- a number from 1 on is read
-pub read-from-one : (cs : List ℕ) → fromOne cs ≡ true → (numberIn cs ≡ Is (valueAfter 0 cs)) × (1 ≤ valueAfter 0 cs)
-unfolding numberIn columns
-read-from-one cs h =
+-- ---- columns that hold a number
+-- whether columns are the spelling of their value
+unfoldable pub spelt : List ℕ → Bool
+spelt cs = same (spell (length cs) (valueAfter 0 cs)) cs
+
+pub read : (cs : List ℕ) → numberIn cs ≡ cond (spelt cs) (Is (valueAfter 0 cs)) Misspelt
+unfolding numberIn spelt
+read cs = refl
+
+spelt-true : (cs : List ℕ) → spelt cs ≡ true → spell (length cs) (valueAfter 0 cs) ≡ cs
+unfolding spelt
+spelt-true cs t = same-true (spell (length cs) (valueAfter 0 cs)) cs t
+
+value-fits : (cs : List ℕ) → valueAfter 0 cs < 10 ^ length cs
+value-fits cs = subst (λ (k : ℕ). valueAfter 0 cs < 10 ^ k) (zero-add (length cs)) (value-lt cs 0 0 (omega arith))
+
+-- from 1 on
+spelt-from-one : (cs : List ℕ) → fromOne cs ≡ true → (spelt cs ≡ true) × (1 ≤ valueAfter 0 cs)
+unfolding spelt columns
+spelt-from-one cs h =
     let r = one-spelt cs 0 h in
     let e : spell (length cs) (valueAfter 0 cs) ≡ cs = sym (rw zero-add at (r .0)) in
     (rw (e, same-refl cs), r .1)
 
+from-one-spelt : (cs : List ℕ) → spelt cs ≡ true → 1 ≤ valueAfter 0 cs → fromOne cs ≡ true
+from-one-spelt cs t h =
+    let v = valueAfter 0 cs in
+    subst (λ (l : List ℕ). fromOne l ≡ true) (spelt-true cs t) (spell-from-one (length cs) v h (value-fits cs))
+
+pub read-from-one : (cs : List ℕ) → fromOne cs ≡ true → numberIn cs ≡ Is (valueAfter 0 cs)
+read-from-one cs h = read cs ∙ rw (spelt-from-one cs h .0)
+
 pub counted : (cs : List ℕ) → numberThen (numberIn cs) false (leb 1) ≡ fromOne cs
-unfolding numberIn
 counted cs =
-    both-ways _ _ (λ t. go (same (spell (length cs) (valueAfter 0 cs)) cs) refl t)
-    (λ t. let r = read-from-one cs t in rw (r .0) (le-leb 1 (valueAfter 0 cs) (r .1)))
+    both-ways _ _ (λ t. go (spelt cs) refl (rw read at t))
+    (λ t. rw (read-from-one cs t) (le-leb 1 (valueAfter 0 cs) (spelt-from-one cs t .1)))
   where
-    go : (b : Bool) → same (spell (length cs) (valueAfter 0 cs)) cs ≡ b → numberThen (cond b (Is (valueAfter 0 cs)) Misspelt) false (leb 1) ≡ true → fromOne cs ≡ true
-    go true e t =
-        let v = valueAfter 0 cs in
-        subst (λ (l : List ℕ). fromOne l ≡ true) (same-true (spell (length cs) v) cs e)
-        (spell-from-one (length cs) v (leb-true 1 v t) (subst (λ (k : ℕ). v < 10 ^ k) (zero-add (length cs)) (value-lt cs 0 0 (omega arith))))
+    go : (b : Bool) → spelt cs ≡ b → numberThen (cond b (Is (valueAfter 0 cs)) Misspelt) false (leb 1) ≡ true → fromOne cs ≡ true
+    go true e t = from-one-spelt cs e (leb-true 1 (valueAfter 0 cs) t)
     go false e t = absurd (true-false t refl)
 
--- ---- a digit's value is its lower half, and a space's lower half is 0
-abbrev pub Low : List ℕ → Type 0
-Low cs = Each (λ (c : ℕ). c % 16 ≡ digit c) cs
+-- ---- spaces before such columns
+columns-wider : (i m : ℕ) (t : List ℕ) → m < 10 ^ i → columns (suc i) m t ≡ space ∷ columns i m t
+unfolding columns
+columns-wider zero m t h = let z : m ≡ 0 = omega arith in rw z
+columns-wider (suc i) m t h =
+    let k : m < 10 ^ i * 10 = rw pow-suc at h in
+    columns-wider i (m / 10) (column m ∷ t) (omega arith)
 
-low-digit : (c : ℕ) → isDigit c ≡ true → c % 16 ≡ digit c
-low-digit c h = omega (arith, digit-lt c, digit-byte c h)
+spell-wider : (w n : ℕ) → n < 10 ^ suc w → spell (suc (suc w)) n ≡ space ∷ spell (suc w) n
+unfolding spell
+spell-wider w n h =
+    let k : n < 10 ^ w * 10 = rw pow-suc at h in
+    let e : suc (suc w) - 1 ≡ suc w = omega arith in
+    let f : suc w - 1 ≡ w = omega arith in
+    rw (e, f) (columns-wider w (n / 10) ((zeroDigit + n % 10) ∷ []) (omega arith))
 
-low-digits : (cs : List ℕ) → allDigits cs ≡ true → Low cs
-unfolding allDigits
-low-digits [] h = tt
-low-digits (c ∷ cs) h = let a = and-true (isDigit c) (allDigits cs) h in (low-digit c (a .0), low-digits cs (a .1))
+spelt-space : (c : ℕ) (cs : List ℕ) → spelt (space ∷ c ∷ cs) ≡ spelt (c ∷ cs)
+unfolding spelt valueAfter same
+spelt-space c cs = rw (spell-wider (length cs) (valueAfter 0 (c ∷ cs)) (value-fits (c ∷ cs)))
 
-pub low-from-one : (cs : List ℕ) → fromOne cs ≡ true → Low cs
+pub number-space : (c : ℕ) (cs : List ℕ) → numberIn (space ∷ c ∷ cs) ≡ numberIn (c ∷ cs)
+unfolding valueAfter
+number-space c cs = read (space ∷ c ∷ cs) ∙ rw (spelt-space c cs) (sym (read (c ∷ cs)))
+
+pub number-spaces : (k c : ℕ) (cs : List ℕ) → numberIn (replicate k space ++ (c ∷ cs)) ≡ numberIn (c ∷ cs)
+number-spaces zero c cs = refl
+number-spaces (suc zero) c cs = number-space c cs
+number-spaces (suc (suc k)) c cs = number-space space (replicate k space ++ (c ∷ cs)) ∙ number-spaces (suc k) c cs
+
+-- ---- column by column
+-- the last is a digit
+pub spelt-last : (c : ℕ) → spelt (c ∷ []) ≡ isDigit c
+unfolding spelt spell columns valueAfter same
+spelt-last c =
+    rw (zero-add (digit c), and-passed (eqb (zeroDigit + digit c % 10) c))
+    (both-ways _ _
+    (λ t. subst (λ (b : ℕ). isDigit b ≡ true) (eqb-true (zeroDigit + digit c % 10) c t) (digit-is (digit c % 10) (omega arith)))
+    (λ t. eq-eqb (zeroDigit + digit c % 10) c (omega (arith, digit-lt c, digit-byte c t))))
+
+-- 0 in more columns than one starts with a space
+zero-first : (c d : ℕ) (cs : List ℕ) → spelt (c ∷ d ∷ cs) ≡ true → valueAfter 0 (c ∷ d ∷ cs) ≡ 0 → c ≡ space
+zero-first c d cs t z =
+    let e : spell (suc (suc (length cs))) 0 ≡ c ∷ d ∷ cs = rw z at (spelt-true (c ∷ d ∷ cs) t) in
+    ap (λ (l : List ℕ). getD l 0 0) (sym e ∙ spell-wider (length cs) 0 (omega (arith, value-fits (d ∷ cs))))
+
+spelt-first : (c d : ℕ) (cs : List ℕ) → eqb c space ≡ false → spelt (c ∷ d ∷ cs) ≡ isFirst c && allDigits (d ∷ cs)
 unfolding fromOne
-low-from-one [] h = tt
-low-from-one (c ∷ cs) h = go (eqb c space) refl h (low-from-one cs)
+spelt-first c d cs e =
+    let v = valueAfter 0 (c ∷ d ∷ cs) in
+    let some : spelt (c ∷ d ∷ cs) ≡ true → 1 ≤ v =
+    λ t. elim (ℕ-discrete v 0) [ yes z ↦ absurd (eqb-false c space e (zero-first c d cs t z)) | no z ↦ omega arith ] in
+    let f : spelt (c ∷ d ∷ cs) ≡ fromOne (c ∷ d ∷ cs) =
+    both-ways _ _ (λ t. from-one-spelt (c ∷ d ∷ cs) t (some t)) (λ t. spelt-from-one (c ∷ d ∷ cs) t .0) in
+    rw e at f
+
+-- before it a space, or a digit that is not 0 and then digits
+pub spelt-more : (c d : ℕ) (cs : List ℕ) → spelt (c ∷ d ∷ cs) ≡ cond (eqb c space) (spelt (d ∷ cs)) (isFirst c && allDigits (d ∷ cs))
+spelt-more c d cs = go (eqb c space) refl
   where
-    go : (z : Bool) → eqb c space ≡ z → cond z (fromOne cs) (isFirst c && allDigits cs) ≡ true → (fromOne cs ≡ true → Low cs) → Low (c ∷ cs)
-    go true e k ih = (rw (eqb-true c space e), ih k)
-    go false e k ih =
-        let a = and-true (isFirst c) (allDigits cs) k in
-        (low-digit c (and-true (isDigit c) (leb 1 (digit c)) (a .0) .0), low-digits cs (a .1))
+    go : (z : Bool) → eqb c space ≡ z → spelt (c ∷ d ∷ cs) ≡ cond z (spelt (d ∷ cs)) (isFirst c && allDigits (d ∷ cs))
+    go true e = rw (eqb-true c space e) (spelt-space d cs)
+    go false e = spelt-first c d cs e

@@ -34,17 +34,17 @@ unfoldable pub over : ℕ → ℕ
 over x = bitAnd (bitOr (rest x) (bitAnd (rest x) 0x0f + 0x06)) 0xf0
 
 -- the bit of the mark where the rest, less 1, changes it
-abbrev change : ℕ → ℕ
+abbrev pub change : ℕ → ℕ
 change d = bitAnd (bitXor d (d - 1)) 0x10
 
-are-same : (a b : Bool) → Bool·beq a b ≡ true → a ≡ b
+pub are-same : (a b : Bool) → Bool·beq a b ≡ true → a ≡ b
 are-same true true h = refl
 are-same true false h = absurd (true-false h refl)
 are-same false true h = absurd (true-false h refl)
 are-same false false h = refl
 
 -- a test of a byte, computed for all of them
-byte-rule : (f : ℕ → Bool) → T (every (λ k x. f k) 0 (replicate 256 0)) → (k : ℕ) → k < 256 → f k ≡ true
+pub byte-rule : (f : ℕ → Bool) → T (every (λ k x. f k) 0 (replicate 256 0)) → (k : ℕ) → k < 256 → f k ≡ true
 byte-rule f t k h = is-true (f k) (table-rule (λ k x. f k) (replicate 256 0) t k h)
 
 digitTest : ℕ → Bool
@@ -74,7 +74,7 @@ module _ (x : ℕ) (h : x < 256) where
   rest-rule = byte-rule restTest tt x h
 
   -- no rest: a space or 0
-  none-rule : rest x ≡ 0 → (over x ≡ 0) × (eqb (mark x) 0x10 ≡ eqb x space) × (isFirst x ≡ false)
+  pub none-rule : rest x ≡ 0 → (over x ≡ 0) × (eqb (mark x) 0x10 ≡ eqb x space) × (isFirst x ≡ false)
   unfolding restTest noneTest
   none-rule z =
       let t = rw (eq-eqb (rest x) 0 z) at rest-rule in
@@ -83,7 +83,7 @@ module _ (x : ℕ) (h : x < 256) where
       (eqb-true (over x) 0 (u .0), are-same _ _ (w .0), not-true (isFirst x) (w .1))
 
   -- a rest: no space, and a digit where the mark is none and the rest at most 9
-  some-rule : (rest x ≡ 0 → ⊥) → (eqb x space ≡ false) × (eqb (over x) 0 && eqb (mark x) (change (rest x)) ≡ isFirst x)
+  pub some-rule : (rest x ≡ 0 → ⊥) → (eqb x space ≡ false) × (eqb (over x) 0 && eqb (mark x) (change (rest x)) ≡ isFirst x)
   unfolding restTest someTest
   some-rule z =
       let t = rw (ne-eqb (rest x) 0 z) at rest-rule in
@@ -92,22 +92,22 @@ module _ (x : ℕ) (h : x < 256) where
 
 -- ---- columns side by side
 -- what each gives is a byte
-mark-byte : (x : ℕ) → x < 256 → mark x < 256
+pub mark-byte : (x : ℕ) → x < 256 → mark x < 256
 unfolding mark
 mark-byte x h = and-lt 8 (bitXor x 0x30) 0x10 (xor-lt 8 x 0x30 h (omega arith)) (omega arith)
 
-rest-byte : (x : ℕ) → x < 256 → rest x < 256
+pub rest-byte : (x : ℕ) → x < 256 → rest x < 256
 unfolding rest
 rest-byte x h = xor-lt 8 (bitXor x 0x30) (mark x) (xor-lt 8 x 0x30 h (omega arith)) (mark-byte x h)
 
 sum-byte : (x : ℕ) → x < 256 → bitAnd (rest x) 0x0f + 0x06 < 256
 sum-byte x h = omega (arith, and-le-r (rest x) 0x0f)
 
-over-byte : (x : ℕ) → x < 256 → over x < 256
+pub over-byte : (x : ℕ) → x < 256 → over x < 256
 unfolding over
 over-byte x h = omega (arith, and-le-r (bitOr (rest x) (bitAnd (rest x) 0x0f + 0x06)) 0xf0)
 
-and-cross : (a b c d : Bool) → (a && b) && (c && d) ≡ (b && d) && (a && c)
+pub and-cross : (a b c d : Bool) → (a && b) && (c && d) ≡ (b && d) && (a && c)
 and-cross true b c d = and-flip b c d
   where
     and-flip : (b c d : Bool) → b && (c && d) ≡ (b && d) && c
@@ -120,11 +120,11 @@ and-cross false true c false = refl
 and-cross false false c d = refl
 
 -- all are digits
-digits-side-by-side : (xs : List ℕ) → Bytes xs → eqb (lanes 8 over xs) 0 && eqb (lanes 8 mark xs) 0 ≡ allDigits xs
+pub digits-side-by-side : (xs : List ℕ) → Bytes xs → eqb (lanes 8 over xs) 0 && eqb (lanes 8 mark xs) 0 ≡ allDigits xs
 unfolding lanes allDigits
 digits-side-by-side [] b = refl
 digits-side-by-side (x ∷ xs) b =
-    rw (low-decides (lanes 8 over xs) 0 (over x) 0 (over-byte x (b .0)) (omega arith), low-decides (lanes 8 mark xs) 0 (mark x) 0 (mark-byte x (b .0)) (omega arith))
+    rw (low-decides 256 (lanes 8 over xs) 0 (over x) 0 (over-byte x (b .0)) (omega arith), low-decides 256 (lanes 8 mark xs) 0 (mark x) 0 (mark-byte x (b .0)) (omega arith))
     (and-cross (eqb (lanes 8 over xs) 0) (eqb (over x) 0) (eqb (lanes 8 mark xs) 0) (eqb (mark x) 0)
     ∙ rw (digit-rule x (b .0), digits-side-by-side xs (b .1)))
 
@@ -142,10 +142,10 @@ change-here d c m g h =
     (and-block 8 0 m (bitXor c (c - 1)) 0x10 (xor-lt 8 c (c - 1) h (omega arith)) (omega arith) ∙ zero-add (change c))
 
 -- the test of a word, by its rests, marks and what is over in each, and a mark in each
-abbrev test : ℕ → ℕ → ℕ → ℕ → Bool
+abbrev pub test : ℕ → ℕ → ℕ → ℕ → Bool
 test d s o m = cond (eqb d 0) false (eqb o 0 && eqb s (bitAnd (bitXor d (d - 1)) m))
 
-test-some : (d s o m : ℕ) → 1 ≤ d → test d s o m ≡ (eqb o 0 && eqb s (bitAnd (bitXor d (d - 1)) m))
+pub test-some : (d s o m : ℕ) → 1 ≤ d → test d s o m ≡ (eqb o 0 && eqb s (bitAnd (bitXor d (d - 1)) m))
 test-some d s o m h = rw (ne-eqb d 0 (λ e. omega arith))
 
 test-none : (d s o m : ℕ) → d ≡ 0 → test d s o m ≡ false
@@ -170,7 +170,7 @@ module _ (d s o m r k v : ℕ) (fit : (r < 256) × (k < 256) × (v < 256)) (one 
   more-above z n =
       let p = none z in
       test-some (d * 256 + r) (s * 256 + k) (o * 256 + v) (m * 256 + 0x10) (omega arith)
-      ∙ rw (z, change-above d m n, p .0, low-decides o 0 0 0 (omega arith) (omega arith), low-decides s (bitAnd (bitXor d (d - 1)) m) k 0x10 (fit .1) (omega arith), p .1, p .2, ← e, test-some d s o m n)
+      ∙ rw (z, change-above d m n, p .0, low-decides 256 o 0 0 0 (omega arith) (omega arith), low-decides 256 s (bitAnd (bitXor d (d - 1)) m) k 0x10 (fit .1) (omega arith), p .1, p .2, ← e, test-some d s o m n)
       (go blank (eqb o 0) (eqb s (bitAnd (bitXor d (d - 1)) m)))
     where
       go : (b x y : Bool) → (x && true) && (y && b) ≡ cond b (x && y) false
@@ -184,12 +184,12 @@ module _ (d s o m r k v : ℕ) (fit : (r < 256) × (k < 256) × (v < 256)) (one 
   more-here z =
       let p = some z in
       let q : eqb (s * 256 + k) (change r) ≡ (eqb s 0 && eqb k (change r)) =
-      ap (eqb (s * 256 + k)) (sym (zero-add (change r))) ∙ low-decides s 0 k (change r) (fit .1) (omega (arith, and-le-r (bitXor r (r - 1)) 0x10)) in
+      ap (eqb (s * 256 + k)) (sym (zero-add (change r))) ∙ low-decides 256 s 0 k (change r) (fit .1) (omega (arith, and-le-r (bitXor r (r - 1)) 0x10)) in
       test-some (d * 256 + r) (s * 256 + k) (o * 256 + v) (m * 256 + 0x10) (omega arith)
-      ∙ rw (change-here d r m (omega arith) (fit .0), low-decides o 0 v 0 (fit .2) (omega arith), q, p .0)
+      ∙ rw (change-here d r m (omega arith) (fit .0), low-decides 256 o 0 v 0 (fit .2) (omega arith), q, p .0)
       (and-cross (eqb o 0) (eqb v 0) (eqb s 0) (eqb k (change r)) ∙ rw (p .1, a))
 
-  more-columns : more ≡ cond blank one (first && all)
+  pub more-columns : more ≡ cond blank one (first && all)
   more-columns =
       elim (ℕ-discrete r 0) [
         | yes z ↦ elim (ℕ-discrete d 0) [ yes n ↦ more-none z n | no n ↦ more-above z (omega arith) ]
@@ -212,13 +212,13 @@ unfolding lanes wordBytes
 in-each c v = omega arith
 
 -- what the code makes of a word
-abbrev marksIn : ℕ → ℕ
+abbrev pub marksIn : ℕ → ℕ
 marksIn v = bitAnd (bitXor v 0x3030303030303030) 0x1010101010101010
 
 abbrev pub restsIn : ℕ → ℕ
 restsIn v = bitXor (bitXor v 0x3030303030303030) (marksIn v)
 
-abbrev overIn : ℕ → ℕ
+abbrev pub overIn : ℕ → ℕ
 overIn d = bitAnd (bitOr d (bitAnd d 0x0f0f0f0f0f0f0f0f + 0x0606060606060606)) 0xf0f0f0f0f0f0f0f0
 
 module _ (v : ℕ) (h : v < 0x10000000000000000) where
@@ -239,16 +239,16 @@ module _ (v : ℕ) (h : v < 0x10000000000000000) where
       ap₂ bitXor (sym (word-lanes 8 v h)) (sym (in-each 0x30 v))
       ∙ xor-lanes 8 (λ x. x) (λ x. 0x30) (λ x l. l) (λ x l. omega arith) bytes fit
 
-  marks-in : marksIn v ≡ lanes 8 mark bytes
+  pub marks-in : marksIn v ≡ lanes 8 mark bytes
   unfolding mark
   marks-in =
       ap₂ bitAnd flipped-in (sym (in-each 0x10 v)) ∙ and-lanes 8 flipped (λ x. 0x10) flipped-byte (λ x l. omega arith) bytes fit
 
-  rests-in : restsIn v ≡ lanes 8 rest bytes
+  pub rests-in : restsIn v ≡ lanes 8 rest bytes
   unfolding rest
   rests-in = ap₂ bitXor flipped-in marks-in ∙ xor-lanes 8 flipped mark flipped-byte mark-byte bytes fit
 
-  over-in : overIn (restsIn v) ≡ lanes 8 over bytes
+  pub over-in : overIn (restsIn v) ≡ lanes 8 over bytes
   unfolding over
   over-in =
       let low = ap₂ bitAnd rests-in (sym (in-each 0x0f v)) ∙ and-lanes 8 rest (λ x. 0x0f) rest-byte (λ x l. omega arith) bytes fit in

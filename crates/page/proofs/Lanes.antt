@@ -2,10 +2,11 @@
 use Prim.Native.Nat.{ℕ, zero, suc, _+_, _*_, _-_, _/_, _%_, _^_, _<_, _≤_}
 use native.Mathlib.Omega.{arith}
 use native.Mathlib.Nat.{pow-suc, add-mul, pow-le-pow-right}
-use mathlib.Core.Path.{_≡_, refl, ap, ap₂, _∙_}
+use mathlib.Core.Path.{_≡_, refl, sym, ap, ap₂, _∙_}
 use mathlib.Core.List.{List, [], _∷_}
 use mathlib.Core.Bool.{_&&_}
 use lib.Bits.{bitAnd, bitOr, bitXor, and-block, or-block, xor-block, and-mask}
+use lib.Arith.{digits-div, digits-mod}
 use lib.Dec.{eqb}
 use lib.Pow.{pow-pos}
 use borrow.Author.Tests.{eqb-true, eq-eqb}
@@ -26,7 +27,7 @@ Fit k xs = Each (λ (x : ℕ). x < 2 ^ k) xs
 abbrev Apart : (ℕ → ℕ → ℕ) → Type 0
 Apart op = (k a b r s : ℕ) → r < 2 ^ k → s < 2 ^ k → op (a * 2 ^ k + r) (b * 2 ^ k + s) ≡ op a b * 2 ^ k + op r s
 
-abbrev Keeps : ℕ → (ℕ → ℕ) → Type 0
+abbrev pub Keeps : ℕ → (ℕ → ℕ) → Type 0
 Keeps k f = (x : ℕ) → x < 2 ^ k → f x < 2 ^ k
 
 op-lanes : (op : ℕ → ℕ → ℕ) → Apart op → op 0 0 ≡ 0 → (k : ℕ) (f g : ℕ → ℕ) → Keeps k f → Keeps k g → (xs : List ℕ) → Fit k xs → op (lanes k f xs) (lanes k g xs) ≡ lanes k (λ x. op (f x) (g x)) xs
@@ -60,6 +61,12 @@ mask-lanes k j h (x ∷ xs) b =
     and-block k (lanes k (λ x. x) xs) (lanes k (λ x. 2 ^ j - 1) xs) x (2 ^ j - 1) (b .0) (omega (arith, pow-pos j, pow-le-pow-right {n = 2} (omega arith) {i = j} {j = k} h))
     ∙ ap₂ (λ (m n : ℕ). m * 2 ^ k + n) (mask-lanes k j h xs (b .1)) (and-mask x j)
 
+-- functions that are the same of each element
+pub lanes-same : (k : ℕ) (f g : ℕ → ℕ) (xs : List ℕ) → Each (λ (x : ℕ). f x ≡ g x) xs → lanes k f xs ≡ lanes k g xs
+unfolding lanes
+lanes-same k f g [] e = refl
+lanes-same k f g (x ∷ xs) e = ap₂ (λ (m n : ℕ). m * 2 ^ k + n) (lanes-same k f g xs (e .1)) (e .0)
+
 -- ---- words
 pub word-lanes : (n v : ℕ) → v < 256 ^ n → lanes 8 (λ x. x) (wordBytes n v) ≡ v
 unfolding lanes wordBytes
@@ -73,11 +80,14 @@ unfolding wordBytes
 bytes-word zero v = tt
 bytes-word (suc n) v = (omega arith, bytes-word n (v / 256))
 
--- two numbers are the same where their lowest bytes and the rest are
-pub low-decides : (a b r s : ℕ) → r < 256 → s < 256 → eqb (a * 256 + r) (b * 256 + s) ≡ eqb a b && eqb r s
-low-decides a b r s g h =
+-- two numbers are the same where what is below p of them, and the rest, are
+pub low-decides : (p a b r s : ℕ) → r < p → s < p → eqb (a * p + r) (b * p + s) ≡ eqb a b && eqb r s
+low-decides p a b r s g h =
     both-ways _ _
-    (λ t. let e = eqb-true (a * 256 + r) (b * 256 + s) t in and-intro _ _ (eq-eqb a b (omega arith)) (eq-eqb r s (omega arith)))
+    (λ t.
+    let e = eqb-true (a * p + r) (b * p + s) t in
+    and-intro _ _ (eq-eqb a b (sym (digits-div a g) ∙ ap (λ (n : ℕ). n / p) e ∙ digits-div b h))
+    (eq-eqb r s (sym (digits-mod a g) ∙ ap (λ (n : ℕ). n % p) e ∙ digits-mod b h)))
     (λ t.
     let u = and-true (eqb a b) (eqb r s) t in
-    eq-eqb (a * 256 + r) (b * 256 + s) (omega (arith, eqb-true a b (u .0), eqb-true r s (u .1))))
+    eq-eqb (a * p + r) (b * p + s) (rw (eqb-true a b (u .0), eqb-true r s (u .1))))

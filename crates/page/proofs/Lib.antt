@@ -1,7 +1,7 @@
 -- Laws of the definitions of specs/.
 --   Slices        parts of lists that are joined, and parts that are lent
 --   Column        decimal columns: what is written is what is read, and a number has one spelling
---   Counted       columns that hold a number from 1 on: spaces, a digit that is not 0, digits
+--   Counted       columns that hold a number: spaces, a digit that is not 0, digits, or a last 0
 --   Plans         the file plan: a node has one place, and a place one node
 --   Ranges        the ranges of a header's fields for each kind, and that there are four kinds
 --   HeaderLaws    headers: what is written is what is read, and a header has one spelling
@@ -14,6 +14,7 @@
 --   Lanes         numbers made of lanes: operations that work on each lane apart
 --   CountedWords  eight columns as one word: whether they hold a number from 1 on
 --   ColumnValues  eight columns as one word: the number that they hold
+--   Pairs         four columns and four more as one word: the numbers that they hold
 --   HeaderTests   headers and pages held against fields that they must have, byte for byte
 --   HeaderParts   headers compared in parts of eight, four and two bytes
 --   Repeats       lists that are their first elements again and again
@@ -32,6 +33,7 @@ pub mod Spellings
 pub mod Lanes
 pub mod CountedWords
 pub mod ColumnValues
+pub mod Pairs
 pub mod HeaderTests
 pub mod HeaderParts
 pub mod Repeats

@@ -27,7 +27,7 @@ returns-3 : tie.Need-returns-3
 returns-3 c =
     let xs = wordBytes 8 (c .before .before .before .before .args .v) in
     let t = sym (c .before .before .is-counted .ensures) ∙ not-false _ (c .before .if2 .left) in
-    ap Is (c .value-of .ensures) ∙ sym (read-from-one xs (sym (counted xs) ∙ t) .0)
+    ap Is (c .value-of .ensures) ∙ sym (read-from-one xs (sym (counted xs) ∙ t))
 
 pub number-of-spec : {M : Type 1} → statement M
 number-of-spec =

@@ -1,10 +1,13 @@
 -- `look::event_form_at` is `event_form` of the page's bytes.
-use Prim.Native.Nat.{_*_}
+use Prim.Native.Nat.{ℕ, _*_}
 use native.Mathlib.Omega.{arith}
 use native.Mathlib.Nat.{add-zero}
 use mathlib.Core.Path.{ap, _∙_}
+use mathlib.Core.List.{List}
+use lib.ListN.{getD}
 use denote.Ref.{now}
-use Rattle.base.proofs.Parts.{mid-length, part-at}
+use Rattle.base.proofs.Parts.{part-at}
+use Rattle.page.specs.Header.{isEventLetter}
 use Rattle.page.specs.Form.{formOf}
 use Rattle.page.proofs.Slices.{lent-part}
 use Rattle.image.specs.Look.{pageAt, formAt}
@@ -32,7 +35,11 @@ event-form-requires c κs =
     let s = c .before .before in
     let image = now (s .args .image) in
     let at = s .args .g * 256 in
-    (search needs, rw (lent-part image at 256, part-at image at 256 0 0 (omega arith), add-zero) (s .pre .1))
+    let letter =
+    ap (λ (xs : List ℕ). getD xs 0 0) (lent-part image at 256)
+    ∙ part-at image at 256 0 0 (omega arith)
+    ∙ ap (λ (i : ℕ). getD image i 0) (add-zero at) in
+    (search needs, ap isEventLetter letter ∙ s .pre .1)
 
 returns : tie.Need-returns
 unfolding formAt pageAt

@@ -11,12 +11,12 @@ use borrow.Author.Tests.{leb-false}
 use Rattle.base.specs.Part.{part}
 use Rattle.base.specs.Each.{Each, same}
 use Rattle.page.specs.Frame.{space}
-use Rattle.page.specs.Column.{columns, spell, digit, valueAfter, numberIn, numberThen}
+use Rattle.page.specs.Column.{columns, spell, digit, valueAfter, numberIn, numberThen, pairIn}
 use Rattle.page.specs.declared.Number.{Number}
 use Rattle.page.specs.declared.Number.the-variants.{Is, Misspelt}
 use Rattle.page.specs.Word.{wordBytes}
 use Rattle.page.proofs.Column.{digit-lt, digit-of-digit, number-is, each-read, value-lt}
-use Rattle.page.proofs.Counted.{counted, read-from-one, number-spaces}
+use Rattle.page.proofs.Counted.{counted, read-from-one, number-space, number-spaces}
 use Rattle.page.proofs.WordLaws.{word-is, part-three, part-four}
 use Rattle.page.proofs.Lanes.{lanes, mask-lanes, lanes-same, word-lanes, bytes-word}
 
@@ -202,3 +202,15 @@ module _ (xs : List ℕ) (at v w : ℕ) (e : wordBytes 8 v ≡ wordBytes 4 0x202
   pub number-three : at + 3 ≤ length xs → wordBytes 4 w ≡ space ∷ getD xs at 0 ∷ getD xs (at + 1) 0 ∷ getD xs (at + 2) 0 ∷ [] → numberIn (wordBytes 8 v) ≡ numberIn (part xs at 3)
   unfolding wordBytes
   number-three h f = rw (e, f, part-three xs at h) (number-spaces 5 (getD xs at 0) (getD xs (at + 1) 0 ∷ getD xs (at + 2) 0 ∷ []))
+
+-- ---- two numbers in words of four columns
+-- the number 0 in four columns
+pub spelt-zero-four : wordBytes 4 0x30202020 ≡ spell 4 0
+unfolding wordBytes spell columns
+spelt-zero-four = refl
+
+-- of the first only three columns are of a list, with a space before them
+pub pair-three : (xs ys : List ℕ) (at v : ℕ) → at + 3 ≤ length xs → wordBytes 4 v ≡ space ∷ getD xs at 0 ∷ getD xs (at + 1) 0 ∷ getD xs (at + 2) 0 ∷ []
+    → pairIn (wordBytes 4 v) ys ≡ pairIn (part xs at 3) ys
+unfolding pairIn
+pair-three xs ys at v h e = rw (e, part-three xs at h, number-space (getD xs at 0) (getD xs (at + 1) 0 ∷ getD xs (at + 2) 0 ∷ []))

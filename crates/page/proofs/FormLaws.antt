@@ -4,18 +4,18 @@ use native.Mathlib.Omega.{arith}
 use native.Mathlib.Decide.{decLt, ℕ-discrete}
 use mathlib.Core.Path.{_≡_, refl, sym, ap, _∙_}
 use mathlib.Core.Logic.{_⊎_, inl, inr, _↔_}
-use mathlib.Core.Bool.{Bool, true, false, cond}
+use mathlib.Core.Bool.{Bool, true, false, cond, _&&_}
 use mathlib.Core.List.{List, [], _∷_, _++_}
 use lib.ListN.{length, getD, replicate, length-replicate}
 use lib.Dec.{eqb, ltb}
 use borrow.Author.Tests.{eqb-true, eq-eqb, ne-eqb, lt-ltb, le-ltb}
 use Rattle.base.specs.Part.{part}
 use Rattle.base.specs.Each.{same, allAre}
-use Rattle.base.proofs.Choice.{and-true}
+use Rattle.base.proofs.Choice.{and-true, true-false}
 use Rattle.base.proofs.Parts.{part-part, part-length}
 use Rattle.base.proofs.Eachs.{same-true, same-refl, same-false, allAre-true, allAre-replicate}
 use Rattle.page.specs.Frame.{headerSize, payloadSize, closingSize, pageSize, closingAt, erased, closing, space}
-use Rattle.page.specs.Header.{nodeLetter, cutOffLetter, keysLetter, commitLetter, nodeFrame, cutOffFrame, keysFrame, commitFrame, inRange, headerBytes, headerOf}
+use Rattle.page.specs.Header.{nodeLetter, cutOffLetter, keysLetter, commitLetter, nodeFrame, cutOffFrame, keysFrame, commitFrame, inRange, headerBytes, isEventLetter, headerOf}
 use Rattle.page.specs.Form.{isEmpty, closed, formBy, formOf}
 use Rattle.page.specs.Page.{pageBytes, enciphered, nodePage, cutOffPage, keysPage, commitPage, payloadOf, cutPage}
 use Rattle.page.specs.declared.Frame.{Frame}
@@ -124,6 +124,19 @@ empty-form page = (
   λ e. from-empty (headerOf (part page 0 headerSize)) (closed page) (isEmpty page) (sym (form-from page) ∙ e),
   λ e. form-from page ∙ rw (empty-header page e, e),
 )
+
+-- a page that begins with the letter of a node or a cut-off is not empty, so that without a header it is spoilt
+event-used : (page : List ℕ) → isEventLetter (getD page 0 0) ≡ true → isEmpty page ≡ false
+unfolding isEmpty allAre
+event-used [] h = absurd (true-false h refl)
+event-used (x ∷ xs) h = go (eqb x erased) refl
+  where
+    go : (b : Bool) → eqb x erased ≡ b → b && allAre erased xs ≡ false
+    go true e = absurd (true-false (rw (eqb-true x erased e) at h) refl)
+    go false e = refl
+
+pub event-spoilt : (page : List ℕ) → isEventLetter (getD page 0 0) ≡ true → headerOf (part page 0 headerSize) ≡ Invalid → formOf page ≡ Spoilt
+event-spoilt page h e = form-from page ∙ rw (e, event-used page h)
 
 -- ---- the form of what a program leaves
 -- a letter is no erased byte

@@ -10,19 +10,19 @@ use borrow.Rule.Slice.PartMut.{putMid}
 use Rattle.base.specs.Part.{part, splice}
 use Rattle.base.specs.Each.{Bytes, same}
 use Rattle.base.proofs.Parts.{put-next}
-use Rattle.base.proofs.Choice.{and-true}
+use Rattle.base.proofs.Choice.{and-true, true-false}
 use Rattle.base.proofs.Eachs.{same-true, same-refl, each-append}
 use Rattle.page.specs.Frame.{headerSize, colonSpace}
-use Rattle.page.specs.Column.{spell, numberIn, numberThen}
-use Rattle.page.specs.Header.{inRange, headerBytes, isKind, headerOf}
+use Rattle.page.specs.Column.{spell, numberIn, numberThen, pairIn}
+use Rattle.page.specs.Header.{inRange, headerBytes, isKind, isEventLetter, headerOf}
 use Rattle.page.specs.declared.Number.{Number}
 use Rattle.page.specs.declared.Number.the-variants.{Is as IsNumber, Misspelt}
 use Rattle.page.specs.declared.Frame.{Frame}
 use Rattle.page.specs.declared.Header.{Header}
 use Rattle.page.specs.declared.Header.the-variants.{Is, Invalid}
 use Rattle.page.proofs.Slices.{part-front, part-past, part-back}
-use Rattle.page.proofs.Column.{length-spell, number-spell, number-part, bytes-spell}
-use Rattle.page.proofs.Ranges.{other-kind, in-range-fits}
+use Rattle.page.proofs.Column.{length-spell, number-spell, number-part, pairThen, pair-then, bytes-spell}
+use Rattle.page.proofs.Ranges.{other-kind, event-second, in-range-fits}
 
 -- ---- lengths
 module _ (f : Frame) where
@@ -187,6 +187,40 @@ no-kind xs h =
 
 pub no-colon : (xs : List ℕ) → same (part xs 28 2) colonSpace ≡ false → headerOf xs ≡ Invalid
 no-colon xs h = invalid-by xs λ n u p k s. rw h
+
+-- ---- the header of a node or a cut-off: its second number is 0
+pub no-second : (xs : List ℕ) → length xs ≡ headerSize → isEventLetter (getD xs 0 0) ≡ true → same (part xs 20 8) (spell 8 0) ≡ false
+    → headerOf xs ≡ Invalid
+no-second xs l k e = go (headerOf xs) refl
+  where
+    go : (h : Header) → headerOf xs ≡ h → h ≡ Invalid
+    go Invalid q = refl
+    go (Is f) q =
+        let s = header-spelt xs f q in
+        let none : f .second ≡ 0 = event-second f (rw (s .kind) at k) (s .ranges) in
+        absurd (true-false (rw (number-part xs 20 8 (f .second) (omega arith) (s .second), none) (same-refl (spell 8 0))) e)
+
+-- the numbers before it are read by pairs, the key with a spelt 0
+abbrev eventWith : List ℕ → ℕ → ℕ → ℕ → ℕ → ℕ → Header
+eventWith xs number unit part' key second =
+    let f : Frame = record { kind = getD xs 0 0; number = number; unit = unit; part = part'; key = key; second = second } in
+    cond (inRange f) (Is f) Invalid
+
+abbrev pub eventOf : List ℕ → Header
+eventOf xs =
+    numberThen (numberIn (part xs 1 8)) Invalid λ number.
+    pairThen (pairIn (part xs 9 3) (part xs 12 4)) Invalid λ unit part'.
+    pairThen (pairIn (part xs 16 4) (spell 4 0)) Invalid (eventWith xs number unit part')
+
+pub event-read : (xs : List ℕ) → same (part xs 20 8) (spell 8 0) ≡ true → same (part xs 28 2) colonSpace ≡ true → headerOf xs ≡ eventOf xs
+unfolding headerOf
+event-read xs s t =
+    let none : numberIn (part xs 20 8) ≡ numberIn (spell 4 0) =
+    ap numberIn (same-true (part xs 20 8) (spell 8 0) s) ∙ number-spell 8 0 (omega arith) (omega arith) ∙ sym (number-spell 4 0 (omega arith) (omega arith)) in
+    rw (none, t)
+    (λ i.
+    numberThen (numberIn (part xs 1 8)) Invalid λ number.
+    pair-then (part xs 9 3) (part xs 12 4) Invalid (λ unit part'. pair-then (part xs 16 4) (spell 4 0) Invalid (eventWith xs number unit part') i) i)
 
 -- ---- what is written is what is read
 module _ (k : ℕ) (a b c d e g : List ℕ) (la : length a ≡ 8) (lb : length b ≡ 3) (lc : length c ≡ 4) (ld : length d ≡ 4) (le : length e ≡ 8) (lg : length g ≡ 2) where

@@ -8,7 +8,7 @@ use lib.Dec.{eqb, leb, ltb}
 use borrow.Author.Tests.{eqb-true, eq-eqb, leb-true, le-leb, ltb-true, lt-ltb}
 use Rattle.base.proofs.Choice.{and-true, and-intro, true-false}
 use Rattle.page.specs.Plan.{filePlan, lastFile, places, countOf, startOf}
-use Rattle.page.specs.Header.{nodeLetter, cutOffLetter, keysLetter, commitLetter, lastNumber, lastPosition, lastKeyBlock, lastKeyPage, lastPart, within, nodeFrame, cutOffFrame, keysFrame, commitFrame, inPlan, nodeRanges, cutOffRanges, keysRanges, commitRanges, inRange, isKind}
+use Rattle.page.specs.Header.{nodeLetter, cutOffLetter, keysLetter, commitLetter, lastNumber, lastPosition, lastKeyBlock, lastKeyPage, lastPart, within, nodeFrame, cutOffFrame, keysFrame, commitFrame, inPlan, nodeRanges, cutOffRanges, keysRanges, commitRanges, inRange, isKind, isEventLetter}
 use Rattle.page.specs.declared.Frame.{Frame}
 use Rattle.page.proofs.Plans.{place-at, plan-below}
 
@@ -210,6 +210,16 @@ module _ (f : Frame) where
       go false false true d p q r s e = inr (inr (inl (eqb-true (f .kind) keysLetter r)))
       go false false false true p q r s e = inr (inr (inr (eqb-true (f .kind) commitLetter s)))
       go false false false false p q r s e = absurd (true-false e refl)
+
+  -- the second number of a node and of a cut-off is 0
+  pub event-second : isEventLetter (f .kind) ≡ true → inRange f ≡ true → f .second ≡ 0
+  event-second h e = go (kinds e)
+    where
+      go : (f .kind ≡ nodeLetter) ⊎ (f .kind ≡ cutOffLetter) ⊎ (f .kind ≡ keysLetter) ⊎ (f .kind ≡ commitLetter) → f .second ≡ 0
+      go (inl k) = node-range k .0 e .second
+      go (inr (inl k)) = cut-off-range k .0 e .second
+      go (inr (inr (inl k))) = absurd (true-false (rw k at h) refl)
+      go (inr (inr (inr k))) = absurd (true-false (rw k at h) refl)
 
   -- a header in range is that of its kind and fields
   pub node-is : f .kind ≡ nodeLetter → inRange f ≡ true → f ≡ nodeFrame (f .number) (f .unit) (f .part) (f .key)

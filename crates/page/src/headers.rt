@@ -19,7 +19,7 @@ ghost use Rattle.base.specs.Each.{same};
 ghost use Rattle.page.specs.Frame.{headerSize, colonSpace};
 ghost use Rattle.page.specs.Header.{lastNumber, isKind, isEventLetter, kindAt, within, inPlan, nodeRanges, cutOffRanges, keysRanges, commitRanges, inRange, nodeFrame, headerBytes, headerOf, nodeWith, unitAt, unitWidth, partAt, partWidth, withPart, headerLike};
 ghost use Rattle.page.specs.Word.{wordBytes};
-ghost use Rattle.page.specs.Column.{spell};
+ghost use Rattle.page.specs.Column.{spell, pairIn};
 ghost use Rattle.page.specs.declared.Frame.{Frame as HeaderFrame};
 
 // Where the kind letter stands, where each number's columns start, and where colon and space follow them. Number and second
@@ -227,11 +227,19 @@ pub fn read_event(src: &[u8]) -> Header
     let Pair::Are(unit, part) = read_place(src) else {
         return Header::Invalid;
     };
-    let Pair::Are(key, second) = columns::pair_of(words::word4(src, KEY_AT), columns::SPELT_ZERO4) else {
+    let Pair::Are(key, second) = columns::pair_of(words::word4(src, KEY_AT), columns::SPELT_ZERO4)
+    else {
         return Header::Invalid;
     };
     let kind = src[KIND_AT];
-    let f = Frame { kind, number, unit, part, key, second };
+    let f = Frame {
+        kind,
+        number,
+        unit,
+        part,
+        key,
+        second,
+    };
     if event_in_range(f) {
         Header::Is(f)
     } else {

@@ -7,13 +7,17 @@ use mathlib.Core.Path.{_≡_, refl, sym, ap, _∙_}
 use mathlib.Core.Bool.{Bool, true, false, cond}
 use mathlib.Core.List.{List, _++_}
 use lib.Dec.{eqb}
-use lib.ListN.{length, getD, List·getD-append}
+use lib.ListN.{length, getD, replicate, getD-replicate, List·getD-append}
 use lib.Seq.{getD-append-add}
-use borrow.Author.Tests.{le-leb, lt-leb, lt-ltb, eqb-true}
+use borrow.Author.Tests.{le-leb, lt-leb, lt-ltb, le-ltb, eqb-true}
 use Rattle.base.specs.Part.{part}
+use Rattle.base.specs.Search.{allFrom}
+use Rattle.base.specs.Each.{same}
 use Rattle.base.proofs.Parts.{part-length}
+use Rattle.base.proofs.Searches.{all-holds}
 use Rattle.page.specs.Frame.{payloadSize}
-use Rattle.page.specs.Entry.{none, freeLetter, deletedLetter, entrySize, entriesInPart, firstEntryPart, parts, entryPart, entryAt, entryOf}
+use Rattle.page.specs.Plan.{places}
+use Rattle.page.specs.Entry.{none, freeLetter, deletedLetter, entrySize, entriesInPart, firstEntryPart, parts, vacantEntry, entryPart, entryAt, entryOf}
 use Rattle.page.specs.Page.{payloadOf}
 use Rattle.page.specs.declared.Entry.{Entry}
 use Rattle.page.specs.declared.Entry.the-variants.{At as EntryAt, Vacant, Misspelt}
@@ -21,6 +25,7 @@ use Rattle.page.proofs.Commits.{entry-is}
 use Rattle.image.specs.Size.{pagesInBlock}
 use Rattle.image.specs.Look.{pageAt}
 use Rattle.store.specs.Kind.{pageIn}
+use Rattle.store.specs.Record.{mapSize}
 use Rattle.store.specs.Mount.{letterIn, entryIn, Decision, byEntry}
 use Rattle.store.specs.Replay.{heldAt, EachPlace, EachLetter, partRead, LettersRead}
 use Rattle.store.proofs.Replays.{row-none, row-next}
@@ -68,22 +73,80 @@ module _ (payload : List ℕ) (first : ℕ) where
           rw (p, k, at, ← entry) (entry-decision e)
       go y held false q = refl
 
--- ---- the parts, as a loop has them: one more is read
-pub entries-next : (img : List ℕ) (c : ℕ) (payload map scratch map' scratch' : List ℕ) (i : ℕ) → firstEntryPart ≤ i → i < parts
-    → payload ≡ payloadOf (pageAt img (pageIn c i))
-    → ((y : ℕ) → y < entriesInPart * (i - firstEntryPart) → heldAt map scratch y ≡ byEntry (entryIn img c y))
-    → EachPlace (partRead payload (entriesInPart * (i - firstEntryPart)) (entriesInPart * (i - firstEntryPart) + entriesInPart)) map scratch map' scratch'
-    → (y : ℕ) → y < entriesInPart * (i + 1 - firstEntryPart) → heldAt map' scratch' y ≡ byEntry (entryIn img c y)
-unfolding entryIn
-entries-next img c payload map scratch map' scratch' i h l here so-far read y k =
-    let first = entriesInPart * (i - firstEntryPart) in
-    elim (decLt y first) [
-      | yes m ↦ read y (omega arith) ∙ rw (lt-leb first y m) (so-far y m)
-      | no m ↦
-          let q : entryPart y ≡ i = omega arith in
-          let r : entryAt y ≡ entrySize * (y - first) = omega arith in
-          read y (omega arith) ∙ rw (le-leb first y (omega arith), lt-ltb y (first + entriesInPart) (omega arith), q, r, here)
-    ]
+-- ---- the parts, as a loop has them: the places of those before part i hold their entries, the others none
+pub record PartsRead (img : List ℕ) (c i : ℕ) (map scratch : List ℕ) : Type 0 where
+  pub passed : (y : ℕ) → y < entriesInPart * (i - firstEntryPart) → heldAt map scratch y ≡ byEntry (entryIn img c y)
+  pub ahead : (y : ℕ) → entriesInPart * (i - firstEntryPart) ≤ y → y < places → heldAt map scratch y ≡ byEntry Vacant
+
+-- cleared lists hold none at every place
+pub parts-none : (img : List ℕ) (c m n : ℕ) (map scratch : List ℕ) → m ≡ mapSize → n ≡ places → map ≡ replicate m none → scratch ≡ replicate n 0
+    → PartsRead img c firstEntryPart map scratch
+parts-none img c m n map scratch mapFull scratchFull mapCleared scratchCleared =
+    record {
+      passed = λ y h. absurd (omega arith);
+      ahead = λ y h k.
+          rw (
+            mapCleared,
+            scratchCleared,
+            getD-replicate {A = ℕ} n y 0 0 (omega arith),
+            getD-replicate {A = ℕ} m y none none (omega arith),
+            getD-replicate {A = ℕ} m (places + y) none none (omega arith),
+          );
+    }
+
+-- an entry of a part that is vacant throughout
+vacant-entry : (payload : List ℕ) (j : ℕ) → j < entriesInPart
+    → allFrom (λ i. same (part payload (entrySize * i) entrySize) vacantEntry) entriesInPart 0 ≡ true
+    → entryOf (part payload (entrySize * j) entrySize) ≡ Vacant
+unfolding entryOf
+vacant-entry payload j h t =
+    rw (all-holds (λ i. same (part payload (entrySize * i) entrySize) vacantEntry) entriesInPart 0 j t (omega arith) (omega arith))
+
+module _ (img : List ℕ) (c : ℕ) (payload : List ℕ) (i : ℕ) (after : firstEntryPart ≤ i) (inside : i < parts)
+    (here : payload ≡ payloadOf (pageAt img (pageIn c i))) (map scratch : List ℕ) (so-far : PartsRead img c i map scratch) where
+  -- the entry of a place of part i
+  part-entry : (y : ℕ) → entriesInPart * (i - firstEntryPart) ≤ y → y < entriesInPart * (i + 1 - firstEntryPart)
+      → entryOf (part payload (entrySize * (y - entriesInPart * (i - firstEntryPart))) entrySize) ≡ entryIn img c y
+  unfolding entryIn
+  part-entry y h k =
+      let q : entryPart y ≡ i = omega arith in
+      let r : entryAt y ≡ entrySize * (y - entriesInPart * (i - firstEntryPart)) = omega arith in
+      rw (here, q, r)
+
+  -- one more is read
+  pub parts-next : (map' scratch' : List ℕ)
+      → EachPlace (partRead payload (entriesInPart * (i - firstEntryPart)) (entriesInPart * (i - firstEntryPart) + entriesInPart)) map scratch map' scratch'
+      → PartsRead img c (i + 1) map' scratch'
+  parts-next map' scratch' read =
+      let first = entriesInPart * (i - firstEntryPart) in
+      record {
+        passed = λ y k.
+            elim (decLt y first) [
+              | yes m ↦ read y (omega arith) ∙ rw (lt-leb first y m) (so-far .passed y m)
+              | no m ↦
+                  read y (omega arith)
+                  ∙ rw (le-leb first y (omega arith), lt-ltb y (first + entriesInPart) (omega arith)) (ap byEntry (part-entry y (omega arith) k))
+            ];
+        ahead = λ y k h.
+            read y h
+            ∙ rw (le-leb first y (omega arith), le-ltb y (first + entriesInPart) (omega arith)) (so-far .ahead y (omega arith) h);
+      }
+
+  -- one more is vacant throughout: its places hold none as they are
+  pub parts-vacant : allFrom (λ j. same (part payload (entrySize * j) entrySize) vacantEntry) entriesInPart 0 ≡ true
+      → PartsRead img c (i + 1) map scratch
+  parts-vacant vacant =
+      let first = entriesInPart * (i - firstEntryPart) in
+      record {
+        passed = λ y k.
+            elim (decLt y first) [
+              | yes m ↦ so-far .passed y m
+              | no m ↦
+                  so-far .ahead y (omega arith) (omega arith)
+                  ∙ ap byEntry (sym (vacant-entry payload (y - first) (omega arith) vacant) ∙ part-entry y (omega arith) k)
+            ];
+        ahead = λ y k h. so-far .ahead y (omega arith) h;
+      }
 
 -- ---- the letters of both parts
 pub letters-read : (img : List ℕ) (c : ℕ) (first second xs ys letters letters' : List ℕ) → length xs ≡ payloadSize

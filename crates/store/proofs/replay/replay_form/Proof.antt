@@ -8,19 +8,19 @@ use borrow.Author.Needs.{needs}
 use Rattle.store.proofs.replay.replay_form.Statement.{statement}
 use Rattle.store.proofs.replay.replay_form.Tie as tie
 
-form-at-requires : tie.Need-form-at-requires
-form-at-requires c κs = search needs
+event-form-at-requires : tie.Need-event-form-at-requires
+event-form-at-requires c κs = search needs
 
 apply-requires : tie.Need-apply-requires
 apply-requires c κs =
     let s = c .before .before .before .before .before .before .before .before in
     let a = s .args in
-    (s .pre .1 .0, s .pre .1 .2, page-most (a .image .now) (a .g) (s .pre .0 .0) (s .pre .0 .1) .1, rw (c .before .before .form-at .ensures) (range-right (a .image .now) (a .g)))
+    (s .pre .1 .0, s .pre .1 .2, page-most (a .image .now) (a .g) (s .pre .0 .0) (s .pre .0 .1) .1, rw (c .before .before .event-form-at .ensures) (range-right (a .image .now) (a .g)))
 
 spend-requires : tie.Need-spend-requires
 spend-requires c κs =
     let s = c .before .before .before .before .before .before .before .before .before .before .before .before .before .before in
-    (s .pre .1 .1, rw (c .before .before .before .before .before .before .before .before .form-at .ensures) (range-right (s .args .image .now) (s .args .g)))
+    (s .pre .1 .1, rw (c .before .before .before .before .before .before .before .before .event-form-at .ensures) (range-right (s .args .image .now) (s .args .g)))
 
 note-requires : tie.Need-note-requires
 note-requires c κs =
@@ -52,7 +52,7 @@ returns c =
     let places = c .before .before .before .before .before .before .before .before .before .before .before .before .before .before .apply in
     let letters = c .before .before .before .before .before .before .before .before .spend in
     let events = c .before .before .before .before .note in
-    let form = c .before .before .before .before .before .before .before .before .before .before .before .before .before .before .before .before .before .form-at in
+    let form = c .before .before .before .before .before .before .before .before .before .before .before .before .before .before .before .before .before .event-form-at in
     let most = page-most (a .image .now) (a .g) (s .pre .0 .0) (s .pre .0 .1) in
     page-passed (a .image .now) (a .covered) (a .g) (pass (a .map .now) (a .letters .now) (a .scratch .now) (a .events .now) (a .highest))
     (pass (places .last .0) (letters .last .0) (places .last .1 .0) (events .last .0) (c .higher .result))
@@ -63,7 +63,7 @@ pub replay-form-spec : {M : Type 1} → statement M
 replay-form-spec =
     tie.close
     (tie.spec
-    form-at-requires
+    event-form-at-requires
     apply-requires
     spend-requires
     note-requires

@@ -4,7 +4,7 @@ use native.Mathlib.Omega.{arith}
 use Rattle.page.specs.Header.{isEventLetter}
 use Rattle.store.specs.Replay.{pass}
 use Rattle.store.proofs.BlockKinds.{unheaded}
-use Rattle.store.proofs.Refusals.{failed}
+use Rattle.store.proofs.Refusals.{passed, failed}
 use Rattle.store.proofs.Replays.{page-idle, page-most}
 use borrow.Author.Needs.{needs}
 use Rattle.store.proofs.replay.replay_page.Statement.{statement}
@@ -25,7 +25,12 @@ returns c =
     (unheaded (a .image .now) (a .g) (ap isEventLetter (sym (c .before .before .letter-at .ensures)) ∙ failed (c .before .is-event-letter .ensures) (c .if1 .taken)))
 
 replay-form-requires : tie.Need-replay-form-requires
-replay-form-requires c κs = search needs
+replay-form-requires c κs =
+    let s = c .before .before .before .before .before .before .before .before .before .before .before .before in
+    let letter = passed (c .before .before .before .before .before .is-event-letter .ensures) (c .before .before .before .before .if1 .left) in (
+      (s .pre .0 .0, s .pre .0 .1, ap isEventLetter (sym (c .before .before .before .before .before .before .letter-at .ensures)) ∙ letter),
+      s .pre .1,
+    )
 
 same-length : tie.Need-same-length
 same-length c = search needs

@@ -10,9 +10,10 @@ use lib.ListN.{length, take, drop}
 use borrow.Author.Tests.{eqb-true, le-leb, lt-leb, leb-true, not-true, not-false}
 use Rattle.base.specs.Each.{Each}
 use Rattle.base.proofs.Choice.{true-false}
+use Rattle.base.proofs.Searches.{first-bounds}
 use Rattle.page.specs.Frame.{payloadSize}
 use Rattle.image.specs.Size.{blocks, sizeRight}
-use Rattle.image.specs.Look.{lowestEmpty, emptyBlocks}
+use Rattle.image.specs.Look.{blockEmpty, lowestEmpty, emptyBlocks}
 use Rattle.image.proofs.Looks.{lowest-some, lowest-counted}
 use Rattle.store.specs.Reply.{Test, verdict, isDone}
 use Rattle.store.specs.Record.{Record}
@@ -153,8 +154,9 @@ no-room img e = go (leb 1 (emptyBlocks img)) refl
     go true h = absurd (omega (arith, lowest-some img (leb-true 1 (emptyBlocks img) h)))
     go false h = refl
 
-pub some-room : (img : List ℕ) → (lowestEmpty img ≡ blocks img → ⊥) → lowestEmpty img ≤ blocks img → leb 1 (emptyBlocks img) ≡ true
-some-room img e h = le-leb 1 (emptyBlocks img) (lowest-counted img (omega (arith, e)))
+pub some-room : (img : List ℕ) → (lowestEmpty img ≡ blocks img → ⊥) → leb 1 (emptyBlocks img) ≡ true
+unfolding lowestEmpty
+some-room img e = le-leb 1 (emptyBlocks img) (lowest-counted img (omega (arith, e, first-bounds (blockEmpty img) (blocks img) 0 .1)))
 
 module _ (img : List ℕ) (r : Record) (noise : List ℕ) {v : Reply} where
   pub commit-refused-first : v ≡ verdict (formatTests img (r .map) (r .letters) noise) → isDone v ≡ false → v ≡ verdict (commitTests img r noise)

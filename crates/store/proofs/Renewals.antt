@@ -40,7 +40,7 @@ use Rattle.store.proofs.Cuts.{run-left, taken-few}
 use Rattle.store.proofs.Calls.{refused-left}
 use Rattle.store.proofs.Removals.{removed-numbers}
 use Rattle.store.proofs.Spares.{working, none-chosen, keys0-chosen, keys1-chosen, commit-chosen}
-use Rattle.store.proofs.Follows.{Reached, lowest-at-work, new-below, reached-commit, follows-commit, follows-stages, replaced-blocks}
+use Rattle.store.proofs.Follows.{Reached, lowest-spare, lowest-at-work, new-below, reached-commit, follows-commit, follows-stages, replaced-blocks}
 
 -- ---- a call begins on a record that fits: its spare blocks are the empty ones
 -- a block of a kind is not empty
@@ -105,6 +105,10 @@ module _ (img : List ℕ) (r : Record) (ready : Ready img r) where
           empties = λ b h. rw e (empty-spare b);
           able = rw e begin-able;
         }
+
+    -- the lowest empty block is the lowest spare one
+    pub begin-spare : lowestEmpty img ≡ lowestSpare img (r .numbers) (r .numbers)
+    begin-spare = lowest-spare img (r .numbers) (begin img r) (begin-reached r refl)
 
   pub sequence-some : 1 ≤ r .numbers .sequence
   sequence-some = fit .sequence .0

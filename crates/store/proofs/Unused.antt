@@ -8,9 +8,10 @@ use mathlib.Core.List.{List}
 use lib.Dec.{eqb, ltb}
 use lib.ListN.{length, getD, set, replicate, length-set, length-replicate, getD-replicate}
 use lib.Seq.{getD-set-same, getD-set-other}
-use borrow.Author.Tests.{eq-eqb, ne-eqb, lt-ltb}
-use Rattle.base.specs.Search.{firstFrom, anyFrom, whichFrom}
-use Rattle.base.proofs.Searches.{first-agree, any-here, any-next, any-none, which-agree}
+use borrow.Author.Tests.{eqb-true, eq-eqb, ne-eqb, lt-ltb, le-ltb}
+use Rattle.base.specs.Search.{firstFrom, anyFrom, allFrom, whichFrom}
+use Rattle.base.proofs.Choice.{and-true}
+use Rattle.base.proofs.Searches.{first-agree, all-holds, any-here, any-next, any-none, any-join, any-all-fail, which-agree}
 use Rattle.page.specs.Plan.{places}
 use Rattle.page.specs.Entry.{none}
 use Rattle.image.specs.Size.{pagesInBlock, mostBlocks, blocks, sizeRight}
@@ -18,20 +19,13 @@ use Rattle.image.specs.Look.{blockAt}
 use Rattle.image.proofs.Step.{page-of-same}
 use Rattle.image.proofs.Looks.{sized}
 use Rattle.store.specs.Kind.{pageIn, isData}
-use Rattle.store.specs.Record.{pageOf, live}
-use Rattle.store.specs.Stages.{hasLive, isUnused, erases, unusedErases}
+use Rattle.store.specs.Record.{pageOf, keyOf, live, vacantAt}
+use Rattle.store.specs.Stages.{liveIn, hasLive, LiveMarked, isUnused, erases, unusedErases}
 use Rattle.store.specs.declared.Numbers.{Numbers}
 use Rattle.store.proofs.BlockKinds.{data-agree}
 
 -- ---- the table: a block is marked, or a place from x on is live in it
-abbrev liveIn : List ℕ → ℕ → ℕ → Bool
-liveIn map b x = live map x && eqb (pageOf map x / pagesInBlock) b
-
-pub record Marked (map marked : List ℕ) (x : ℕ) : Type 0 where
-  pub size : length marked ≡ mostBlocks
-  pub told : (b : ℕ) → b < mostBlocks → hasLive map b ≡ ltb 0 (getD marked b 0) || anyFrom (liveIn map b) (places - x) x
-
-pub marked-none : (map marked : List ℕ) → marked ≡ replicate mostBlocks 0 → Marked map marked 0
+pub marked-none : (map marked : List ℕ) → marked ≡ replicate mostBlocks 0 → LiveMarked map marked 0
 unfolding hasLive
 marked-none map marked e =
     record {
@@ -58,7 +52,7 @@ and-false true = refl
 and-false false = refl
 
 -- the block of place x's page is marked
-pub marked-next : (map marked next : List ℕ) (x g : ℕ) → Marked map marked x → x < places → g ≡ pageOf map x → next ≡ set marked (g / pagesInBlock) 1 → Marked map next (x + 1)
+pub marked-next : (map marked next : List ℕ) (x g : ℕ) → LiveMarked map marked x → x < places → g ≡ pageOf map x → next ≡ set marked (g / pagesInBlock) 1 → LiveMarked map next (x + 1)
 marked-next map marked next x g m h at e =
     record {
       size = rw e (length-set marked (g / pagesInBlock) 1 ∙ m .size);
@@ -79,7 +73,25 @@ marked-next map marked next x g m h at e =
         let not-here : liveIn map b x ≡ false = rw i (and-false (live map x)) in
         m .told b k ∙ rw (any-next (liveIn map b) places x h not-here, same)
 
-pub marked-all : (map marked : List ℕ) (x : ℕ) → Marked map marked x → places ≤ x → (b : ℕ) → b < mostBlocks → hasLive map b ≡ ltb 0 (getD marked b 0)
+-- vacant places in a row have no live page
+pub marked-run : (map marked : List ℕ) (n x : ℕ) → x + n ≤ places → allFrom (vacantAt map) n x ≡ true → LiveMarked map marked x → LiveMarked map marked (x + n)
+marked-run map marked n x h v m =
+    record {
+      size = m .size;
+      told = λ b k. m .told b k ∙ ap (λ (t : Bool). ltb 0 (getD marked b 0) || t) (passed b);
+    }
+  where
+    dead : (b y : ℕ) → vacantAt map y ≡ true → liveIn map b y ≡ false
+    dead b y e =
+        let z = eqb-true (pageOf map y) none (and-true (eqb (pageOf map y) none) (eqb (keyOf map y) none) e .0) in
+        rw (le-ltb (pageOf map y) none (omega arith))
+
+    passed : (b : ℕ) → anyFrom (liveIn map b) (places - x) x ≡ anyFrom (liveIn map b) (places - (x + n)) (x + n)
+    passed b =
+        let l : places - x ≡ n + (places - (x + n)) = omega arith in
+        rw (l, any-join (liveIn map b) n (places - (x + n)) x, any-all-fail (liveIn map b) n x (λ y g k. dead b y (all-holds (vacantAt map) n x y v g k)))
+
+pub marked-all : (map marked : List ℕ) (x : ℕ) → LiveMarked map marked x → places ≤ x → (b : ℕ) → b < mostBlocks → hasLive map b ≡ ltb 0 (getD marked b 0)
 marked-all map marked x m h b k = m .told b k ∙ rw (any-none (liveIn map b) places x h) (or-false (ltb 0 (getD marked b 0)))
 
 -- ---- the blocks that are not marked

@@ -4,10 +4,11 @@ use Prim.Native.Nat.{ℕ, _-_, _/_, _<_}
 use mathlib.Core.Path.{_≡_}
 use mathlib.Core.Bool.{Bool, true, not, _&&_, _||_}
 use mathlib.Core.List.{List, [], _∷_, _++_, map}
-use lib.Dec.{eqb}
+use lib.Dec.{eqb, ltb}
+use lib.ListN.{length, getD}
 use Rattle.base.specs.Search.{firstFrom, anyFrom, whichFrom}
 use Rattle.page.specs.Plan.{places}
-use Rattle.image.specs.Size.{pagesInBlock, blocks, sizeRight}
+use Rattle.image.specs.Size.{pagesInBlock, mostBlocks, blocks, sizeRight}
 use Rattle.image.specs.Look.{blockAt, blockEmpty}
 use Rattle.image.specs.Step.{Step, erase}
 use Rattle.image.specs.Power.{Device, device, powerFor, run}
@@ -65,11 +66,19 @@ commitMoved map letters first w =
     record { flash = run (commitInto map letters (w .numbers) b) (w .flash); numbers = withCommit (w .numbers) b }
 
 -- a block with a live page, and a data block without one
+abbrev pub liveIn : List ℕ → ℕ → ℕ → Bool
+liveIn map b x = live map x && eqb (pageOf map x / pagesInBlock) b
+
 unfoldable pub hasLive : List ℕ → ℕ → Bool
-hasLive map b = anyFrom (λ x. live map x && eqb (pageOf map x / pagesInBlock) b) places 0
+hasLive map b = anyFrom (liveIn map b) places 0
 
 abbrev pub isUnused : List ℕ → List ℕ → Numbers → ℕ → Bool
 isUnused img map r b = isData img r b && not (hasLive map b)
+
+-- a table of the blocks that have a live page among the places before x: a block is marked there, or a place from x on is live in it, where it has one
+pub record LiveMarked (map marked : List ℕ) (x : ℕ) : Type 0 where
+  pub size : length marked ≡ mostBlocks
+  pub told : (b : ℕ) → b < mostBlocks → hasLive map b ≡ ltb 0 (getD marked b 0) || anyFrom (liveIn map b) (places - x) x
 
 -- the erases of blocks in order
 abbrev pub erases : List ℕ → List Step

@@ -1,6 +1,7 @@
 // The stages of commit and wipe: a key block or the commit block replaced by a new copy, and the data blocks without a live page erased.
 use crate::Answer;
 use crate::Numbers;
+use crate::fit;
 use crate::kinds;
 use crate::replies;
 use image::Power;
@@ -16,6 +17,7 @@ ghost use lib.ListN.{length, getD, set, replicate};
 ghost use lib.Dec.{eqb, ltb};
 ghost use Rattle.base.specs.Lent.{old, new};
 ghost use Rattle.base.specs.Search.{firstFrom, whichFrom};
+ghost use Rattle.page.specs.Plan.{places};
 ghost use Rattle.page.specs.Key.{positions};
 ghost use Rattle.page.specs.Header.{lastNumber};
 ghost use Rattle.image.specs.Size.{blockSize, pagesInBlock, mostBlocks, blocks as blocksIn, sizeRight};
@@ -25,7 +27,7 @@ ghost use Rattle.store.specs.Record.{mapSize};
 ghost use Rattle.store.specs.Outcome.{answered};
 ghost use Rattle.store.specs.declared.Reply.the-variants.{Done, PowerCut};
 ghost use Rattle.store.specs.Format.{noiseSize};
-ghost use Rattle.store.specs.Stages.{isSpare, lowestSpare, atWork, begun, keysMoved, commitMoved, hasLive, erases, unusedErases, renewed, Able};
+ghost use Rattle.store.specs.Stages.{isSpare, lowestSpare, atWork, begun, keysMoved, commitMoved, hasLive, LiveMarked, erases, unusedErases, renewed, Able};
 
 // A call at work: the power that is left, and the record's numbers so far.
 pub struct Progress {
@@ -73,7 +75,7 @@ fn is_spare(image: &[u8], first: Numbers, numbers: Numbers, b: usize) -> bool
 }
 
 // The lowest spare block, or the number of blocks where there is none.
-fn lowest_spare(image: &[u8], first: Numbers, numbers: Numbers) -> usize
+pub fn lowest_spare(image: &[u8], first: Numbers, numbers: Numbers) -> usize
     ensures { λ r. ⌜ r ≡ lowestSpare (old image) first numbers ⌝ }
 {
     let n = look::blocks(image);
@@ -87,7 +89,7 @@ fn lowest_spare(image: &[u8], first: Numbers, numbers: Numbers) -> usize
     b
 }
 
-// Replaces key block q: a new copy in the lowest spare block, then the old one erased.
+// Replaces key block q: a new copy in block b, the lowest spare one, then the old one erased.
 fn replace_keys(
     image: &mut [u8],
     letters: &[u8],
@@ -95,13 +97,13 @@ fn replace_keys(
     first: Numbers,
     p: Progress,
     q: u32,
+    b: usize,
 ) -> Progress
-    requires { ⌜ Able (now image) first (p .numbers) × (q < 2) ⌝ }
+    requires { ⌜ Able (now image) first (p .numbers) × (q < 2) × (b ≡ lowestSpare (now image) first (p .numbers)) ⌝ }
     requires { ⌜ (length (now letters) ≡ positions) × (length (now noise) ≡ noiseSize) ⌝ }
     ensures { λ r. ⌜ atWork r (new image) ≡ keysMoved (old letters) (old noise) first q (atWork p (old image)) ⌝ }
 {
     let numbers = p.numbers;
-    let b = lowest_spare(image, first, numbers);
     let old = numbers.keys_block(q as usize) as usize;
     let copied = blocks::program_key_block(
         image,
@@ -120,20 +122,21 @@ fn replace_keys(
     }
 }
 
-// Replaces the commit block: map and letters in the lowest spare block, then the old one erased.
+// Replaces the commit block: map and letters in block b, the lowest spare one, then the old one erased.
 pub fn replace_commit(
     image: &mut [u8],
     map: &[u16],
     letters: &[u8],
     first: Numbers,
     p: Progress,
+    b: usize,
 ) -> Progress
-    requires { ⌜ Able (now image) first (p .numbers) × (1 ≤ p .numbers .sequence) ⌝ }
+    requires { ⌜ Able (now image) first (p .numbers)
+        × (1 ≤ p .numbers .sequence) × (b ≡ lowestSpare (now image) first (p .numbers)) ⌝ }
     requires { ⌜ (length (now map) ≡ mapSize) × (length (now letters) ≡ positions) ⌝ }
     ensures { λ r. ⌜ atWork r (new image) ≡ commitMoved (old map) (old letters) first (atWork p (old image)) ⌝ }
 {
     let numbers = p.numbers;
-    let b = lowest_spare(image, first, numbers);
     let copied = blocks::program_commit_block(
         image,
         b,
@@ -161,6 +164,21 @@ fn mark(marked: &mut [u8], page: u16)
     marked[b] = 1;
 }
 
+// Marks the blocks of the pages of places from one to end. A vacant run has none.
+fn mark_run(map: &[u16], marked: &mut [u8], from: usize, end: usize)
+    requires { ⌜ (length (now map) ≡ mapSize) × (from ≤ end) × (end ≤ places) × LiveMarked (now map) (now marked) from ⌝ }
+    ensures { λ _. ⌜ LiveMarked (old map) (new marked) end ⌝ }
+{
+    if fit::is_vacant_run(map, from, end) {
+        return;
+    }
+    let mut x: usize = from;
+    while x < end {
+        mark(marked, map[x]);
+        x += 1;
+    }
+}
+
 // Marks the blocks that have a live page.
 fn mark_live(map: &[u16], marked: &mut [u8])
     requires { ⌜ (length (now map) ≡ mapSize) × (now marked ≡ replicate mostBlocks 0) ⌝ }
@@ -169,8 +187,9 @@ fn mark_live(map: &[u16], marked: &mut [u8])
 {
     let mut x: usize = 0;
     while x < PLACES {
-        mark(marked, map[x]);
-        x += 1;
+        let end = fit::run_end(x, PLACES);
+        mark_run(map, marked, x, end);
+        x = end;
     }
 }
 
@@ -219,7 +238,7 @@ fn erase_unused(image: &mut [u8], map: &[u16], numbers: Numbers, p: Power) -> Po
     erase_all_unmarked(image, numbers, &marked, p)
 }
 
-// The stages of a commit: key block 0, key block 1, the commit block, then the data blocks without a live page.
+// The stages of a commit: key block 0, whose copy goes to the lowest spare block, key block 1, the commit block, then the data blocks without a live page.
 pub fn renew(
     image: &mut [u8],
     map: &[u16],
@@ -227,17 +246,20 @@ pub fn renew(
     noise: &[u8],
     first: Numbers,
     p: Progress,
+    spare: usize,
 ) -> Progress
-    requires { ⌜ Able (now image) first (p .numbers)
+    requires { ⌜ Able (now image) first (p .numbers) × (spare ≡ lowestSpare (now image) first (p .numbers))
         × (isChosen first (p .numbers .keys0) ≡ true) × (isChosen first (p .numbers .keys1) ≡ true) ⌝ }
     requires { ⌜ (1 ≤ p .numbers .sequence) × (p .numbers .epoch ≤ lastNumber) ⌝ }
     requires { ⌜ (length (now map)
         ≡ mapSize) × (length (now letters) ≡ positions) × (length (now noise) ≡ noiseSize) ⌝ }
     ensures { λ r. ⌜ atWork r (new image) ≡ renewed (old map) (old letters) (old noise) first (atWork p (old image)) ⌝ }
 {
-    let keys0 = replace_keys(image, letters, noise, first, p, 0);
-    let keys1 = replace_keys(image, letters, noise, first, keys0, 1);
-    let last = replace_commit(image, map, letters, first, keys1);
+    let keys0 = replace_keys(image, letters, noise, first, p, 0, spare);
+    let second = lowest_spare(image, first, keys0.numbers);
+    let keys1 = replace_keys(image, letters, noise, first, keys0, 1, second);
+    let third = lowest_spare(image, first, keys1.numbers);
+    let last = replace_commit(image, map, letters, first, keys1, third);
     let numbers = last.numbers;
     let power = erase_unused(image, map, numbers, last.power);
     Progress {

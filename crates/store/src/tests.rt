@@ -16,6 +16,7 @@ ghost use Prim.Native.Nat.{_≤_};
 ghost use Rattle.base.specs.Lent.{old};
 ghost use Rattle.page.specs.Header.{lastNumber};
 ghost use Rattle.image.specs.Size.{sizeRight};
+ghost use Rattle.image.specs.Look.{lowestEmpty};
 ghost use Rattle.store.specs.Reply.{verdict};
 ghost use Rattle.store.specs.Record.{recordOf};
 ghost use Rattle.store.specs.Format.{buffersRight, lentTests, formatTests};
@@ -81,15 +82,17 @@ pub fn refuse_noise(image: &[u8], map: &[u16], letters: &[u8], noise: &[u8]) -> 
     Reply::Done
 }
 
-// The tests that commit and wipe end with, in order. The call uses one epoch and so many more.
+// The tests that commit and wipe end with, in order. The call uses one epoch and so many more; spare is the lowest empty block.
 pub fn refuse_renewal(
     image: &[u8],
     map: &[u16],
     letters: &[u8],
     numbers: Numbers,
     more: u32,
+    spare: usize,
 ) -> Reply
-    requires { ⌜ (sizeRight (now image) ≡ true) × Buffers (now map) (now letters) × (more ≤ lastNumber) ⌝ }
+    requires { ⌜ (sizeRight (now image) ≡ true) × Buffers (now map) (now letters)
+        × (more ≤ lastNumber) × (spare ≡ lowestEmpty (now image)) ⌝ }
     ensures { λ r. ⌜ r ≡ verdict (renewalTests (old image) (recordOf (old map) (old letters) numbers) more) ⌝ }
 {
     if !fit::fits(image, map, letters, numbers) {
@@ -98,7 +101,7 @@ pub fn refuse_renewal(
     if LAST_NUMBER - more < numbers.epoch {
         return Reply::NumbersSpent;
     }
-    if look::lowest_empty(image) == look::blocks(image) {
+    if spare == look::blocks(image) {
         return Reply::NoRoom;
     }
     Reply::Done

@@ -8,12 +8,13 @@ use crate::replies;
 use crate::stages;
 use crate::stages::Progress;
 use crate::tests;
+use image::look;
 ghost use mathlib.Core.Path.{_≡_};
 ghost use mathlib.Core.List.{[]};
 ghost use Prim.Native.Nat.{_≤_};
 ghost use Rattle.base.specs.Lent.{old, new};
 ghost use Rattle.page.specs.Header.{lastNumber};
-ghost use Rattle.image.specs.Look.{emptyBlocks};
+ghost use Rattle.image.specs.Look.{lowestEmpty, emptyBlocks};
 ghost use Rattle.image.specs.Power.{powerFor};
 ghost use Rattle.store.specs.Reply.{verdict};
 ghost use Rattle.store.specs.Record.{recordOf};
@@ -22,7 +23,7 @@ ghost use Rattle.store.specs.Wipe.{removedFirst, wipeTests, wipeLeaves};
 ghost use Rattle.store.specs.Stages.{atWork, after};
 ghost use Rattle.store.specs.Taken.{Ready, Planned, WipeTaken};
 
-// The tests of a wipe, in order.
+// The tests of a wipe, in order. Spare is the lowest empty block.
 fn refuse_wipe(
     image: &[u8],
     map: &[u16],
@@ -31,7 +32,9 @@ fn refuse_wipe(
     noise: &[u8],
     file: u32,
     offset: u32,
+    spare: usize,
 ) -> Reply
+    requires { ⌜ spare ≡ lowestEmpty (now image) ⌝ }
     ensures { λ r. ⌜ r
         ≡ verdict (wipeTests (old image) (recordOf (old map) (old letters) numbers) (old noise) file offset) ⌝ }
 {
@@ -43,10 +46,10 @@ fn refuse_wipe(
     if !replies::is_done(planned) {
         return planned;
     }
-    tests::refuse_renewal(image, map, letters, numbers, 1)
+    tests::refuse_renewal(image, map, letters, numbers, 1, spare)
 }
 
-// The first stage of a wipe: a commit without the removed nodes. The record is then as the commit to come needs it.
+// The first stage of a wipe: a commit without the removed nodes, in the lowest empty block. The record is then as the commit to come needs it.
 fn shorten(
     image: &mut [u8],
     map: &mut [u16],
@@ -54,11 +57,13 @@ fn shorten(
     numbers: Numbers,
     file: u32,
     offset: u32,
+    spare: usize,
     n: u64,
     k: usize,
 ) -> Progress
     requires { ⌜ Ready (now image) (recordOf (now map) (now letters) numbers)
-        × Planned file offset × (numbers .epoch ≤ lastNumber) × (1 ≤ emptyBlocks (now image)) ⌝ }
+        × Planned file offset × (numbers .epoch ≤ lastNumber) × (1 ≤ emptyBlocks (now image))
+        × (spare ≡ lowestEmpty (now image)) ⌝ }
     ensures { λ r. ⌜ (atWork r (new image)
         ≡ after (powerFor n k) (old image) (removedFirst (old image) (recordOf (old map) (old letters) numbers) file offset))
         × (recordOf (new map) (new letters) (r .numbers)
@@ -66,7 +71,7 @@ fn shorten(
 {
     record::remove(map, letters, file, offset);
     let begun = stages::begin(numbers, n, k);
-    let shorter = stages::replace_commit(image, map, letters, numbers, begun);
+    let shorter = stages::replace_commit(image, map, letters, numbers, begun, spare);
     record::clean(letters);
     let power = shorter.power;
     Progress {
@@ -75,7 +80,7 @@ fn shorten(
     }
 }
 
-// Wipes, once the tests are passed.
+// Wipes, once the tests are passed. Spare is the lowest empty block.
 fn wipe_taken(
     image: &mut [u8],
     map: &mut [u16],
@@ -84,15 +89,18 @@ fn wipe_taken(
     noise: &[u8],
     file: u32,
     offset: u32,
+    spare: usize,
     n: u64,
     k: usize,
 ) -> Answer
-    requires { ⌜ WipeTaken (now image) (recordOf (now map) (now letters) numbers) (now noise) file offset ⌝ }
+    requires { ⌜ WipeTaken (now image) (recordOf (now map) (now letters) numbers) (now noise) file offset
+        × (spare ≡ lowestEmpty (now image)) ⌝ }
     ensures { λ r. ⌜ standing r (new image) (new map) (new letters) []
         ≡ wipeLeaves (left n k) (old image) (old map) (old letters) numbers (old noise) file offset ⌝ }
 {
-    let shorter = shorten(image, map, letters, numbers, file, offset, n, k);
-    stages::answer(stages::renew(image, map, letters, noise, numbers, shorter))
+    let shorter = shorten(image, map, letters, numbers, file, offset, spare, n, k);
+    let next = stages::lowest_spare(image, numbers, shorter.numbers);
+    stages::answer(stages::renew(image, map, letters, noise, numbers, shorter, next))
 }
 
 // A wipe of which the power lasts for n steps and the first k bytes of the next.
@@ -110,11 +118,12 @@ pub fn wipe_cut(
     ensures { λ r. ⌜ standing r (new image) (new map) (new letters) []
         ≡ wipeLeaves (left n k) (old image) (old map) (old letters) numbers (old noise) file offset ⌝ }
 {
-    let reply = refuse_wipe(image, map, letters, numbers, noise, file, offset);
+    let spare = look::lowest_empty(image);
+    let reply = refuse_wipe(image, map, letters, numbers, noise, file, offset, spare);
     if !replies::is_done(reply) {
         return replies::refused(reply, numbers);
     }
-    wipe_taken(image, map, letters, numbers, noise, file, offset, n, k)
+    wipe_taken(image, map, letters, numbers, noise, file, offset, spare, n, k)
 }
 
 // Removes the nodes of a file from an offset on, and replaces every key that is not used by noise.

@@ -8,8 +8,11 @@ use borrow.Author.Needs.{needs}
 use Rattle.store.proofs.commit.commit_cut.Statement.{statement}
 use Rattle.store.proofs.commit.commit_cut.Tie as tie
 
+lowest-empty-requires : tie.Need-lowest-empty-requires
+lowest-empty-requires c κs = search needs
+
 refuse-commit-requires : tie.Need-refuse-commit-requires
-refuse-commit-requires c κs = search needs
+refuse-commit-requires c κs = c .before .before .lowest-empty .ensures .0
 
 is-done-requires : tie.Need-is-done-requires
 is-done-requires c κs = search needs
@@ -25,15 +28,15 @@ same-length-2 c = search needs
 
 returns : tie.Need-returns
 returns c =
-    let a = c .before .before .before .before .before .before .before .before .before .before .args in
+    let a = c .before .before .before .before .before .before .before .before .before .before .before .before .args in
     let r = recordOf (a .map .now) (a .letters .now) (a .numbers) in
     rw (c .refused .ensures) (commit-refuse (a .image .now) r (a .noise .now) (a .n) (a .k) _ (c .before .before .before .refuse-commit .ensures) (failed (c .before .before .is-done .ensures) (c .before .if1 .taken)))
 
 commit-taken-requires : tie.Need-commit-taken-requires
 commit-taken-requires c κs =
-    let a = c .before .before .before .before .before .before .before .before .before .before .before .args in
+    let a = c .before .before .before .before .before .before .before .before .before .before .before .before .before .args in
     let r = recordOf (a .map .now) (a .letters .now) (a .numbers) in
-    commit-take (a .image .now) r (a .noise .now) (sym (c .before .before .before .before .refuse-commit .ensures) ∙ done-true _ (passed (c .before .before .before .is-done .ensures) (c .before .before .if1 .left)))
+    (commit-take (a .image .now) r (a .noise .now) (sym (c .before .before .before .before .refuse-commit .ensures) ∙ done-true _ (passed (c .before .before .before .is-done .ensures) (c .before .before .if1 .left))), c .before .before .before .before .before .before .before .lowest-empty .ensures .0)
 
 same-length-3 : tie.Need-same-length-3
 same-length-3 c = search needs
@@ -48,6 +51,7 @@ pub commit-cut-spec : {M : Type 1} → statement M
 commit-cut-spec =
     tie.close
     (tie.spec
+    lowest-empty-requires
     refuse-commit-requires
     is-done-requires
     refused-requires

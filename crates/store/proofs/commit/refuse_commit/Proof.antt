@@ -21,9 +21,10 @@ returns c =
 
 refuse-renewal-requires : tie.Need-refuse-renewal-requires
 refuse-renewal-requires c κs =
-    let a = c .before .before .before .before .before .before .before .args in
+    let s = c .before .before .before .before .before .before .before in
+    let a = s .args in
     let t = format-take (a .image .now) (a .map .now) (a .letters .now) (a .noise .now) _ (c .before .before .refuse-noise .ensures) (passed (c .before .is-done .ensures) (c .if1 .left)) in
-    (t .size, t .buffers, omega arith)
+    (t .size, t .buffers, omega arith, s .pre)
 
 returns-2 : tie.Need-returns-2
 returns-2 c =

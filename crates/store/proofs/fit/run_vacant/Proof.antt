@@ -1,98 +1,94 @@
--- `store::fit::run_vacant` meets its contract: all are vacant where those passed are and those from x + i on.
-use Prim.Native.Nat.{_≤_, _+_, _-_}
+-- `store::fit::run_vacant` meets its contract: two fours of pages and two of keys are the eight places.
+use Prim.Native.Nat.{ℕ, _+_, _-_, _<_, _≤_}
 use native.Mathlib.Omega.{arith}
-use mathlib.Core.Path.{_≡_, refl, sym, _∙_}
+use mathlib.Core.Path.{_≡_, refl, _∙_}
 use mathlib.Core.Bool.{Bool, true, false, _&&_}
+use mathlib.Core.List.{List}
+use lib.Dec.{eqb, ltb}
+use lib.ListN.{getD}
+use borrow.Author.Tests.{ltb-true, ltb-false}
+use borrow.Author.Needs.{needs}
 use Rattle.base.specs.Search.{allFrom}
-use Rattle.base.proofs.Choice.{and-passed}
-use Rattle.base.proofs.Searches.{all-step, all-none}
+use Rattle.base.proofs.Choice.{and-true, and-intro, both-ways}
+use Rattle.base.proofs.Searches.{all-holds, all-intro}
 use Rattle.page.specs.Plan.{places}
 use Rattle.page.specs.Entry.{none}
-use Rattle.page.proofs.Slices.{getD-there}
-use Rattle.store.specs.Record.{vacantAt}
+use Rattle.store.specs.Record.{pageOf, keyOf, vacantAt}
 use Rattle.store.specs.Testing.{runLength}
-use borrow.Author.Needs.{needs}
 use Rattle.store.proofs.fit.run_vacant.Statement.{statement}
 use Rattle.store.proofs.fit.run_vacant.Tie as tie
 
-regroup : (a b c d : Bool) → a && ((b && c) && d) ≡ ((a && b) && c) && d
-regroup true true c d = refl
-regroup true false c d = refl
-regroup false b c d = refl
+-- what holds of four in a row and of the next four holds of eight
+two-fours : (p : ℕ → Bool) (x j : ℕ) → allFrom p 4 x ≡ true → allFrom p 4 (x + 4) ≡ true → x ≤ j → j < x + 8 → p j ≡ true
+two-fours p x j a b g h = go (ltb j (x + 4)) refl
+  where
+    go : (t : Bool) → ltb j (x + 4) ≡ t → p j ≡ true
+    go true e = all-holds p 4 x j a g (ltb-true j (x + 4) e)
+    go false e = all-holds p 4 (x + 4) j b (ltb-false j (x + 4) e) (omega arith)
 
-abbrev Inv-loop : tie.InvT-loop
-Inv-loop map x all₀ i₀ all i =
-    (i ≤ runLength) × (allFrom (vacantAt map) runLength x ≡ all && allFrom (vacantAt map) (x + runLength - (x + i)) (x + i))
+module _ (map : List ℕ) (x : ℕ) where
+  abbrev isNone : ℕ → Bool
+  isNone i = eqb (getD map i none) none
 
-abbrev μ-loop : tie.MeasureT-loop
-μ-loop map x all₀ i₀ all i = runLength - i
+  fours : ((allFrom isNone 4 x && allFrom isNone 4 (x + 4)) && allFrom isNone 4 (places + x)) && allFrom isNone 4 (places + x + 4) ≡ allFrom (vacantAt map) runLength x
+  fours =
+      both-ways _ _
+      (λ t.
+      let u = and-true _ (allFrom isNone 4 (places + x + 4)) t in
+      let v = and-true _ (allFrom isNone 4 (places + x)) (u .0) in
+      let w = and-true (allFrom isNone 4 x) (allFrom isNone 4 (x + 4)) (v .0) in
+      all-intro (vacantAt map) runLength x
+      (λ j g h. and-intro (isNone j) (isNone (places + j)) (two-fours isNone x j (w .0) (w .1) g h) (two-fours isNone (places + x) (places + j) (v .1) (u .1) (omega arith) (omega arith))))
+      (λ t.
+      let page : (y : ℕ) → x ≤ y → y ≤ x + 4 → allFrom isNone 4 y ≡ true
+      = λ y a b. all-intro isNone 4 y (λ j g h. and-true (isNone j) (isNone (places + j)) (all-holds (vacantAt map) runLength x j t (omega arith) (omega arith)) .0) in
+      let key : (y : ℕ) → places + x ≤ y → y ≤ places + x + 4 → allFrom isNone 4 y ≡ true
+      = λ y a b.
+      all-intro isNone 4 y
+      (λ j g h.
+      let e : places + (j - places) ≡ j = omega arith in
+      rw e at (and-true (isNone (j - places)) (isNone (places + (j - places))) (all-holds (vacantAt map) runLength x (j - places) t (omega arith) (omega arith)) .1)) in
+      and-intro _ _ (and-intro _ _ (and-intro _ _ (page x (omega arith) (omega arith)) (page (x + 4) (omega arith) (omega arith))) (key (places + x) (omega arith) (omega arith))) (key (places + x + 4) (omega arith) (omega arith)))
 
-loop-holds : tie.Need-loop-holds Inv-loop μ-loop
-loop-holds c =
-    let x = c .args .x in
-    let n : x + runLength - (x + 0) ≡ runLength = omega arith in
-    let k : x + 0 ≡ x = omega arith in
-    (omega arith, rw (n, k))
+all-none-requires : tie.Need-all-none-requires
+all-none-requires c κs = search needs
 
-add-all : tie.Need-add-all Inv-loop μ-loop
-add-all c = search needs
+add-all-none : tie.Need-add-all-none
+add-all-none c = search needs
 
-mul-all : tie.Need-mul-all Inv-loop μ-loop
-mul-all c = search needs
+all-none-requires-2 : tie.Need-all-none-requires-2
+all-none-requires-2 c κs = search needs
 
-shared-slice-read-all : tie.Need-shared-slice-read-all Inv-loop μ-loop
-shared-slice-read-all c = search needs
+add-all-none-2 : tie.Need-add-all-none-2
+add-all-none-2 c = search needs
 
-add-all-2 : tie.Need-add-all-2 Inv-loop μ-loop
-add-all-2 c = search needs
+all-none-requires-3 : tie.Need-all-none-requires-3
+all-none-requires-3 c κs = search needs
 
-add-all-3 : tie.Need-add-all-3 Inv-loop μ-loop
-add-all-3 c = search needs
+add-all-none-3 : tie.Need-add-all-none-3
+add-all-none-3 c = search needs
 
-mul-all-2 : tie.Need-mul-all-2 Inv-loop μ-loop
-mul-all-2 c = search needs
+add-all-none-4 : tie.Need-add-all-none-4
+add-all-none-4 c = search needs
 
-shared-slice-read-all-2 : tie.Need-shared-slice-read-all-2 Inv-loop μ-loop
-shared-slice-read-all-2 c = search needs
+all-none-requires-4 : tie.Need-all-none-requires-4
+all-none-requires-4 c κs = search needs
 
-add-i : tie.Need-add-i Inv-loop μ-loop
-add-i c = search needs
-
-loop-less : tie.Need-loop-less Inv-loop μ-loop
-loop-less c = search needs
-
-loop-again : tie.Need-loop-again Inv-loop μ-loop
-loop-again c =
-    let l = c .before .before .before .loop in
-    let a = c .before .before .before .before .args in
-    let m = a .map .now in
-    let k : a .x + (l .i + 1) ≡ a .x + l .i + 1 = omega arith in
-    let j : places + a .x + l .i ≡ places + (a .x + l .i) = omega arith in (
-      omega arith,
-      l .inv .1 ∙ rw (all-step (vacantAt m) (a .x + runLength) (a .x + l .i) (omega arith), k, j, getD-there m (a .x + l .i) 0 none (omega arith), getD-there m (places + (a .x + l .i)) 0 none (omega arith)) (regroup (l .all) _ _ _),
-    )
-
-returns : tie.Need-returns Inv-loop μ-loop
+returns : tie.Need-returns
 returns c =
-    let l = c .before .loop in
-    let a = c .before .before .args in
-    sym (l .inv .1 ∙ rw (all-none (vacantAt (a .map .now)) (a .x + runLength) (a .x + l .i) (omega arith)) (and-passed (l .all)))
+    let a = c .before .before .before .before .before .args in
+    rw (c .before .before .before .all-none .ensures, c .before .before .all-none2 .ensures, c .before .all-none3 .ensures, c .all-none4 .ensures) (fours (a .map .now) (a .x))
 
 pub run-vacant-spec : {M : Type 1} → statement M
 run-vacant-spec =
     tie.close
     (tie.spec
-    Inv-loop
-    μ-loop
-    loop-holds
-    add-all
-    mul-all
-    shared-slice-read-all
-    add-all-2
-    add-all-3
-    mul-all-2
-    shared-slice-read-all-2
-    add-i
-    loop-less
-    loop-again
+    all-none-requires
+    add-all-none
+    all-none-requires-2
+    add-all-none-2
+    all-none-requires-3
+    add-all-none-3
+    add-all-none-4
+    all-none-requires-4
     returns)

@@ -1,15 +1,15 @@
--- Place by place.
+-- Run by run.
 use Prim.Native.Nat.{_-_, _≤_}
 use native.Mathlib.Omega.{arith}
 use borrow.Author.Needs.{needs}
 use Rattle.page.specs.Plan.{places}
-use Rattle.store.proofs.Records.{page-read}
-use Rattle.store.proofs.Unused.{Marked, marked-none, marked-next, marked-all}
+use Rattle.store.specs.Stages.{LiveMarked}
+use Rattle.store.proofs.Unused.{marked-none, marked-all}
 use Rattle.store.proofs.stages.mark_live.Statement.{statement}
 use Rattle.store.proofs.stages.mark_live.Tie as tie
 
 abbrev Inv-loop : tie.InvT-loop
-Inv-loop map marked₀ x₀ marked x = (x ≤ places) × Marked map marked x
+Inv-loop map marked₀ x₀ marked x = (x ≤ places) × LiveMarked map marked x
 
 abbrev μ-loop : tie.MeasureT-loop
 μ-loop map marked₀ x₀ marked x = places - x
@@ -17,27 +17,20 @@ abbrev μ-loop : tie.MeasureT-loop
 loop-holds : tie.Need-loop-holds Inv-loop μ-loop
 loop-holds c = let s = c .before .before in (omega arith, marked-none (s .args .map .now) (s .args .marked .now) (s .pre .1))
 
-mul-mark : tie.Need-mul-mark Inv-loop μ-loop
-mul-mark c = search needs
+run-end-requires : tie.Need-run-end-requires Inv-loop μ-loop
+run-end-requires c κs = search needs
 
-shared-slice-read-mark : tie.Need-shared-slice-read-mark Inv-loop μ-loop
-shared-slice-read-mark c = search needs
-
-mark-requires : tie.Need-mark-requires Inv-loop μ-loop
-mark-requires c κs = search needs
-
-add-x : tie.Need-add-x Inv-loop μ-loop
-add-x c = search needs
+mark-run-requires : tie.Need-mark-run-requires Inv-loop μ-loop
+mark-run-requires c κs =
+    let l = c .before .before .before .loop in
+    let e = c .before .run-end .ensures in
+    (c .before .before .before .before .before .before .pre .0, omega (arith, e), omega (arith, e), l .inv .1)
 
 loop-less : tie.Need-loop-less Inv-loop μ-loop
 loop-less c = search needs
 
 loop-again : tie.Need-loop-again Inv-loop μ-loop
-loop-again c =
-    let w = c .before .before .mark in
-    let l = c .before .before .before .before .before .before .loop in
-    let a = c .before .before .before .before .before .before .before .before .before .args in
-    (omega arith, marked-next (a .map .now) (l .marked) _ (l .x) _ (l .inv .1) (omega arith) (page-read (a .map .now) (l .x) (omega arith)) (w .ensures))
+loop-again c = (omega (arith, c .before .before .before .before .run-end .ensures), c .before .before .mark-run .ensures)
 
 same-length : tie.Need-same-length Inv-loop μ-loop
 same-length c = search needs
@@ -52,10 +45,8 @@ mark-live-spec =
     Inv-loop
     μ-loop
     loop-holds
-    mul-mark
-    shared-slice-read-mark
-    mark-requires
-    add-x
+    run-end-requires
+    mark-run-requires
     loop-less
     loop-again
     same-length

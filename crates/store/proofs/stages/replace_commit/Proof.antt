@@ -6,9 +6,6 @@ use borrow.Author.Needs.{needs}
 use Rattle.store.proofs.stages.replace_commit.Statement.{statement}
 use Rattle.store.proofs.stages.replace_commit.Tie as tie
 
-lowest-spare-requires : tie.Need-lowest-spare-requires
-lowest-spare-requires c κs = search needs
-
 sub-program-commit-block : tie.Need-sub-program-commit-block
 sub-program-commit-block c = search needs
 
@@ -23,10 +20,10 @@ erase-block-requires c κs = search needs
 
 cast-with-commit : tie.Need-cast-with-commit
 cast-with-commit c =
-    let s = c .before .before .before .before .before .before .before .before .before .before .before .before .before .before .before .before in
+    let s = c .before .before .before .before .before .before .before .before .before .before .before .before .before .before in
     let a = s .args in
-    let b = c .before .before .before .before .before .before .before .before .before .before .lowest-spare .ensures in
-    omega (arith, spare-number (a .image .now) (a .first) (a .p .numbers) (s .pre .0 .0))
+    let b = s .pre .0 .2 in
+    omega (arith, b, spare-number (a .image .now) (a .first) (a .p .numbers) (s .pre .0 .0))
 
 with-commit-requires : tie.Need-with-commit-requires
 with-commit-requires c κs = search needs
@@ -36,14 +33,14 @@ same-length c = search needs
 
 returns : tie.Need-returns
 returns c =
-    let a = c .before .before .before .before .before .before .before .before .before .before .before .before .before .before .before .before .before .args in
-    commit-moved (a .image .now) _ _ (a .p .power) _ _ (a .first) (a .p .numbers) _ _ (c .before .before .before .before .before .before .before .before .before .before .before .lowest-spare .ensures) (a .map .now) (a .letters .now) (c .before .before .before .before .before .before .before .before .program-commit-block .ensures) (c .before .before .before .erase-block .ensures) (c .with-commit .ensures)
+    let s = c .before .before .before .before .before .before .before .before .before .before .before .before .before .before .before in
+    let a = s .args in
+    commit-moved (a .image .now) _ _ (a .p .power) _ _ (a .first) (a .p .numbers) _ _ (s .pre .0 .2) (a .map .now) (a .letters .now) (c .before .before .before .before .before .before .before .before .program-commit-block .ensures) (c .before .before .before .erase-block .ensures) (c .with-commit .ensures)
 
 pub replace-commit-spec : {M : Type 1} → statement M
 replace-commit-spec =
     tie.close
     (tie.spec
-    lowest-spare-requires
     sub-program-commit-block
     program-commit-block-requires
     cast-erase-block

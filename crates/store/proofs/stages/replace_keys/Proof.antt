@@ -6,9 +6,6 @@ use borrow.Author.Needs.{needs}
 use Rattle.store.proofs.stages.replace_keys.Statement.{statement}
 use Rattle.store.proofs.stages.replace_keys.Tie as tie
 
-lowest-spare-requires : tie.Need-lowest-spare-requires
-lowest-spare-requires c κs = search needs
-
 keys-block-requires : tie.Need-keys-block-requires
 keys-block-requires c κs = search needs
 
@@ -17,9 +14,9 @@ cast-old c = search needs
 
 program-key-block-requires : tie.Need-program-key-block-requires
 program-key-block-requires c κs =
-    let s = c .before .before .before .before .before .before .before .before in
+    let s = c .before .before .before .before .before .before in
     let a = s .args in
-    let b = c .before .before .lowest-spare .ensures in
+    let b = s .pre .0 .2 in
     let o = c .before .keys-block .ensures in
     let able = s .pre .0 .0 in (
       (
@@ -33,17 +30,17 @@ program-key-block-requires c κs =
 
 erase-block-requires : tie.Need-erase-block-requires
 erase-block-requires c κs =
-    let s = c .before .before .before .before .before .before .before .before .before .before .before .before in
+    let s = c .before .before .before .before .before .before .before .before .before .before in
     let a = s .args in
     let o = c .before .before .before .before .before .keys-block .ensures in
     rw (c .before .before .before .program-key-block .kept .0, o) (old-keys-inside (a .image .now) (a .first) (a .p .numbers) (s .pre .0 .0) (a .q))
 
 cast-with-keys : tie.Need-cast-with-keys
 cast-with-keys c =
-    let s = c .before .before .before .before .before .before .before .before .before .before .before .before .before .before .before in
+    let s = c .before .before .before .before .before .before .before .before .before .before .before .before .before in
     let a = s .args in
-    let b = c .before .before .before .before .before .before .before .before .before .lowest-spare .ensures in
-    omega (arith, spare-number (a .image .now) (a .first) (a .p .numbers) (s .pre .0 .0))
+    let b = s .pre .0 .2 in
+    omega (arith, b, spare-number (a .image .now) (a .first) (a .p .numbers) (s .pre .0 .0))
 
 with-keys-requires : tie.Need-with-keys-requires
 with-keys-requires c κs = search needs
@@ -53,14 +50,14 @@ same-length c = search needs
 
 returns : tie.Need-returns
 returns c =
-    let a = c .before .before .before .before .before .before .before .before .before .before .before .before .before .before .before .before .args in
-    keys-moved (a .image .now) _ _ (a .p .power) _ _ (a .first) (a .p .numbers) _ _ (c .before .before .before .before .before .before .before .before .before .before .lowest-spare .ensures) (a .letters .now) (a .noise .now) (a .q) _ (c .before .before .before .before .before .before .before .before .before .keys-block .ensures) (c .before .before .before .before .before .before .before .program-key-block .ensures) (c .before .before .before .erase-block .ensures) (c .with-keys .ensures)
+    let s = c .before .before .before .before .before .before .before .before .before .before .before .before .before .before in
+    let a = s .args in
+    keys-moved (a .image .now) _ _ (a .p .power) _ _ (a .first) (a .p .numbers) _ _ (s .pre .0 .2) (a .letters .now) (a .noise .now) (a .q) _ (c .before .before .before .before .before .before .before .before .before .keys-block .ensures) (c .before .before .before .before .before .before .before .program-key-block .ensures) (c .before .before .before .erase-block .ensures) (c .with-keys .ensures)
 
 pub replace-keys-spec : {M : Type 1} → statement M
 replace-keys-spec =
     tie.close
     (tie.spec
-    lowest-spare-requires
     keys-block-requires
     cast-old
     program-key-block-requires

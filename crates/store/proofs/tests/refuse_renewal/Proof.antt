@@ -20,33 +20,25 @@ sub-if2 c = search needs
 
 returns-2 : tie.Need-returns-2
 returns-2 c =
-    let f = c .before .before in
     let a = c .before .before .before .before .before .before .before .args in
-    rw (passed (f .before .fits2 .ensures) (f .if1 .left), lt-leb (a .numbers .epoch + a .more) lastNumber (omega arith))
-
-lowest-empty-requires : tie.Need-lowest-empty-requires
-lowest-empty-requires c κs = search needs
+    rw (passed (c .before .before .before .fits2 .ensures) (c .before .before .if1 .left), lt-leb (a .numbers .epoch + a .more) lastNumber (omega arith))
 
 blocks-requires : tie.Need-blocks-requires
 blocks-requires c κs = search needs
 
 returns-3 : tie.Need-returns-3
 returns-3 c =
-    let f = c .before .before .before .before .before in
-    let a = c .before .before .before .before .before .before .before .before .before .before .args in
-    let e = c .before .before .lowest-empty .ensures in
-    let n = c .before .blocks2 .ensures in
-    rw (passed (f .before .fits2 .ensures) (f .if1 .left), le-leb (a .numbers .epoch + a .more) lastNumber (omega arith), no-room (a .image .now) (sym (e .0) ∙ c .if3 .taken ∙ n))
+    let s = c .before .before .before .before .before .before .before .before .before in
+    let a = s .args in
+    rw (passed (c .before .before .before .before .before .fits2 .ensures) (c .before .before .before .before .if1 .left), le-leb (a .numbers .epoch + a .more) lastNumber (omega arith), no-room (a .image .now) (sym (s .pre .3) ∙ c .if3 .taken ∙ c .before .blocks2 .ensures))
 
 returns-4 : tie.Need-returns-4
 returns-4 c =
-    let f = c .before .before .before .before .before in
-    let a = c .before .before .before .before .before .before .before .before .before .before .args in
-    let e = c .before .before .lowest-empty .ensures in
-    let n = c .before .blocks2 .ensures in
-    rw (passed (f .before .fits2 .ensures) (f .if1 .left), le-leb (a .numbers .epoch + a .more) lastNumber (omega arith), some-room (a .image .now) (λ z. c .if3 .left (e .0 ∙ z ∙ sym n)) (rw (e .0) at (e .1)))
+    let s = c .before .before .before .before .before .before .before .before .before in
+    let a = s .args in
+    rw (passed (c .before .before .before .before .before .fits2 .ensures) (c .before .before .before .before .if1 .left), le-leb (a .numbers .epoch + a .more) lastNumber (omega arith), some-room (a .image .now) (λ z. c .if3 .left (s .pre .3 ∙ z ∙ sym (c .before .blocks2 .ensures))))
 
 pub refuse-renewal-spec : {M : Type 1} → statement M
 refuse-renewal-spec =
     tie.close
-    (tie.spec fits-requires returns sub-if2 returns-2 lowest-empty-requires blocks-requires returns-3 returns-4)
+    (tie.spec fits-requires returns sub-if2 returns-2 blocks-requires returns-3 returns-4)

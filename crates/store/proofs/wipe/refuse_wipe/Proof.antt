@@ -33,10 +33,11 @@ returns-2 c =
 
 refuse-renewal-requires : tie.Need-refuse-renewal-requires
 refuse-renewal-requires c κs =
-    let a = c .before .before .before .before .before .before .before .before .before .before .args in
+    let s = c .before .before .before .before .before .before .before .before .before .before in
+    let a = s .args in
     let d = c .before .before .before in
     let t = format-take (a .image .now) (a .map .now) (a .letters .now) (a .noise .now) _ (d .before .before .refuse-noise .ensures) (passed (d .before .is-done .ensures) (d .if1 .left)) in
-    (t .size, t .buffers, omega arith)
+    (t .size, t .buffers, omega arith, s .pre)
 
 returns-3 : tie.Need-returns-3
 returns-3 c =

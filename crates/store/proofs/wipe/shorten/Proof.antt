@@ -4,7 +4,7 @@ use Rattle.store.specs.Record.{recordOf}
 use Rattle.store.specs.Stages.{atWork, commitMoved}
 use Rattle.store.proofs.Calls.{key-below}
 use Rattle.store.proofs.Spares.{commit-next}
-use Rattle.store.proofs.Renewals.{begin-able, sequence-some, first-left}
+use Rattle.store.proofs.Renewals.{begin-able, begin-spare, sequence-some, first-left}
 use borrow.Author.Needs.{needs}
 use Rattle.store.proofs.wipe.shorten.Statement.{statement}
 use Rattle.store.proofs.wipe.shorten.Tie as tie
@@ -27,7 +27,7 @@ replace-commit-requires c κs =
     let r = recordOf (a .map .now) (a .letters .now) (a .numbers) in
     let w = c .before .before .before .before .before .before .before .before .remove in
     rw (c .before .before .before .begin .ensures)
-    ((begin-able (a .image .now) r t (s .pre .3), sequence-some (a .image .now) r t), (w .kept .0 ∙ t .buffers .mapFull, w .kept .1 .0 ∙ t .buffers .lettersFull))
+    ((begin-able (a .image .now) r t (s .pre .3), sequence-some (a .image .now) r t, s .pre .4 ∙ begin-spare (a .image .now) r t (s .pre .3)), (w .kept .0 ∙ t .buffers .mapFull, w .kept .1 .0 ∙ t .buffers .lettersFull))
 
 clean-requires : tie.Need-clean-requires
 clean-requires c κs = search needs

@@ -4,6 +4,7 @@
 //! longer fits the code: where a fact is named that the code does not have, where there are more or
 //! fewer of them, or where a definition does not compile.
 
+use std::collections::{HashMap, HashSet};
 use std::fs;
 use std::path::{Path, PathBuf};
 
@@ -156,6 +157,13 @@ impl Edit {
         }
     }
 
+    /// Whether the prover's account of several edits leaves out what is wrong with this one: where a function
+    /// that its own calls is not proved, its own is not checked to the end.
+    pub fn is_hidden(&self, account: &str) -> bool {
+        let unproved = format!("fn {}: not proved; it calls ", self.place);
+        account.lines().any(|line| line.starts_with(&unproved))
+    }
+
     /// Whether the prover's account shows a failure that is at the place of none of the edits and does not
     /// follow from another.
     pub fn fails_elsewhere(edits: &[&Edit], account: &str) -> bool {
@@ -254,6 +262,72 @@ fn function_at(text: &str, at: usize) -> Option<&str> {
     None
 }
 
+// ---- Calls
+
+/// Which functions of a crate each of its functions calls, directly or through others, by their last names.
+#[derive(Debug, Default)]
+pub struct Calls(HashMap<String, HashSet<String>>);
+
+impl Calls {
+    /// The calls in the crate's modules.
+    pub fn read(folder: &Path) -> Result<Calls, String> {
+        let source = folder.join("src");
+        let fail = |error| format!("{}: {error}", source.display());
+        let mut texts = String::new();
+        for entry in fs::read_dir(&source).map_err(fail)? {
+            texts += &fs::read_to_string(entry.map_err(fail)?.path()).map_err(fail)?;
+        }
+        Ok(Calls::of(&texts))
+    }
+
+    /// The calls in some sources.
+    fn of(texts: &str) -> Calls {
+        let mut direct: HashMap<String, HashSet<String>> = HashMap::new();
+        let mut function = "";
+        for line in texts.lines() {
+            function = named_function(line).unwrap_or(function);
+            let called = direct.entry(function.to_string()).or_default();
+            let words =
+                line.split('(').filter_map(|text| text.rsplit([' ', ':', '.', '!', '&']).next());
+            called.extend(words.filter(|word| *word != function).map(str::to_string));
+        }
+        let names: HashSet<String> = direct.keys().cloned().collect();
+        direct.values_mut().for_each(|called| called.retain(|name| names.contains(name)));
+        while Calls::widen(&mut direct) {}
+        Calls(direct)
+    }
+
+    /// Adds to each function's calls those of the functions that it calls. Tells whether there were any.
+    fn widen(calls: &mut HashMap<String, HashSet<String>>) -> bool {
+        let mut any = false;
+        for name in calls.keys().cloned().collect::<Vec<String>>() {
+            let further: HashSet<String> =
+                calls[&name].iter().flat_map(|called| calls[called].clone()).collect();
+            let called = calls.get_mut(&name).expect("it is one of them");
+            let before = called.len();
+            called.extend(further);
+            any |= called.len() > before;
+        }
+        any
+    }
+
+    /// Whether one of two functions calls the other.
+    pub fn join(&self, one: &str, other: &str) -> bool {
+        let last = |path: &str| path.rsplit("::").next().unwrap_or(path).to_string();
+        let calls = |from: &str, to: &str| {
+            self.0.get(&last(from)).is_some_and(|called| called.contains(&last(to)))
+        };
+        calls(one, other) || calls(other, one)
+    }
+}
+
+/// The function of which a line is the head.
+fn named_function(line: &str) -> Option<&str> {
+    let (head, rest) = line.split_once("fn ")?;
+    let is_head = !line.trim_start().starts_with("//") && (head.is_empty() || head.ends_with(' '));
+    rest.split(['(', '<']).next().filter(|_| is_head)
+}
+
 // ---- The prover's account
 
 /// An error of an account: `PATH:LINE:COLUMN: error: TEXT`, and the lines set in below it.
@@ -332,7 +406,7 @@ fn is_useless(text: &str) -> bool {
 
 #[cfg(test)]
 mod tests {
-    use super::{code_of, function_at, Edit, Verdict};
+    use super::{code_of, function_at, Calls, Edit, Verdict};
 
     fn edit(place: &str) -> Edit {
         let text = format!("refused: {place}\nfile: src/lib.rt\nold: a\nnew: b\n");
@@ -388,6 +462,27 @@ mod tests {
         for text in ["A: u8", "⌜ b", "    e\n"] {
             assert_eq!(around(text), None, "{text}");
         }
+    }
+
+    #[test]
+    fn calls_through_others() {
+        let source = "// The fn of\nfn a() {\n    b(m::c(1))\n}\npub fn b<'a>(x: &'a u8) {\n    d(x)\n}\nfn c() {}\nfn d() {}\nfn e() {}\n";
+        let calls = Calls::of(source);
+        for (one, other) in [("k::a", "k::b"), ("k::m::c", "k::a"), ("a", "d"), ("d", "b")] {
+            assert!(calls.join(one, other), "{one} {other}");
+        }
+        for (one, other) in [("b", "c"), ("a", "e"), ("c", "d"), ("a", "a")] {
+            assert!(!calls.join(one, other), "{one} {other}");
+        }
+    }
+
+    #[test]
+    fn what_a_callee_hides() {
+        let edit = edit("page::keys::slot_of");
+        let of = |end: &str| format!("fn page::keys::slot_of: not proved{end}");
+        assert!(!edit.is_hidden(&of("")));
+        assert!(edit.is_hidden(&of("; it calls `page::keys::page_of`, which is not proved")));
+        assert!(!edit.is_hidden("fn page::keys::slot_of_2: not proved; it calls `a::b`"));
     }
 
     #[test]

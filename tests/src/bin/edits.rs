@@ -5,8 +5,8 @@
 //! `refused:` and the function, or the file of proofs, that must no longer be proved. Here an edit is
 //! checked over what the proof of its crate left (`rt dev`), so that many can be tried. Edits that each
 //! change the body of one function, no two that of the same one, are checked together: a function's proof
-//! sees of the others their contracts alone. Where one of them does not count then, or a fact fails at a
-//! place that none of them names, they are checked alone.
+//! sees of the others their contracts alone. One that does not count then, or whose function calls one that
+//! another of them spoils, is checked alone; all are where a fact fails at a place that none of them names.
 //!
 //! A proof can also be refused because it no longer fits the code, which a right program shows as well
 //! as a wrong one. So an edit of code counts only if a program of `tests/edits`, run with it (`rt try`),
@@ -21,7 +21,8 @@
 //!
 //! As many run at a time as the machine has processors, or `RT_JOBS`.
 
-use johvimaru_tests::edits::{Edit, Made, Verdict};
+use johvimaru_tests::edits::{Calls, Edit, Made, Verdict};
+use std::collections::HashMap;
 use std::fs;
 use std::io;
 use std::path::{Path, PathBuf};
@@ -255,7 +256,7 @@ impl Bench<'_> {
 
     /// Tries the edits of a group over what the check of their crate left, and says what came out of each.
     /// Gives how many are tried, and how many of them came out otherwise than they must. An edit that does
-    /// not count in the group is checked again alone.
+    /// not count in the group, or that the group hides, is checked again alone.
     fn try_group(
         &self,
         group: &[Trial],
@@ -273,7 +274,8 @@ impl Bench<'_> {
         let mut wrong = 0;
         for trial in group {
             let start = Instant::now();
-            let verdict = together.as_deref().map(|account| trial.edit.judge(account));
+            let whole = together.as_deref().filter(|account| !trial.edit.is_hidden(account));
+            let verdict = whole.map(|account| trial.edit.judge(account));
             let verdict = match verdict.filter(Verdict::counts_if_run) {
                 Some(verdict) => verdict,
                 None => trial.edit.judge(&self.account(slice::from_ref(trial), kept)?),
@@ -402,12 +404,16 @@ fn crates_with(repository: &Path, folder: &str) -> Result<Vec<String>, String> {
 }
 
 /// The trials in groups whose edits are checked together: wrong programs of one crate that each change the
-/// body of one function, and no two of a group that of the same one. All others are alone.
-fn grouped(trials: Vec<Trial>) -> Vec<Vec<Trial>> {
+/// body of one function, and no two of a group that of the same one or of one that calls the other. All
+/// others are alone.
+fn grouped(trials: Vec<Trial>, calls: &HashMap<String, Calls>) -> Vec<Vec<Trial>> {
     let mut groups: Vec<Vec<Trial>> = Vec::new();
     for trial in trials {
-        let fits =
-            |one: &Trial| one.joins && one.name == trial.name && one.edit.place != trial.edit.place;
+        let place = &trial.edit.place;
+        let fits = |one: &Trial| {
+            let apart = one.edit.place != *place && !calls[&one.name].join(&one.edit.place, place);
+            one.joins && one.name == trial.name && apart
+        };
         let takes = |group: &Vec<Trial>| group.len() < MOST_TOGETHER && group.iter().all(fits);
         match groups.iter_mut().find(|group| trial.joins && takes(group)) {
             Some(group) => group.push(trial),
@@ -437,6 +443,10 @@ fn run(logs: bool, mut words: Vec<String>) -> Result<(usize, usize), String> {
     }
     let mut names: Vec<String> = trials.iter().map(|trial| trial.name.clone()).collect();
     names.dedup();
+    let mut calls = HashMap::new();
+    for name in &names {
+        calls.insert(name.clone(), Calls::read(&repository.join("crates").join(name))?);
+    }
     let benches: Vec<Bench> = (0..jobs())
         .map(|number| Bench::new(&repository, number, logs))
         .collect::<Result<_, _>>()?;
@@ -447,7 +457,7 @@ fn run(logs: bool, mut words: Vec<String>) -> Result<(usize, usize), String> {
         let folder = benches[0].folder_of_checks()?;
         share(&benches, names, |bench, name| bench.check_whole(&name, &folder, &kept))?;
     }
-    let groups = grouped(trials);
+    let groups = grouped(trials, &calls);
     let tried = share(&benches, groups, |bench, group| bench.try_group(&group, &kept, &usual))?;
     Ok(tried.iter().fold((0, 0), |all, one| (all.0 + one.0, all.1 + one.1)))
 }

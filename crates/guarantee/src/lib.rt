@@ -1,1 +1,2 @@
-// No code: the plain book of demand 3, lists of calls with power cuts, and the one theorem about them, over what the store states.
+// No code: the plain book of demand 3, lists of calls with power cuts, and the one theorem about them, over what the
+// store states.

@@ -1,4 +1,5 @@
-// The text of a listing, written from the front of a buffer. Each function takes the number of bytes written so far, and gives it afterwards.
+// The text of a listing, written from the front of a buffer. Each function takes the number of bytes written so far,
+// and gives it afterwards.
 use page::columns;
 use page::entries;
 use page::keys::POSITIONS;

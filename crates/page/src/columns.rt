@@ -17,8 +17,8 @@ const SPACE: u8 = 0x20;
 
 const ZERO: u8 = 0x30;
 
-// The same byte in each byte of a word: the digit 0, the bit in which a space differs from it, the lower and the upper half of a
-// byte, and what carries 10 to 15 from the lower half into the upper.
+// The same byte in each byte of a word: the digit 0, the bit in which a space differs from it, the lower and the upper
+// half of a byte, and what carries 10 to 15 from the lower half into the upper.
 const ZEROS: u64 = 0x3030303030303030;
 
 const SPACE_BITS: u64 = 0x1010101010101010;
@@ -216,8 +216,8 @@ pub fn get3(src: &[u8], at: usize) -> Number
     ))
 }
 
-// The numbers that two words of four columns hold, read as one word: in each, spaces before the lowest digit that is not 0, at most
-// up to the last column, and digits from there on.
+// The numbers that two words of four columns hold, worked out as one word. In each, spaces stand before the first digit
+// that is not 0, or up to the last column, and digits from there on.
 pub fn pair_of(low: u32, high: u32) -> Pair
     ensures { λ r. ⌜ r ≡ pairIn (wordBytes 4 low) (wordBytes 4 high) ⌝ }
 {
@@ -226,14 +226,14 @@ pub fn pair_of(low: u32, high: u32) -> Pair
     let digits = changed ^ spaces;
     let over = digits | ((digits & LOW_HALVES) + SIXES);
     let marked = digits | LAST_DIGITS;
-    let right = (over & HIGH_HALVES == 0) & (spaces == (marked ^ (marked - FIRST_BITS)) & SPACE_BITS);
+    let before = (marked ^ (marked - FIRST_BITS)) & SPACE_BITS;
+    let right = (over & HIGH_HALVES == 0) & (spaces == before);
     if !right {
         return Pair::Misspelt;
     }
     let pairs = ((digits & EVEN_BYTES) * 10 + digits / 0x100) & EVEN_BYTES;
     let fours = ((pairs & EVEN_PAIRS) * 100 + pairs / 0x10000) & EVEN_PAIRS;
-    Pair::Are(
-        (fours % 0x100000000) as u32,
-        (fours / 0x100000000) as u32,
-    )
+    let first = (fours % 0x100000000) as u32;
+    let second = (fours / 0x100000000) as u32;
+    Pair::Are(first, second)
 }

@@ -256,7 +256,8 @@ fn is_place(src: &[u8], file: u32, text: u32, offset: u32) -> bool
     words::word8(src, UNIT_AT - 1) / 0x100 == place
 }
 
-// Whether 30 bytes are the header of a node with these fields: only the sequence is read. The file's columns are given as they are spelt.
+// Whether 30 bytes are the header of a node with these fields: only the sequence is read. The file's columns are given
+// as they are spelt.
 pub fn is_node_of(src: &[u8], file: u32, text: u32, offset: u32, position: u32) -> bool
     requires { ⌜ (length (now src) ≡ headerSize) × (inRange (nodeFrame 1 file offset position) ≡ true)
         × (wordBytes 4 text ≡ spell 4 file) ⌝ }

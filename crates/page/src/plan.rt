@@ -11,7 +11,8 @@ pub const PLACES: usize = 224;
 // A map has a page and a key for each place.
 pub const MAP_SIZE: usize = PLACES + PLACES;
 
-// How many nodes a file holds; none where there is no such file. Cases become a table that is read in place; a constant array would be copied at each use.
+// How many nodes a file holds; none where there is no such file. Cases become a table that is read in place; a constant
+// array would be copied at each use.
 pub fn count(file: u32) -> u32
     ensures { λ r. ⌜ r ≡ countOf filePlan file ⌝ }
 {

@@ -33,7 +33,8 @@ pub fn lowest_free(letters: &[u8]) -> Found
     Found::Nothing
 }
 
-// The first page of block b that is empty and has only empty pages after it, counted in the block; its number of pages where there is none.
+// The first page of block b that is empty and has only empty pages after it, counted in the block; its number of pages
+// where there is none.
 fn empty_from(image: &[u8], b: usize) -> usize
     requires { ⌜ b * blockSize + blockSize ≤ length (now image) ⌝ }
     ensures { λ r. ⌜ (r ≡ firstFrom
@@ -50,7 +51,8 @@ fn empty_from(image: &[u8], b: usize) -> usize
     0
 }
 
-// The lowest open page of block b, counted in the block; its number of pages where there is none. A block whose last page is taken has none.
+// The lowest open page of block b, counted in the block; its number of pages where there is none. A block whose last
+// page is taken has none.
 fn open_from(image: &[u8], numbers: Numbers, b: usize) -> usize
     requires { ⌜ b * blockSize + blockSize ≤ length (now image) ⌝ }
     ensures { λ r. ⌜ (r

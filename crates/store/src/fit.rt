@@ -81,7 +81,8 @@ fn blocks_fit(image: &[u8], numbers: Numbers) -> bool
     is_commit(image, numbers.commit)
 }
 
-// Whether a page is one of the image and a whole N page of this file, offset and key. The file's columns are given as they are spelt.
+// Whether a page is one of the image and a whole N page of this file, offset and key. The file's columns are given as
+// they are spelt.
 fn node_fits(image: &[u8], file: u32, text: u32, offset: u32, page: u16, key: u16) -> bool
     requires { ⌜ (length (now image) % blockSize ≡ 0) × (file ≤ lastFile) × (offset < countOf filePlan file)
         × (wordBytes 4 text ≡ spell 4 file) ⌝ }

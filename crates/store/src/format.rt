@@ -53,7 +53,8 @@ pub fn clear_map(map: &mut [u16])
     }
 }
 
-// Erases the image and programs an empty volume. All positions are free, so every key comes from the noise and none from the other key block.
+// Erases the image and programs an empty volume. All positions are free, so every key comes from the noise and none
+// from the other key block.
 fn program_volume(image: &mut [u8], map: &[u16], letters: &[u8], noise: &[u8], p: Power) -> Power
     requires { ⌜ (sizeRight (now image)
         ≡ true) × (now map ≡ formatted .map) × (now letters ≡ formatted .letters) × (length (now noise) ≡ noiseSize) ⌝ }

@@ -77,7 +77,8 @@ fn payload_valid(image: &[u8], g: usize, i: usize) -> bool
     entries::valid_payload(look::payload_at(image, g), i)
 }
 
-// Whether page i of block b, whose page 0 is that of a commit of epoch e that covers s, is a whole part i of it, with a valid payload.
+// Whether page i of block b, whose page 0 is that of a commit of epoch e that covers s, is a whole part i of it, with a
+// valid payload.
 fn part_whole(image: &[u8], b: usize, i: usize, e: u32, s: u32) -> bool
     requires { ⌜ (b * blockSize + blockSize ≤ length (now image))
         × (i < parts) × (formAt (now image) (pageIn b 0) ≡ Form.Whole (commitFrame e 0 s)) ⌝ }

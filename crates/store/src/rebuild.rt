@@ -1,4 +1,5 @@
-// The working record that a mount makes: the pages are replayed, the deciding entries are tested, and the letters of the positions that are named become u.
+// The working record that a mount makes: the pages are replayed, the deciding entries are tested, and the letters of
+// the positions that are named become u.
 use crate::Kind;
 use crate::fit;
 use crate::format;
@@ -144,7 +145,8 @@ pub fn clear_record(map: &mut [u16], letters: &mut [u8], scratch: &mut [u32])
     replay::clear_scratch(scratch);
 }
 
-// Replays the pages over the commit in block c, then tests what it gives. Events get 1 for each block with a whole or torn N or D page; empties have it for each empty one.
+// Replays the pages over the commit in block c, then tests what it gives. Events get 1 for each block with a whole or
+// torn N or D page; empties have it for each empty one.
 fn replay_fit(
     image: &[u8],
     c: usize,

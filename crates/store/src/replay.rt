@@ -335,7 +335,8 @@ fn replay_page(
     replay_form(image, g, covered, highest, map, letters, scratch, events)
 }
 
-// What the pages of block b make of the lists, in order; an empty block leaves them as they are. Returns the highest sequence, which was before.
+// What the pages of block b make of the lists, in order; an empty block leaves them as they are. Returns the highest
+// sequence, which was before.
 fn replay_block(
     image: &[u8],
     b: usize,
@@ -367,7 +368,8 @@ fn replay_block(
     highest
 }
 
-// What all pages make of the lists, in order; returns the highest sequence. The empties say of each block, by 1 or 0, whether it is empty.
+// What all pages make of the lists, in order; returns the highest sequence. The empties say of each block, by 1 or 0,
+// whether it is empty.
 fn replay_pages(
     image: &[u8],
     covered: u32,

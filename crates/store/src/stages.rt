@@ -1,4 +1,5 @@
-// The stages of commit and wipe: a key block or the commit block replaced by a new copy, and the data blocks without a live page erased.
+// The stages of commit and wipe: a key block or the commit block replaced by a new copy, and the data blocks without a
+// live page erased.
 use crate::Answer;
 use crate::Numbers;
 use crate::fit;
@@ -238,7 +239,8 @@ fn erase_unused(image: &mut [u8], map: &[u16], numbers: Numbers, p: Power) -> Po
     erase_all_unmarked(image, numbers, &marked, p)
 }
 
-// The stages of a commit: key block 0, whose copy goes to the lowest spare block, key block 1, the commit block, then the data blocks without a live page.
+// The stages of a commit: key block 0, whose copy goes to the lowest spare block, key block 1, the commit block, then
+// the data blocks without a live page.
 pub fn renew(
     image: &mut [u8],
     map: &[u16],

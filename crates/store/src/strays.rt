@@ -59,7 +59,8 @@ fn next_stray(events: &[u8], empties: &[u8], numbers: Numbers, from: usize, n: u
     b
 }
 
-// Erases the strays, in order. The events and empties say of each block, by 1 or 0, whether an event stands in it and whether it is empty.
+// Erases the strays, in order. The events and empties say of each block, by 1 or 0, whether an event stands in it and
+// whether it is empty.
 pub fn erase_strays(
     image: &mut [u8],
     events: &[u8],

@@ -49,7 +49,8 @@ fn refuse_wipe(
     tests::refuse_renewal(image, map, letters, numbers, 1, spare)
 }
 
-// The first stage of a wipe: a commit without the removed nodes, in the lowest empty block. The record is then as the commit to come needs it.
+// The first stage of a wipe: a commit without the removed nodes, in the lowest empty block. The record is then as the
+// commit to come needs it.
 fn shorten(
     image: &mut [u8],
     map: &mut [u16],
@@ -123,7 +124,18 @@ pub fn wipe_cut(
     if !replies::is_done(reply) {
         return replies::refused(reply, numbers);
     }
-    wipe_taken(image, map, letters, numbers, noise, file, offset, spare, n, k)
+    wipe_taken(
+        image,
+        map,
+        letters,
+        numbers,
+        noise,
+        file,
+        offset,
+        spare,
+        n,
+        k,
+    )
 }
 
 // Removes the nodes of a file from an offset on, and replaces every key that is not used by noise.

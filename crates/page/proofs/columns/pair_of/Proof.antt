@@ -15,8 +15,8 @@ eight-requires c κs = search needs
 add-over : tie.Need-add-over
 add-over c = omega (arith, and-le-r (restsIn (c .eight .result)) 0x0f0f0f0f0f0f0f0f)
 
-sub-right : tie.Need-sub-right
-sub-right c = marked-least (c .eight .result) (c .before .args .low) (c .before .args .high) (search needs) (c .eight .ensures)
+sub-before : tie.Need-sub-before
+sub-before c = marked-least (c .eight .result) (c .before .args .low) (c .before .args .high) (search needs) (c .eight .ensures)
 
 returns : tie.Need-returns
 returns c =
@@ -39,11 +39,11 @@ add-fours c =
     let d = restsIn (c .before .eight .result) in
     omega (arith, pairs-le d, and-le-r (pairsOf d) 0x0000ffff0000ffff)
 
-cast-t17 : tie.Need-cast-t17
-cast-t17 c = search needs
+cast-first : tie.Need-cast-first
+cast-first c = search needs
 
-cast-t18 : tie.Need-cast-t18
-cast-t18 c = omega (arith, fours-le (pairsOf (restsIn (c .before .eight .result))))
+cast-second : tie.Need-cast-second
+cast-second c = omega (arith, fours-le (pairsOf (restsIn (c .before .eight .result))))
 
 returns-2 : tie.Need-returns-2
 returns-2 c =
@@ -56,12 +56,12 @@ pair-of-spec =
     (tie.spec
     eight-requires
     add-over
-    sub-right
+    sub-before
     returns
     mul-pairs
     add-pairs
     mul-fours
     add-fours
-    cast-t17
-    cast-t18
+    cast-first
+    cast-second
     returns-2)

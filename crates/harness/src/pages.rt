@@ -210,7 +210,8 @@ pub extern "C" fn harness_commit_page(
     letters: &[u8],
     k: usize,
 ) -> u32
-    ensures { λ r. ⌜ answer r (now (page .exit)) ≡ commitPageAnswer (now (page .entry)) epoch part covered (now (map .entry)) (now (letters .entry)) k ⌝ }
+    ensures { λ r. ⌜ answer r (now (page .exit))
+        ≡ commitPageAnswer (now (page .entry)) epoch part covered (now (map .entry)) (now (letters .entry)) k ⌝ }
 {
     if page.len() != Frame::PAGE {
         return REFUSED;

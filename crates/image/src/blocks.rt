@@ -52,8 +52,8 @@ fn program_next_keys(
         × (last * blockSize + blockSize ≤ length (now image)) × (block < 2) × (i < pagesInBlock) ⌝ }
     requires { ⌜ (length (now letters) ≡ positions) × (length (now noise) ≡ noiseSize) ⌝ }
     ensures { λ r. ⌜ device r (new image) ≡ act (program (b * pagesInBlock + i) (pageLike (old header) i (keysFrom
-        (renewedKey (blockAt (old image) last) (old letters) (old noise)) keysInPage (keysInBlock * block + keysInPage * i))))
-        (device p (old image)) ⌝ }
+        (renewedKey (blockAt (old image) last) (old letters) (old noise)) keysInPage
+        (keysInBlock * block + keysInPage * i)))) (device p (old image)) ⌝ }
 {
     let mut next = [0u8; Frame::PAYLOAD];
     let first = KEYS_IN_BLOCK * block as usize + KEYS_IN_PAGE * i;

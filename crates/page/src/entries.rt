@@ -165,7 +165,8 @@ fn is_entry(src: &[u8]) -> bool
 // Whether every entry of a payload is vacant: the first is, and each byte is as the one an entry before it.
 pub fn all_vacant(payload: &[u8]) -> bool
     requires { ⌜ length (now payload) ≡ payloadSize ⌝ }
-    ensures { λ r. ⌜ r ≡ allFrom (λ j. same (part (old payload) (entrySize * j) entrySize) vacantEntry) entriesInPart 0 ⌝ }
+    ensures { λ r. ⌜ r
+        ≡ allFrom (λ j. same (part (old payload) (entrySize * j) entrySize) vacantEntry) entriesInPart 0 ⌝ }
 {
     bytes::same(
         &payload[ENTRY_SIZE..Frame::PAYLOAD],

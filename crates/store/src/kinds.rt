@@ -39,7 +39,8 @@ fn same_frame(f: Frame, h: Frame) -> bool
 // Whether page i of block b is whole, with the header of page 0, which is whole, but for the part i.
 fn page_like(image: &[u8], b: usize, i: usize) -> bool
     requires { ⌜ (b * blockSize + blockSize ≤ length (now image)) × (i < pagesInBlock) ⌝ }
-    requires { ⌜ ((f : HeaderFrame) × (formAt (now image) (pageIn b 0) ≡ Form.Whole f) × (inRange (withPart i f) ≡ true)) ⌝ }
+    requires { ⌜ ((f : HeaderFrame)
+        × (formAt (now image) (pageIn b 0) ≡ Form.Whole f) × (inRange (withPart i f) ≡ true)) ⌝ }
     ensures { λ r. ⌜ r ≡ wholeLike (formAt (old image) (pageIn b 0)) i (formAt (old image) (pageIn b i)) ⌝ }
 {
     forms::is_whole_like(

@@ -102,7 +102,8 @@ fn use_key(letters: &mut [u8], key: u16) -> bool
 fn use_run(map: &[u16], letters: &mut [u8], from: usize, end: usize) -> bool
     requires { ⌜ (length (now map) ≡ mapSize) × (from ≤ end) × (end ≤ places)
         × Tallied (now map) (marks (now letters)) from ⌝ }
-    ensures { λ r. ⌜ (r ≡ true → Marked (old map) (old letters) (new letters) end) × (r ≡ false → keysApart (old map) ≡ false) ⌝ }
+    ensures { λ r. ⌜ (r ≡ true → Marked (old map) (old letters) (new letters) end)
+        × (r ≡ false → keysApart (old map) ≡ false) ⌝ }
 {
     if fit::is_vacant_run(map, from, end) {
         return true;

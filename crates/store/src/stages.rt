@@ -167,7 +167,8 @@ fn mark(marked: &mut [u8], page: u16)
 
 // Marks the blocks of the pages of places from one to end. A vacant run has none.
 fn mark_run(map: &[u16], marked: &mut [u8], from: usize, end: usize)
-    requires { ⌜ (length (now map) ≡ mapSize) × (from ≤ end) × (end ≤ places) × LiveMarked (now map) (now marked) from ⌝ }
+    requires { ⌜ (length (now map) ≡ mapSize) × (from ≤ end) × (end ≤ places)
+        × LiveMarked (now map) (now marked) from ⌝ }
     ensures { λ _. ⌜ LiveMarked (old map) (new marked) end ⌝ }
 {
     if fit::is_vacant_run(map, from, end) {

@@ -66,7 +66,8 @@ fn shorten(
         × Planned file offset × (numbers .epoch ≤ lastNumber) × (1 ≤ emptyBlocks (now image))
         × (spare ≡ lowestEmpty (now image)) ⌝ }
     ensures { λ r. ⌜ (atWork r (new image)
-        ≡ after (powerFor n k) (old image) (removedFirst (old image) (recordOf (old map) (old letters) numbers) file offset))
+        ≡ after (powerFor n k) (old image)
+        (removedFirst (old image) (recordOf (old map) (old letters) numbers) file offset))
         × (recordOf (new map) (new letters) (r .numbers)
         ≡ removedFirst (old image) (recordOf (old map) (old letters) numbers) file offset .after) ⌝ }
 {

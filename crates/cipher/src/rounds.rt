@@ -28,6 +28,7 @@ pub(crate) struct States {
 
 // Four bytes of the round table.
 fn table_word(table: &[u8; 2048], at: usize) -> u32
+    requires { ⌜ now table ≡ roundTable ⌝ }
     requires { ⌜ at + 4 ≤ length (now table) ⌝ }
     ensures { λ r. ⌜ littleEndian r ≡ part (old table) at 4 ⌝ }
 {

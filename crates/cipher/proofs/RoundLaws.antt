@@ -1,7 +1,7 @@
--- Laws of a round: the entries of the tables; a mixed column, row by row; one round more.
+-- Laws of a round: the entries of the tables; a mixed column, row by row; the rounds that are left.
 use mathlib.Core.Path.{_≡_, ap, ap₂, sym, _∙_}
 use mathlib.Core.List.{List, _++_}
-use Prim.Native.Nat.{ℕ, _+_, _*_, _<_, _≤_}
+use Prim.Native.Nat.{ℕ, _+_, _-_, _*_, _<_, _≤_}
 use native.Mathlib.Numerals.{add-one}
 use native.Mathlib.Omega.{arith}
 use lib.ListN.{length, getD}
@@ -11,7 +11,7 @@ use Rattle.cipher.specs.Field.{_⊕_}
 use Rattle.cipher.specs.SBox.{sBox}
 use Rattle.cipher.specs.Words.{littleEndian, xorBytes}
 use Rattle.cipher.specs.Table.{row0, row1, row2, row3, sBoxTable, doubledColumns, roundTable}
-use Rattle.cipher.specs.Cipher.{subBytes, shiftRows, mixBytes, mixColumns, addRoundKey, rounds}
+use Rattle.cipher.specs.Cipher.{Nr, subBytes, shiftRows, mixBytes, mixColumns, addRoundKey, rounds, cipher}
 use Rattle.cipher.proofs.TableRules.{s-box-rule, round-table-rule}
 use Rattle.cipher.proofs.WordLaws.{word-xor}
 
@@ -63,7 +63,23 @@ mixed t0 t1 t2 t3 e0 e1 e2 e3 =
     word-xor (t0 ⊕ t1 ⊕ t2) t3
     ∙ ap₂ xorBytes (word-xor (t0 ⊕ t1) t2 ∙ ap₂ xorBytes (word-xor t0 t1 ∙ ap₂ xorBytes e0 e1) e2) e3
 
--- ---- one round more
-pub round-more : (w : List ℕ) (i : ℕ) (s : List ℕ) → addRoundKey w (i + 1) (mixColumns (shiftRows (subBytes (rounds w i s)))) ≡ rounds w (i + 1) s
-unfolding rounds
-round-more w i s = simp add-one
+-- ---- the rounds that are left
+-- the block whose state after `done` rounds is s, whichever it is, has the state t after i rounds
+abbrev pub Leads : List ℕ → List ℕ → ℕ → List ℕ → ℕ → Type 0
+Leads w s done t i = (input : List ℕ) → s ≡ rounds w done (addRoundKey w 0 input) → t ≡ rounds w i (addRoundKey w 0 input)
+
+module _ (w s : List ℕ) (done : ℕ) (t u : List ℕ) (i : ℕ) (l : Leads w s done t i) where
+  -- one round more
+  pub round-more : u ≡ addRoundKey w (i + 1) (mixColumns (shiftRows (subBytes t))) → Leads w s done u (i + 1)
+  unfolding rounds
+  round-more e input h =
+      e ∙ ap (λ (x : List ℕ). addRoundKey w (i + 1) (mixColumns (shiftRows (subBytes x)))) (l input h) ∙ simp add-one
+
+  -- the last round
+  pub round-last : i ≡ Nr - 1 → u ≡ addRoundKey w Nr (shiftRows (subBytes t))
+      → (input : List ℕ) → s ≡ rounds w done (addRoundKey w 0 input) → u ≡ cipher w input
+  unfolding cipher
+  round-last n e input h =
+      e
+      ∙ ap (λ (x : List ℕ). addRoundKey w Nr (shiftRows (subBytes x)))
+      (l input h ∙ ap (λ (r : ℕ). rounds w r (addRoundKey w 0 input)) n)

@@ -13,8 +13,9 @@ use Rattle.cipher.specs.Cipher.{subBytes, shiftRows, mixBytes, mixColumn
 use Rattle.cipher.specs.CounterMode.{counterBlock}
 use Rattle.cipher.specs.Table.{row0, row1, row2, row3}
 use Rattle.cipher.specs.State.{state}
+use Rattle.cipher.specs.declared.caching.Cache.{Cache}
 use Rattle.cipher.specs.declared.columns.Columns.{Columns}
-use Rattle.cipher.specs.Caching.{lastShare, columnShare, cachedColumn, cachedState}
+use Rattle.cipher.specs.Caching.{lastShare, columnShare, cachedColumn, cachedState, Serves}
 use Rattle.cipher.proofs.Sums.{xor-bytes-swap, xor-bytes-twice}
 use Rattle.cipher.proofs.WordLaws.{four-eq, words-eq}
 
@@ -109,10 +110,14 @@ module _ (n m : ℕ) (e : n / 256 ≡ m / 256) where
   same-counters f g =
       ap f (big-endian-last 15 n) ∙ g (n / 256) (n % 256) (m % 256) ∙ ap (λ (h : ℕ). f (block h (m % 256))) e ∙ sym (ap f (big-endian-last 15 m))
 
-  pub cached-column-same : (w : List ℕ) → cachedColumn w n ≡ cachedColumn w m
+  cached-column-same : (w : List ℕ) → cachedColumn w n ≡ cachedColumn w m
   unfolding cachedColumn
   cached-column-same w = same-counters (columnOf w) (column-same w)
 
-  pub cached-state-same : (w : List ℕ) → cachedState w n ≡ cachedState w m
+  cached-state-same : (w : List ℕ) → cachedState w n ≡ cachedState w m
   unfolding cachedState
   cached-state-same w = same-counters (restOf w) (rest-same w)
+
+  -- a cache serves them all
+  pub serves-same : (w : List ℕ) (cache : Cache) → Serves w n cache → Serves w m cache
+  serves-same w cache p = record { column = p .column ∙ cached-column-same w; rest = p .rest ∙ cached-state-same w }

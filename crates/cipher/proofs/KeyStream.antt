@@ -1,4 +1,4 @@
--- Laws of the key stream: its length, and one block more of it added.
+-- Laws of the key stream: its length, a list with a block added from a place on, and two blocks more of the stream added.
 use mathlib.Core.Path.{_≡_, refl, ap, ap₂, _∙_, sym}
 use mathlib.Core.List.{List, _++_, append-nil}
 use Prim.Native.Nat.{ℕ, zero, suc, _+_, _≤_, _-_, _*_}
@@ -21,25 +21,39 @@ length-key-stream w zero = refl
 length-key-stream w (suc n) =
     length-append (keyStream w n) (cipher w (counterBlock n)) ∙ omega (arith, length-key-stream w n, length-cipher w (counterBlock n))
 
--- ---- the tail of p from a on, lent and back
-module _ (p : List ℕ) (a : ℕ) (h : a ≤ length p) where
-  tail-lent : take (length p - a) (drop a p) ≡ drop a p
-  tail-lent = take-all (length p - a) (drop a p) (simp length-drop (omega arith))
+-- ---- a list with k added from a on
+-- where a is past its end
+pub past-end : (p : List ℕ) (a : ℕ) (k : List ℕ) → length p ≤ a → p ≡ take a p ++ xorBytes (drop a p) k
+past-end p a k h = sym (ap₂ (λ (x y : List ℕ). x ++ xorBytes y k) (take-all a p h) (drop-of-length-le p {i = a} h) ∙ append-nil p)
 
-  tail-back : (y : List ℕ) → take a p ++ (y ++ drop (length p - a) (drop a p)) ≡ take a p ++ y
-  tail-back y =
-      ap (λ (l : List ℕ). take a p ++ (y ++ l)) (drop-of-length-le (drop a p) {i = length p - a} (simp length-drop (omega arith)))
-      ∙ ap (λ (l : List ℕ). take a p ++ l) (append-nil y)
+-- by its tail from a on, lent and back
+pub tail-added : (p : List ℕ) (a : ℕ) (k y : List ℕ) → a ≤ length p → y ≡ xorBytes (take (length p - a) (drop a p)) k
+    → take a p ++ (y ++ drop (length p - a) (drop a p)) ≡ take a p ++ xorBytes (drop a p) k
+tail-added p a k y h e =
+    let l : length (drop a p) ≤ length p - a = simp length-drop (omega arith) in
+    ap (λ (x : List ℕ). take a p ++ (y ++ x)) (drop-of-length-le (drop a p) {i = length p - a} l)
+    ∙ ap (λ (x : List ℕ). take a p ++ x) (append-nil y ∙ e ∙ ap (λ (x : List ℕ). xorBytes x k) (take-all (length p - a) (drop a p) l))
 
--- block n added behind the n blocks before it
-pub key-stream-more : (w p₀ p : List ℕ) (n a : ℕ) (k y : List ℕ) → a ≤ length p → length p ≡ length p₀ → a ≡ 16 * n
-    → p ≡ xorBytes p₀ (keyStream w n) → y ≡ xorBytes (take (length p - a) (drop a p)) k → k ≡ cipher w (counterBlock n)
-    → take a p ++ (y ++ drop (length p - a) (drop a p)) ≡ xorBytes p₀ (keyStream w (n + 1))
-unfolding keyStream
-key-stream-more w p₀ p n a k y h l e ep ey ek =
-    let len : a ≡ length (keyStream w n) = omega (arith, length-key-stream w n) in
-    tail-back p a h y
-    ∙ ap (λ (x : List ℕ). take a p ++ x) (ey ∙ ap₂ xorBytes (tail-lent p a h) ek)
-    ∙ ap₂ (λ (x : List ℕ) (b : ℕ). take b x ++ xorBytes (drop b x) (cipher w (counterBlock n))) ep len
-    ∙ sym (xor-append p₀ (keyStream w n) (cipher w (counterBlock n)) (omega arith))
-    ∙ ap (λ (m : ℕ). xorBytes p₀ (keyStream w m)) (sym (add-one n))
+-- ---- the blocks of the counters from n on, added behind the n blocks before them. What is past the end of p₀ changes nothing
+module _ (w p₀ : List ℕ) where
+  -- one block
+  key-stream-more : (n a : ℕ) (p k q : List ℕ) → a ≡ 16 * n → p ≡ xorBytes p₀ (keyStream w n) → k ≡ cipher w (counterBlock n)
+      → q ≡ take a p ++ xorBytes (drop a p) k → q ≡ xorBytes p₀ (keyStream w (n + 1))
+  unfolding keyStream
+  key-stream-more n a p k q e ep ek eq =
+      let len : a ≡ length (keyStream w n) = omega (arith, length-key-stream w n) in
+      eq
+      ∙ ap (λ (x : List ℕ). take a p ++ xorBytes (drop a p) x) ek
+      ∙ ap₂ (λ (x : List ℕ) (b : ℕ). take b x ++ xorBytes (drop b x) (cipher w (counterBlock n))) ep len
+      ∙ sym (xor-append p₀ (keyStream w n) (cipher w (counterBlock n)))
+      ∙ ap (λ (m : ℕ). xorBytes p₀ (keyStream w m)) (sym (add-one n))
+
+  -- two blocks
+  pub key-stream-two : (n a : ℕ) (p k q l r : List ℕ) → a ≡ 16 * n → p ≡ xorBytes p₀ (keyStream w n)
+      → (k ≡ cipher w (counterBlock n)) × (l ≡ cipher w (counterBlock (n + 1)))
+      → q ≡ take a p ++ xorBytes (drop a p) k → r ≡ take (a + 16) q ++ xorBytes (drop (a + 16) q) l
+      → r ≡ xorBytes p₀ (keyStream w (n + 2))
+  key-stream-two n a p k q l r e ep eb eq er =
+      let two : n + 1 + 1 ≡ n + 2 = omega arith in
+      key-stream-more (n + 1) (a + 16) q l r (omega arith) (key-stream-more n a p k q e ep (eb .0) eq) (eb .1) er
+      ∙ ap (λ (m : ℕ). xorBytes p₀ (keyStream w m)) two

@@ -106,8 +106,7 @@ xor-all (a ∷ q) [] (suc j) h = refl
 xor-all (a ∷ q) (b ∷ k) (suc j) h = ap (λ (l : List ℕ). (a ⊕ b) ∷ l) (xor-all q k j (le-of-suc-le-suc h))
 
 -- more bytes are added from where the first end
-pub xor-append : (q k m : List ℕ) → length k ≤ length q
-    → xorBytes q (k ++ m) ≡ take (length k) (xorBytes q k) ++ xorBytes (drop (length k) (xorBytes q k)) m
-xor-append q [] m h = ap (λ (l : List ℕ). xorBytes l m) (sym (xor-nil q))
-xor-append [] (b ∷ k) m h = absurd (not-suc-le-zero h)
-xor-append (a ∷ q) (b ∷ k) m h = ap (λ (l : List ℕ). (a ⊕ b) ∷ l) (xor-append q k m (le-of-suc-le-suc h))
+pub xor-append : (q k m : List ℕ) → xorBytes q (k ++ m) ≡ take (length k) (xorBytes q k) ++ xorBytes (drop (length k) (xorBytes q k)) m
+xor-append q [] m = ap (λ (l : List ℕ). xorBytes l m) (sym (xor-nil q))
+xor-append [] (b ∷ k) m = refl
+xor-append (a ∷ q) (b ∷ k) m = ap (λ (l : List ℕ). (a ⊕ b) ∷ l) (xor-append q k m)

@@ -1,18 +1,20 @@
--- The rules of the tables: each is one test, computed over all 256 entries, and lifted to every entry by `table-rule`.
-use mathlib.Core.Path.{_≡_, refl, _∙_, ap}
+-- The rules of the tables. That of the S-box is one test, computed over all 256 entries, and lifted to every entry by
+-- `table-rule`; that of the round table follows from it.
+use mathlib.Core.Path.{_≡_, refl, _∙_, ap, sym}
 use mathlib.Core.Bool.{Bool, true, false, _&&_}
-use mathlib.Core.List.{List, _++_}
-use Prim.Native.Nat.{ℕ, _/_, _%_, _<_, min}
+use mathlib.Core.List.{List, [], _∷_, _++_}
+use Prim.Native.Nat.{ℕ, zero, suc, _+_, _*_, _<_, min}
+use native.Mathlib.Omega.{arith}
 use borrow.Author.Tests.{eqb-true}
 use lib.Dec.{T, eqb}
-use lib.ListN.{getD}
-use Rattle.base.specs.Each.{same}
+use lib.ListN.{length, getD, take, drop}
+use lib.Seq.{drop-cons, drop-drop, drop-nil}
+use Rattle.base.specs.Part.{part}
 use Rattle.base.proofs.Choice.{and-true}
-use Rattle.base.proofs.Eachs.{table-rule, same-true}
+use Rattle.base.proofs.Eachs.{table-rule}
 use Rattle.cipher.specs.Field.{_•_, inverse}
 use Rattle.cipher.specs.SBox.{affine, sBox}
-use Rattle.cipher.specs.Words.{littleEndian}
-use Rattle.cipher.specs.Table.{row0, row1, row2, row3, sBoxTable, roundTable}
+use Rattle.cipher.specs.Table.{row0, sBoxTable, doubledColumns, roundTable}
 
 is-true : (b : Bool) → T b → b ≡ true
 is-true true t = refl
@@ -37,24 +39,21 @@ module _ (k : ℕ) (h : k < 256) where
   pub inverse-rule : k • inverse k ≡ min k 1
   inverse-rule = tested .1
 
--- ---- the round table: four bytes of an entry, from byte 0, 3, 2 and 1 on, are what MixColumns makes of the S-box byte in row
--- 0, 1, 2 and 3
-abbrev pub reads : ℕ → List ℕ
-reads x =
-    littleEndian (x % 0x100000000)
-    ++ littleEndian (x / 0x1000000 % 0x100000000)
-    ++ littleEndian (x / 0x10000 % 0x100000000)
-    ++ littleEndian (x / 0x100 % 0x100000000)
+-- ---- the round table: 8 bytes to an entry, the column that MixColumns makes of the S-box byte in row 0, twice
+doubled-drop : (l : List ℕ) (k : ℕ) → drop (8 * k) (doubledColumns l) ≡ doubledColumns (drop k l)
+unfolding doubledColumns
+doubled-drop l zero = refl
+doubled-drop [] (suc k) = drop-nil (8 * suc k)
+doubled-drop (s ∷ l) (suc k) =
+    let e : 8 * suc k ≡ 8 + 8 * k = omega arith in
+    ap (λ (n : ℕ). drop n (doubledColumns (s ∷ l))) e
+    ∙ sym (drop-drop (8 * k) 8 (doubledColumns (s ∷ l)))
+    ∙ doubled-drop l k
 
-abbrev pub rows : ℕ → List ℕ
-rows s = row0 s ++ row1 s ++ row2 s ++ row3 s
+doubled-part : (l : List ℕ) (k : ℕ) → k < length l → part (doubledColumns l) (8 * k) 8 ≡ row0 (getD l k 0) ++ row0 (getD l k 0)
+unfolding doubledColumns part
+doubled-part l k h = ap (take 8) (doubled-drop l k ∙ ap doubledColumns (drop-cons l k 0 h))
 
-roundTest : ℕ → ℕ → Bool
-unfolding _•_ same sBoxTable
-roundTest k x = same (reads x) (rows (getD sBoxTable k 0))
-
-pub round-table-rule : (k : ℕ) → k < 256 → reads (getD roundTable k 0) ≡ rows (sBox k)
-unfolding roundTable roundTest
-round-table-rule k h =
-    same-true (reads (getD roundTable k 0)) (rows (getD sBoxTable k 0)) (is-true _ (table-rule roundTest roundTable tt k h))
-    ∙ ap rows (s-box-rule k h)
+pub round-table-rule : (k : ℕ) → k < 256 → part roundTable (8 * k) 8 ≡ row0 (sBox k) ++ row0 (sBox k)
+unfolding roundTable sBoxTable
+round-table-rule k h = doubled-part sBoxTable k h ∙ ap (λ (s : ℕ). row0 s ++ row0 s) (s-box-rule k h)

@@ -6,6 +6,8 @@ use native.Mathlib.Omega.{arith}
 use lib.Bits.{xor-shr, xor-mod}
 use lib.ListN.{length, getD, drop, drop-of-length-le, List·getD-append}
 use lib.Seq.{drop-cons, getD-append-add}
+use Rattle.base.specs.Part.{part}
+use Rattle.base.proofs.Parts.{part-length, part-at}
 use Rattle.cipher.specs.Field.{_⊕_}
 use Rattle.cipher.specs.Words.{four, word, xorBytes, littleEndian}
 
@@ -48,6 +50,18 @@ word-all l e = from-drop 4 0 l (sym e)
 pub words-all : (l : List ℕ) → length l ≡ 16 → word l 0 ++ word l 1 ++ word l 2 ++ word l 3 ≡ l
 unfolding from
 words-all l e = from-drop 16 0 l (sym e)
+
+-- four bytes from a on, one by one
+pub four-part : (l : List ℕ) (a : ℕ) → a + 4 ≤ length l
+    → four (getD l a 0) (getD l (a + 1) 0) (getD l (a + 2) 0) (getD l (a + 3) 0) ≡ part l a 4
+four-part l a h =
+    let e : a ≡ a + 0 = omega arith in
+    four-eq
+    (ap (λ (n : ℕ). getD l n 0) e ∙ sym (part-at l a 4 0 0 (omega arith)))
+    (sym (part-at l a 4 1 0 (omega arith)))
+    (sym (part-at l a 4 2 0 (omega arith)))
+    (sym (part-at l a 4 3 0 (omega arith)))
+    ∙ word-all (part l a 4) (part-length l a 4 h)
 
 -- word i of two lists, in the first of them
 pub word-left : (p q : List ℕ) (i : ℕ) → 4 * i + 4 ≤ length p → word (p ++ q) i ≡ word p i

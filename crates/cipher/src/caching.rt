@@ -58,7 +58,7 @@ fn counter_state(w: &[u8; 176], n: u64) -> Columns
 }
 
 // A state after round 2 plus the share of column 0, x: it brings the share in, or takes it out again.
-fn add_column_share(table: &[u64; 256], s: Columns, x: u32) -> Columns
+fn add_column_share(table: &[u8; 2048], s: Columns, x: u32) -> Columns
     requires { ⌜ now table ≡ roundTable ⌝ }
     ensures { λ r. ⌜ state r ≡ xorBytes (state s) (columnShare (littleEndian x)) ⌝ }
 {
@@ -70,7 +70,7 @@ fn add_column_share(table: &[u64; 256], s: Columns, x: u32) -> Columns
 }
 
 // The cache for counter n: two rounds, with the shares taken out.
-pub(crate) fn new_cache(table: &[u64; 256], w: &[u8; 176], n: u64) -> Cache
+pub(crate) fn new_cache(table: &[u8; 2048], w: &[u8; 176], n: u64) -> Cache
     requires { ⌜ now table ≡ roundTable ⌝ }
     ensures { λ r. ⌜ Serves (old w) n r ⌝ }
 {
@@ -83,7 +83,7 @@ pub(crate) fn new_cache(table: &[u64; 256], w: &[u8; 176], n: u64) -> Cache
 }
 
 // The cache for counter n + 1 after that for counter n.
-pub(crate) fn next_cache(table: &[u64; 256], w: &[u8; 176], cache: Cache, n: u64) -> Cache
+pub(crate) fn next_cache(table: &[u8; 2048], w: &[u8; 176], cache: Cache, n: u64) -> Cache
     requires { ⌜ now table ≡ roundTable ⌝ }
     requires { ⌜ n + 1 < 2 ^ 64 ⌝ }
     requires { ⌜ Serves (now w) n cache ⌝ }
@@ -97,7 +97,7 @@ pub(crate) fn next_cache(table: &[u64; 256], w: &[u8; 176], cache: Cache, n: u64
 }
 
 // The state of counter n after two rounds.
-pub(crate) fn two_rounds(table: &[u64; 256], w: &[u8; 176], cache: Cache, n: u64) -> Columns
+pub(crate) fn two_rounds(table: &[u8; 2048], w: &[u8; 176], cache: Cache, n: u64) -> Columns
     requires { ⌜ now table ≡ roundTable ⌝ }
     requires { ⌜ Serves (now w) n cache ⌝ }
     ensures { λ r. ⌜ state r ≡ counterState (old w) 2 n ⌝ }

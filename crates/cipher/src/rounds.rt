@@ -2,7 +2,9 @@
 ghost use mathlib.Core.Path.{_≡_};
 ghost use mathlib.Core.List.{List};
 ghost use Prim.Native.Nat.{ℕ, _+_, _*_, _<_, _≤_};
+ghost use lib.ListN.{length};
 ghost use Rattle.base.specs.Lent.{old};
+ghost use Rattle.base.specs.Part.{part};
 ghost use Rattle.cipher.specs.SBox.{sBox};
 ghost use Rattle.cipher.specs.Table.{roundTable, row0, row1, row2, row3};
 ghost use Rattle.cipher.specs.Words.{four, word, byte0, byte1, byte2, byte3, littleEndian};
@@ -10,6 +12,7 @@ ghost use Rattle.cipher.specs.Cipher.{Nb, Nr, subBytes, shiftRows, mixBy
 ghost use Rattle.cipher.specs.State.{state};
 use crate::columns::Columns;
 use crate::columns::add;
+use crate::tables::ENTRY_SIZE;
 use crate::words::from_le_bytes;
 
 // The rounds. All but the last are alike; the last has no MixColumns.
@@ -17,40 +20,55 @@ pub(crate) const ROUNDS: usize = 10;
 
 const FULL_ROUNDS: usize = ROUNDS - 1;
 
+// Two states that are worked on side by side: that takes little longer than one.
+pub(crate) struct States {
+    pub(crate) first: Columns,
+    pub(crate) second: Columns,
+}
+
+// Four bytes of the round table.
+fn table_word(table: &[u8; 2048], at: usize) -> u32
+    requires { ⌜ now table ≡ roundTable ⌝ }
+    requires { ⌜ at + 4 ≤ length (now table) ⌝ }
+    ensures { λ r. ⌜ littleEndian r ≡ part (old table) at 4 ⌝ }
+{
+    from_le_bytes(table[at], table[at + 1], table[at + 2], table[at + 3])
+}
+
 // SubBytes and MixColumns of row 0 of x alone, by the round table.
-pub(crate) fn mix_row_0(table: &[u64; 256], x: u32) -> u32
+pub(crate) fn mix_row_0(table: &[u8; 2048], x: u32) -> u32
     requires { ⌜ now table ≡ roundTable ⌝ }
     ensures { λ r. ⌜ littleEndian r ≡ row0 (sBox (byte0 x)) ⌝ }
 {
-    (table[(x % 0x100) as usize] % 0x100000000) as u32
+    table_word(table, ENTRY_SIZE * ((x % 0x100) as usize))
 }
 
 // The same of row 1 alone.
-pub(crate) fn mix_row_1(table: &[u64; 256], x: u32) -> u32
+pub(crate) fn mix_row_1(table: &[u8; 2048], x: u32) -> u32
     requires { ⌜ now table ≡ roundTable ⌝ }
     ensures { λ r. ⌜ littleEndian r ≡ row1 (sBox (byte1 x)) ⌝ }
 {
-    (table[(x / 0x100 % 0x100) as usize] / 0x1000000 % 0x100000000) as u32
+    table_word(table, ENTRY_SIZE * ((x / 0x100 % 0x100) as usize) + 3)
 }
 
 // The same of row 2 alone.
-pub(crate) fn mix_row_2(table: &[u64; 256], x: u32) -> u32
+pub(crate) fn mix_row_2(table: &[u8; 2048], x: u32) -> u32
     requires { ⌜ now table ≡ roundTable ⌝ }
     ensures { λ r. ⌜ littleEndian r ≡ row2 (sBox (byte2 x)) ⌝ }
 {
-    (table[(x / 0x10000 % 0x100) as usize] / 0x10000 % 0x100000000) as u32
+    table_word(table, ENTRY_SIZE * ((x / 0x10000 % 0x100) as usize) + 2)
 }
 
 // The same of row 3 alone.
-pub(crate) fn mix_row_3(table: &[u64; 256], x: u32) -> u32
+pub(crate) fn mix_row_3(table: &[u8; 2048], x: u32) -> u32
     requires { ⌜ now table ≡ roundTable ⌝ }
     ensures { λ r. ⌜ littleEndian r ≡ row3 (sBox (byte3 x)) ⌝ }
 {
-    (table[(x / 0x1000000 % 0x100) as usize] / 0x100 % 0x100000000) as u32
+    table_word(table, ENTRY_SIZE * ((x / 0x1000000 % 0x100) as usize) + 1)
 }
 
 // SubBytes and MixColumns of row 0 of a, row 1 of b, row 2 of c and row 3 of d.
-fn sub_mix(table: &[u64; 256], a: u32, b: u32, c: u32, d: u32) -> u32
+fn sub_mix(table: &[u8; 2048], a: u32, b: u32, c: u32, d: u32) -> u32
     requires { ⌜ now table ≡ roundTable ⌝ }
     ensures { λ r. ⌜ littleEndian r ≡ mixBytes (sBox (byte0 a)) (sBox (byte1 b)) (sBox (byte2 c)) (sBox (byte3 d)) ⌝ }
 {
@@ -58,7 +76,7 @@ fn sub_mix(table: &[u64; 256], a: u32, b: u32, c: u32, d: u32) -> u32
 }
 
 // SubBytes, ShiftRows and MixColumns: ShiftRows brings the rows of a column from that column and the next three.
-fn sub_shift_mix(table: &[u64; 256], s: Columns) -> Columns
+fn sub_shift_mix(table: &[u8; 2048], s: Columns) -> Columns
     requires { ⌜ now table ≡ roundTable ⌝ }
     ensures { λ r. ⌜ state r ≡ mixColumns (shiftRows (subBytes (state s))) ⌝ }
 {
@@ -70,20 +88,20 @@ fn sub_shift_mix(table: &[u64; 256], s: Columns) -> Columns
 }
 
 // SubBytes of row 0 of a, row 1 of b, row 2 of c and row 3 of d: byte 1 of an entry is the S-box byte.
-fn sub_rows(table: &[u64; 256], a: u32, b: u32, c: u32, d: u32) -> u32
+fn sub_rows(table: &[u8; 2048], a: u32, b: u32, c: u32, d: u32) -> u32
     requires { ⌜ now table ≡ roundTable ⌝ }
     ensures { λ r. ⌜ littleEndian r ≡ four (sBox (byte0 a)) (sBox (byte1 b)) (sBox (byte2 c)) (sBox (byte3 d)) ⌝ }
 {
     from_le_bytes(
-        (table[(a % 0x100) as usize] / 0x100 % 0x100) as u8,
-        (table[(b / 0x100 % 0x100) as usize] / 0x100 % 0x100) as u8,
-        (table[(c / 0x10000 % 0x100) as usize] / 0x100 % 0x100) as u8,
-        (table[(d / 0x1000000 % 0x100) as usize] / 0x100 % 0x100) as u8,
+        table[ENTRY_SIZE * ((a % 0x100) as usize) + 1],
+        table[ENTRY_SIZE * ((b / 0x100 % 0x100) as usize) + 1],
+        table[ENTRY_SIZE * ((c / 0x10000 % 0x100) as usize) + 1],
+        table[ENTRY_SIZE * ((d / 0x1000000 % 0x100) as usize) + 1],
     )
 }
 
 // SubBytes and ShiftRows.
-fn sub_shift(table: &[u64; 256], s: Columns) -> Columns
+fn sub_shift(table: &[u8; 2048], s: Columns) -> Columns
     requires { ⌜ now table ≡ roundTable ⌝ }
     ensures { λ r. ⌜ state r ≡ shiftRows (subBytes (state s)) ⌝ }
 {
@@ -117,7 +135,7 @@ pub(crate) fn round_key(w: &[u8; 176], round: usize) -> Columns
 }
 
 // A round that is not the last.
-pub(crate) fn full_round(table: &[u64; 256], w: &[u8; 176], s: Columns, round: usize) -> Columns
+pub(crate) fn full_round(table: &[u8; 2048], w: &[u8; 176], s: Columns, round: usize) -> Columns
     requires { ⌜ now table ≡ roundTable ⌝ }
     requires { ⌜ round ≤ Nr ⌝ }
     ensures { λ r. ⌜ state r ≡ addRoundKey (old w) round (mixColumns (shiftRows (subBytes (state s)))) ⌝ }
@@ -125,8 +143,16 @@ pub(crate) fn full_round(table: &[u64; 256], w: &[u8; 176], s: Columns, round: u
     add(sub_shift_mix(table, s), round_key(w, round))
 }
 
+// The last round, which has no MixColumns.
+fn last_round(table: &[u8; 2048], w: &[u8; 176], s: Columns) -> Columns
+    requires { ⌜ now table ≡ roundTable ⌝ }
+    ensures { λ r. ⌜ state r ≡ addRoundKey (old w) Nr (shiftRows (subBytes (state s))) ⌝ }
+{
+    add(sub_shift(table, s), round_key(w, ROUNDS))
+}
+
 // The encipherment of a block whose state after done rounds is start.
-pub(crate) fn finish(table: &[u64; 256], w: &[u8; 176], start: Columns, done: usize) -> Columns
+pub(crate) fn finish(table: &[u8; 2048], w: &[u8; 176], start: Columns, done: usize) -> Columns
     requires { ⌜ now table ≡ roundTable ⌝ }
     requires { ⌜ done < Nr ⌝ }
     ensures { λ r. ⌜ ((input : List ℕ) → state start ≡ rounds (old w) done (addRoundKey (old w) 0 input) → state r ≡ cipher (old w) input) ⌝ }
@@ -137,11 +163,31 @@ pub(crate) fn finish(table: &[u64; 256], w: &[u8; 176], start: Columns, done: us
         round += 1;
         s = full_round(table, w, s, round);
     }
-    add(sub_shift(table, s), round_key(w, ROUNDS))
+    last_round(table, w, s)
+}
+
+// The same of two blocks.
+pub(crate) fn finish_both(table: &[u8; 2048], w: &[u8; 176], start: States, done: usize) -> States
+    requires { ⌜ now table ≡ roundTable ⌝ }
+    requires { ⌜ done < Nr ⌝ }
+    ensures { λ r. ⌜ ((input : List ℕ) → state (start .first) ≡ rounds (old w) done (addRoundKey (old w) 0 input) → state (r .first) ≡ cipher (old w) input)
+        × ((input : List ℕ) → state (start .second) ≡ rounds (old w) done (addRoundKey (old w) 0 input) → state (r .second) ≡ cipher (old w) input) ⌝ }
+{
+    let mut s = start.first;
+    let mut t = start.second;
+    let mut round = done;
+    while round < FULL_ROUNDS {
+        round += 1;
+        s = full_round(table, w, s, round);
+        t = full_round(table, w, t, round);
+    }
+    let first = last_round(table, w, s);
+    let second = last_round(table, w, t);
+    States { first, second }
 }
 
 // The encipherment of a block.
-pub(crate) fn encrypt_columns(table: &[u64; 256], w: &[u8; 176], input: Columns) -> Columns
+pub(crate) fn encrypt_columns(table: &[u8; 2048], w: &[u8; 176], input: Columns) -> Columns
     requires { ⌜ now table ≡ roundTable ⌝ }
     ensures { λ r. ⌜ state r ≡ cipher (old w) (state input) ⌝ }
 {

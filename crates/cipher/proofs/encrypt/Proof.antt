@@ -1,6 +1,7 @@
 -- `encrypt` hands the round table to the cipher on columns.
 use mathlib.Core.Path.{refl, _∙_, ap}
-use Rattle.cipher.specs.Table.{roundTable}
+use Rattle.cipher.specs.Field.{_•_}
+use Rattle.cipher.specs.Table.{sBoxTable, doubledColumns, roundTable}
 use Rattle.cipher.specs.Cipher.{cipher}
 use borrow.Author.Needs.{needs}
 use Rattle.cipher.proofs.encrypt.Statement.{statement}
@@ -10,7 +11,7 @@ from-block-requires : tie.Need-from-block-requires
 from-block-requires c κs = search needs
 
 encrypt-columns-requires : tie.Need-encrypt-columns-requires
-unfolding roundTable
+unfolding roundTable doubledColumns sBoxTable _•_
 encrypt-columns-requires c κs = refl
 
 to-block-requires : tie.Need-to-block-requires

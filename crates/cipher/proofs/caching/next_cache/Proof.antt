@@ -1,9 +1,8 @@
 -- `next_cache` makes a new cache every 256 counters.
-use mathlib.Core.Path.{_≡_, _∙_}
-use Prim.Native.Nat.{_+_, _/_}
+use Prim.Native.Nat.{_+_}
 use native.Mathlib.Omega.{arith}
 use denote.Ref.{now}
-use Rattle.cipher.proofs.CachingLaws.{cached-column-same, cached-state-same}
+use Rattle.cipher.proofs.CachingLaws.{serves-same}
 use borrow.Author.Needs.{needs}
 use Rattle.cipher.proofs.caching.next_cache.Statement.{statement}
 use Rattle.cipher.proofs.caching.next_cache.Tie as tie
@@ -21,9 +20,7 @@ returns-2 : tie.Need-returns-2
 returns-2 c =
     let s = c .before in
     let n = s .args .n in
-    let e : n / 256 ≡ (n + 1) / 256 = omega arith in
-    let p = s .pre .1 .1 in
-    record { column = p .column ∙ cached-column-same n (n + 1) e (now (s .args .w)); rest = p .rest ∙ cached-state-same n (n + 1) e (now (s .args .w)) }
+    serves-same n (n + 1) (omega arith) (now (s .args .w)) (s .args .cache) (s .pre .1 .1)
 
 pub next-cache-spec : {M : Type 1} → statement M
 next-cache-spec = tie.close (tie.spec add-next new-cache-requires returns returns-2)

@@ -1,29 +1,29 @@
 -- `mix_row_3` reads four bytes of an entry of the round table, from byte 1 on.
-use mathlib.Core.Path.{ap}
-use mathlib.Core.List.{List}
-use Prim.Native.Nat.{ℕ}
+use mathlib.Core.Path.{_∙_}
 use native.Mathlib.Omega.{arith}
-use Rattle.cipher.specs.Words.{word, byte3}
-use Rattle.cipher.proofs.RoundLaws.{round-entry}
+use Rattle.cipher.specs.Words.{byte3}
+use Rattle.cipher.proofs.RoundLaws.{round-table-length, round-row-3}
 use borrow.Author.Needs.{needs}
 use Rattle.cipher.proofs.rounds.mix_row_3.Statement.{statement}
 use Rattle.cipher.proofs.rounds.mix_row_3.Tie as tie
 
-cast-result : tie.Need-cast-result
-cast-result c = search needs
+cast-table-word : tie.Need-cast-table-word
+cast-table-word c = search needs
 
-mul-result : tie.Need-mul-result
-mul-result c = search needs
+mul-table-word : tie.Need-mul-table-word
+mul-table-word c = search needs
 
-element-copy-out-result : tie.Need-element-copy-out-result
-element-copy-out-result c = search needs
+add-table-word : tie.Need-add-table-word
+add-table-word c = search needs
 
-cast-result-2 : tie.Need-cast-result-2
-cast-result-2 c = search needs
+table-word-requires : tie.Need-table-word-requires
+table-word-requires c κs = (c .pre, omega (arith, round-table-length (c .pre)))
 
 returns : tie.Need-returns
-returns c = ap (λ (l : List ℕ). word l 3) (round-entry (c .before .pre) (byte3 (c .before .args .x)) (omega arith))
+returns c =
+    let s = c .before in
+    c .table-word .ensures ∙ round-row-3 (s .pre) (byte3 (s .args .x)) (omega arith)
 
 pub mix-row-3-spec : {M : Type 1} → statement M
 mix-row-3-spec =
-    tie.close (tie.spec cast-result mul-result element-copy-out-result cast-result-2 returns)
+    tie.close (tie.spec cast-table-word mul-table-word add-table-word table-word-requires returns)

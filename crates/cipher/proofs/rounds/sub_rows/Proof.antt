@@ -14,47 +14,47 @@ cast-from-le-bytes c = search needs
 mul-from-le-bytes : tie.Need-mul-from-le-bytes
 mul-from-le-bytes c = search needs
 
+add-from-le-bytes : tie.Need-add-from-le-bytes
+add-from-le-bytes c = search needs
+
 element-copy-out-from-le-bytes : tie.Need-element-copy-out-from-le-bytes
 element-copy-out-from-le-bytes c = search needs
 
 cast-from-le-bytes-2 : tie.Need-cast-from-le-bytes-2
 cast-from-le-bytes-2 c = search needs
 
-cast-from-le-bytes-3 : tie.Need-cast-from-le-bytes-3
-cast-from-le-bytes-3 c = search needs
-
 mul-from-le-bytes-2 : tie.Need-mul-from-le-bytes-2
 mul-from-le-bytes-2 c = search needs
+
+add-from-le-bytes-2 : tie.Need-add-from-le-bytes-2
+add-from-le-bytes-2 c = search needs
 
 element-copy-out-from-le-bytes-2 : tie.Need-element-copy-out-from-le-bytes-2
 element-copy-out-from-le-bytes-2 c = search needs
 
-cast-from-le-bytes-4 : tie.Need-cast-from-le-bytes-4
-cast-from-le-bytes-4 c = search needs
-
-cast-from-le-bytes-5 : tie.Need-cast-from-le-bytes-5
-cast-from-le-bytes-5 c = search needs
+cast-from-le-bytes-3 : tie.Need-cast-from-le-bytes-3
+cast-from-le-bytes-3 c = search needs
 
 mul-from-le-bytes-3 : tie.Need-mul-from-le-bytes-3
 mul-from-le-bytes-3 c = search needs
 
+add-from-le-bytes-3 : tie.Need-add-from-le-bytes-3
+add-from-le-bytes-3 c = search needs
+
 element-copy-out-from-le-bytes-3 : tie.Need-element-copy-out-from-le-bytes-3
 element-copy-out-from-le-bytes-3 c = search needs
 
-cast-from-le-bytes-6 : tie.Need-cast-from-le-bytes-6
-cast-from-le-bytes-6 c = search needs
-
-cast-from-le-bytes-7 : tie.Need-cast-from-le-bytes-7
-cast-from-le-bytes-7 c = search needs
+cast-from-le-bytes-4 : tie.Need-cast-from-le-bytes-4
+cast-from-le-bytes-4 c = search needs
 
 mul-from-le-bytes-4 : tie.Need-mul-from-le-bytes-4
 mul-from-le-bytes-4 c = search needs
 
+add-from-le-bytes-4 : tie.Need-add-from-le-bytes-4
+add-from-le-bytes-4 c = search needs
+
 element-copy-out-from-le-bytes-4 : tie.Need-element-copy-out-from-le-bytes-4
 element-copy-out-from-le-bytes-4 c = search needs
-
-cast-from-le-bytes-8 : tie.Need-cast-from-le-bytes-8
-cast-from-le-bytes-8 c = search needs
 
 from-le-bytes-requires : tie.Need-from-le-bytes-requires
 from-le-bytes-requires c κs = search needs
@@ -72,19 +72,19 @@ sub-rows-spec =
     (tie.spec
     cast-from-le-bytes
     mul-from-le-bytes
+    add-from-le-bytes
     element-copy-out-from-le-bytes
     cast-from-le-bytes-2
-    cast-from-le-bytes-3
     mul-from-le-bytes-2
+    add-from-le-bytes-2
     element-copy-out-from-le-bytes-2
-    cast-from-le-bytes-4
-    cast-from-le-bytes-5
+    cast-from-le-bytes-3
     mul-from-le-bytes-3
+    add-from-le-bytes-3
     element-copy-out-from-le-bytes-3
-    cast-from-le-bytes-6
-    cast-from-le-bytes-7
+    cast-from-le-bytes-4
     mul-from-le-bytes-4
+    add-from-le-bytes-4
     element-copy-out-from-le-bytes-4
-    cast-from-le-bytes-8
     from-le-bytes-requires
     returns)

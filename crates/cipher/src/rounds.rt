@@ -155,7 +155,8 @@ fn last_round(table: &[u8; 2048], w: &[u8; 176], s: Columns) -> Columns
 pub(crate) fn finish(table: &[u8; 2048], w: &[u8; 176], start: Columns, done: usize) -> Columns
     requires { ⌜ now table ≡ roundTable ⌝ }
     requires { ⌜ done < Nr ⌝ }
-    ensures { λ r. ⌜ ((input : List ℕ) → state start ≡ rounds (old w) done (addRoundKey (old w) 0 input) → state r ≡ cipher (old w) input) ⌝ }
+    ensures { λ r. ⌜ ((input : List ℕ)
+        → state start ≡ rounds (old w) done (addRoundKey (old w) 0 input) → state r ≡ cipher (old w) input) ⌝ }
 {
     let mut s = start;
     let mut round = done;
@@ -170,8 +171,10 @@ pub(crate) fn finish(table: &[u8; 2048], w: &[u8; 176], start: Columns, done: us
 pub(crate) fn finish_both(table: &[u8; 2048], w: &[u8; 176], start: States, done: usize) -> States
     requires { ⌜ now table ≡ roundTable ⌝ }
     requires { ⌜ done < Nr ⌝ }
-    ensures { λ r. ⌜ ((input : List ℕ) → state (start .first) ≡ rounds (old w) done (addRoundKey (old w) 0 input) → state (r .first) ≡ cipher (old w) input)
-        × ((input : List ℕ) → state (start .second) ≡ rounds (old w) done (addRoundKey (old w) 0 input) → state (r .second) ≡ cipher (old w) input) ⌝ }
+    ensures { λ r. ⌜ ((input : List ℕ) → state (start .first) ≡ rounds (old w) done (addRoundKey (old w) 0 input)
+        → state (r .first) ≡ cipher (old w) input)
+        × ((input : List ℕ) → state (start .second) ≡ rounds (old w) done (addRoundKey (old w) 0 input)
+        → state (r .second) ≡ cipher (old w) input) ⌝ }
 {
     let mut s = start.first;
     let mut t = start.second;

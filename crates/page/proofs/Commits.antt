@@ -1,13 +1,12 @@
 -- The laws of a commit's payloads: an entry has one spelling and reads back, and so do the letters and the entries of a map.
 use Prim.Native.Nat.{ℕ, zero, suc, _+_, _*_, _-_, _/_, _%_, _<_, _≤_}
 use native.Mathlib.Omega.{arith}
-use native.Mathlib.Nat.{add-zero}
-use native.Mathlib.Numerals.{add-one}
+use native.Mathlib.Nat.{add-zero, zero-add}
 use native.Mathlib.Decide.{decLt}
 use mathlib.Core.Path.{_≡_, refl, sym, ap, _∙_}
 use mathlib.Core.Logic.{_⊎_, ⊎-elim}
 use mathlib.Core.Bool.{Bool, true, false, cond, _&&_}
-use mathlib.Core.List.{List, _++_, append-assoc, append-nil}
+use mathlib.Core.List.{List, [], _++_, append-assoc, append-nil}
 use lib.ListN.{length, drop, getD, length-append}
 use lib.Seq.{drop-drop}
 use lib.Dec.{eqb, leb}
@@ -143,16 +142,19 @@ module _ (map : List ℕ) where
       omega (arith, length-append (entryFor map x) (entriesFrom map n (suc x)), entry-length (getD map x none) (getD map (places + x) none), entries-length n (suc x))
 
   -- one more entry, at the end
-  entries-more : (n x : ℕ) → entriesFrom map (suc n) x ≡ entriesFrom map n x ++ entryFor map (x + n)
+  pub entries-one : (x : ℕ) → entriesFrom map 1 x ≡ entryFor map x
   unfolding entriesFrom
-  entries-more zero x = rw (add-zero, append-nil)
-  entries-more (suc n) x =
-      let k : suc x + n ≡ x + suc n = omega arith in
-      ap (λ (t : List ℕ). entryFor map x ++ t) (entries-more n (suc x) ∙ ap (λ (y : ℕ). entriesFrom map n (suc x) ++ entryFor map y) k)
-      ∙ sym (append-assoc (entryFor map x) (entriesFrom map n (suc x)) (entryFor map (x + suc n)))
+  entries-one x = append-nil (entryFor map x)
 
-  pub entries-next : (n x : ℕ) → entriesFrom map (n + 1) x ≡ entriesFrom map n x ++ entryFor map (x + n)
-  entries-next n x = rw add-one (entries-more n x)
+  entries-join : (n k x : ℕ) → entriesFrom map (n + k) x ≡ entriesFrom map n x ++ entriesFrom map k (x + n)
+  unfolding entriesFrom
+  entries-join zero k x = rw (zero-add, add-zero)
+  entries-join (suc n) k x =
+      let e : suc n + k ≡ suc (n + k) = omega arith in
+      let m : suc x + n ≡ x + suc n = omega arith in
+      rw e
+      (ap (λ (t : List ℕ). entryFor map x ++ t) (entries-join n k (suc x) ∙ ap (λ (y : ℕ). entriesFrom map n (suc x) ++ entriesFrom map k y) m)
+      ∙ sym (append-assoc (entryFor map x) (entriesFrom map n (suc x)) (entriesFrom map k (x + suc n))))
 
   pub part-entries : (n x j : ℕ) → j < n → part (entriesFrom map n x) (entrySize * j) entrySize ≡ entryFor map (x + j)
   unfolding entriesFrom
@@ -167,14 +169,27 @@ module _ (map : List ℕ) where
       ∙ part-entries n (suc x) j (omega arith) ∙ ap (entryFor map) m)
 
 -- one more entry written, after those before it
-pub write-next : (map dst dst₀ ys : List ℕ) (j x : ℕ) → dst ≡ entriesFrom map j x ++ drop (entrySize * j) dst₀ → ys ≡ entryFor map (x + j)
-    → putMid (entrySize * j) ((entrySize * j + entrySize) - entrySize * j) dst ys ≡ entriesFrom map (j + 1) x ++ drop (entrySize * (j + 1)) dst₀
-write-next map dst dst₀ ys j x d e =
-    let k : (entrySize * j + entrySize) - entrySize * j ≡ entrySize = omega arith in
-    let m : entrySize * (j + 1) ≡ entrySize * j + entrySize = omega arith in
-    rw (d, e, k, m, entries-next map j x)
-    (put-next (entriesFrom map j x) (drop (entrySize * j) dst₀) (entryFor map (x + j)) (entrySize * j) entrySize (entries-length map j x)
-    ∙ ap (λ (t : List ℕ). (entriesFrom map j x ++ entryFor map (x + j)) ++ t) (drop-drop entrySize (entrySize * j) dst₀))
+-- entries of places without a page are vacant
+unfoldable pub vacants : ℕ → List ℕ
+vacants zero = []
+vacants (suc n) = vacantEntry ++ vacants n
+
+pub entries-vacant : (map : List ℕ) (n x : ℕ) → allFrom (λ i. eqb (getD map i none) none) n x ≡ true → entriesFrom map n x ≡ vacants n
+unfolding entriesFrom entryBytes allFrom vacants
+entries-vacant map zero x h = refl
+entries-vacant map (suc n) x h =
+    let a = and-true (eqb (getD map x none) none) _ h in
+    rw (a .0, entries-vacant map n (suc x) (a .1))
+
+-- n entries more are written
+pub write-next : (map dst dst₀ ys : List ℕ) (n j x : ℕ) → dst ≡ entriesFrom map j x ++ drop (entrySize * j) dst₀ → ys ≡ entriesFrom map n (x + j)
+    → putMid (entrySize * j) ((entrySize * j + entrySize * n) - entrySize * j) dst ys ≡ entriesFrom map (j + n) x ++ drop (entrySize * (j + n)) dst₀
+write-next map dst dst₀ ys n j x d e =
+    let k : (entrySize * j + entrySize * n) - entrySize * j ≡ entrySize * n = omega arith in
+    let m : entrySize * (j + n) ≡ entrySize * j + entrySize * n = omega arith in
+    rw (d, e, k, m, entries-join map j n x)
+    (put-next (entriesFrom map j x) (drop (entrySize * j) dst₀) (entriesFrom map n (x + j)) (entrySize * j) (entrySize * n) (entries-length map j x)
+    ∙ ap (λ (t : List ℕ). (entriesFrom map j x ++ entriesFrom map n (x + j)) ++ t) (drop-drop (entrySize * n) (entrySize * j) dst₀))
 
 -- ---- the payload of a commit's part
 pub payload-length : (map letters : List ℕ) (i : ℕ) → length letters ≡ positions → length (commitPayload map letters i) ≡ payloadSize

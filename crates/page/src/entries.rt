@@ -8,8 +8,10 @@ use crate::keys;
 use crate::plan;
 use crate::words;
 ghost use mathlib.Core.Path.{_≡_};
+ghost use mathlib.Core.Bool.{_&&_};
 ghost use Prim.Native.Nat.{_≤_, _<_, _+_, _*_};
 ghost use lib.ListN.{length, getD};
+ghost use lib.Dec.{eqb};
 ghost use Rattle.base.specs.Lent.{old, new};
 ghost use Rattle.base.specs.Part.{part};
 ghost use Rattle.base.specs.Each.{same};
@@ -17,7 +19,7 @@ ghost use Rattle.base.specs.Search.{allFrom};
 ghost use Rattle.page.specs.Frame.{payloadSize};
 ghost use Rattle.page.specs.Plan.{places};
 ghost use Rattle.page.specs.Key.{positions};
-ghost use Rattle.page.specs.Entry.{isLetter, vacantEntry, entrySize, entriesInPart, parts, entryBytes, entryOf, isEntry, entriesFrom, commitPayload, validPayload};
+ghost use Rattle.page.specs.Entry.{none, isLetter, vacantEntry, entrySize, entriesInPart, parts, entryBytes, entryOf, isEntry, entriesFrom, commitPayload, validPayload};
 
 // The letters of a key position: free, used, deleted.
 pub const FREE: u8 = b'f';
@@ -38,6 +40,11 @@ pub const ENTRY_SIZE: usize = 8;
 pub const ENTRIES_IN_PART: usize = 28;
 
 pub const FIRST_ENTRY_PART: usize = 2;
+
+// Four numbers of a map taken as one, each of them none, and the bytes of four entries.
+const FOUR_NONE: u64 = 0xffffffffffffffff;
+
+const FOUR_ENTRIES: usize = 4 * ENTRY_SIZE;
 
 // Where the columns of its page and of its key start.
 const PAGE_AT: usize = 0;
@@ -104,6 +111,43 @@ pub fn entry_at(payload: &[u8], at: usize) -> Entry
     read_entry(&payload[at..at + ENTRY_SIZE])
 }
 
+// Whether four numbers of a map are none: they are looked at as one.
+fn are_none(a: u16, b: u16, c: u16, d: u16) -> bool
+    ensures { λ r. ⌜ r ≡ eqb a none && (eqb b none && (eqb c none && eqb d none)) ⌝ }
+{
+    let four = (a as u64)
+        + (b as u64) * 0x10000
+        + (c as u64) * 0x100000000
+        + (d as u64) * 0x1000000000000;
+    four == FOUR_NONE
+}
+
+// The same of the four from at on.
+pub fn all_none(map: &[u16], at: usize) -> bool
+    requires { ⌜ at + 4 ≤ length (now map) ⌝ }
+    ensures { λ r. ⌜ r ≡ allFrom (λ i. eqb (getD (old map) i none) none) 4 at ⌝ }
+{
+    are_none(map[at], map[at + 1], map[at + 2], map[at + 3])
+}
+
+// Writes the entries of four places. Where all are vacant that is one string.
+fn write_four(dst: &mut [u8], map: &[u16], x: usize)
+    requires { ⌜ (length (now dst) ≡ 4 * entrySize) × (length (now map) ≡ places + places) × (x + 4 ≤ places) ⌝ }
+    ensures { λ _. ⌜ new dst ≡ entriesFrom (old map) 4 x ⌝ }
+{
+    if all_none(map, x) {
+        bytes::copy(dst, b"   -   -   -   -   -   -   -   -");
+        return;
+    }
+    let mut j = 0;
+    while j < 4 {
+        let at = ENTRY_SIZE * j;
+        let y = x + j;
+        write_entry(&mut dst[at..at + ENTRY_SIZE], map[y], map[plan::PLACES + y]);
+        j += 1;
+    }
+}
+
 // Writes the entries of a map's places from first on, as many as a part holds.
 fn write_entries(dst: &mut [u8], map: &[u16], first: usize)
     requires { ⌜ (length (now dst)
@@ -113,9 +157,8 @@ fn write_entries(dst: &mut [u8], map: &[u16], first: usize)
     let mut j = 0;
     while j < ENTRIES_IN_PART {
         let at = ENTRY_SIZE * j;
-        let x = first + j;
-        write_entry(&mut dst[at..at + ENTRY_SIZE], map[x], map[plan::PLACES + x]);
-        j += 1;
+        write_four(&mut dst[at..at + FOUR_ENTRIES], map, first + j);
+        j += 4;
     }
 }
 

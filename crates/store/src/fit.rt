@@ -34,9 +34,6 @@ const LAST_NEXT: u32 = 100_000_000;
 // Vacant places are passed in runs of so many.
 const RUN_LENGTH: usize = 8;
 
-// Four numbers of a map taken as one, each of them none.
-const FOUR_NONE: u64 = 0xffffffffffffffff;
-
 // Whether n is a next sequence or a next epoch.
 fn is_next(n: u32) -> bool
     ensures { λ r. ⌜ r ≡ within 1 (lastNumber + 1) n ⌝ }
@@ -118,34 +115,15 @@ pub fn place_fits(image: &[u8], map: &[u16], x: usize) -> bool
     node_fits(image, file, text, x as u32 - plan::start(file), page, key)
 }
 
-// Whether four numbers of a map are none: they are looked at as one.
-fn are_none(a: u16, b: u16, c: u16, d: u16) -> bool
-    ensures { λ r. ⌜ r ≡ eqb a none && (eqb b none && (eqb c none && eqb d none)) ⌝ }
-{
-    let four = (a as u64)
-        + (b as u64) * 0x10000
-        + (c as u64) * 0x100000000
-        + (d as u64) * 0x1000000000000;
-    four == FOUR_NONE
-}
-
-// The same of the four from at on.
-fn all_none(map: &[u16], at: usize) -> bool
-    requires { ⌜ at + 4 ≤ length (now map) ⌝ }
-    ensures { λ r. ⌜ r ≡ allFrom (λ i. eqb (getD (old map) i none) none) 4 at ⌝ }
-{
-    are_none(map[at], map[at + 1], map[at + 2], map[at + 3])
-}
-
 // Whether the run of places from x on is vacant.
 fn run_vacant(map: &[u16], x: usize) -> bool
     requires { ⌜ (length (now map) ≡ mapSize) × (x + runLength ≤ places) ⌝ }
     ensures { λ r. ⌜ r ≡ allFrom (vacantAt (old map)) runLength x ⌝ }
 {
-    all_none(map, x)
-        & all_none(map, x + 4)
-        & all_none(map, PLACES + x)
-        & all_none(map, PLACES + x + 4)
+    entries::all_none(map, x)
+        & entries::all_none(map, x + 4)
+        & entries::all_none(map, PLACES + x)
+        & entries::all_none(map, PLACES + x + 4)
 }
 
 // Where the run from x on ends, at end at the latest.

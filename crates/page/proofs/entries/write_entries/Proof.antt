@@ -1,6 +1,6 @@
--- `page::entries::write_entries` meets its contract: the entries passed are written, the bytes after them as they were.
+-- `page::entries::write_entries` meets its contract: the entries passed, four in each turn, are written, the bytes after them as they were.
 use borrow.Author.Needs.{needs}
-use Prim.Native.Nat.{_≤_, _-_, _+_, _*_}
+use Prim.Native.Nat.{_≤_, _-_, _*_, _%_}
 use native.Mathlib.Omega.{arith}
 use mathlib.Core.Path.{_≡_, refl, ap, ap₂, _∙_}
 use mathlib.Core.List.{_++_, append-nil}
@@ -15,50 +15,35 @@ use Rattle.page.proofs.entries.write_entries.Statement.{statement}
 use Rattle.page.proofs.entries.write_entries.Tie as tie
 
 abbrev Inv-loop : tie.InvT-loop
-Inv-loop dst₀ map first j₀ dst j = (j ≤ entriesInPart) × (length dst ≡ length dst₀) × (dst ≡ entriesFrom map j first ++ drop (entrySize * j) dst₀)
+Inv-loop dst₀ map first j₀ dst j = (j ≤ entriesInPart) × (j % 4 ≡ 0) × (length dst ≡ length dst₀) × (dst ≡ entriesFrom map j first ++ drop (entrySize * j) dst₀)
 
 abbrev μ-loop : tie.MeasureT-loop
 μ-loop dst₀ map first j₀ dst j = entriesInPart - j
 
 loop-holds : tie.Need-loop-holds Inv-loop μ-loop
 unfolding entriesFrom
-loop-holds c = (omega arith, refl, refl)
+loop-holds c = (omega arith, refl, refl, refl)
 
 mul-at : tie.Need-mul-at Inv-loop μ-loop
 mul-at c = search needs
 
-add-x : tie.Need-add-x Inv-loop μ-loop
-add-x c = search needs
+add-write-four : tie.Need-add-write-four Inv-loop μ-loop
+add-write-four c = search needs
 
-add-write-entry : tie.Need-add-write-entry Inv-loop μ-loop
-add-write-entry c = search needs
+sub-write-four : tie.Need-sub-write-four Inv-loop μ-loop
+sub-write-four c = search needs
 
-sub-write-entry : tie.Need-sub-write-entry Inv-loop μ-loop
-sub-write-entry c = search needs
+part-write-four-start : tie.Need-part-write-four-start Inv-loop μ-loop
+part-write-four-start c = search needs
 
-part-write-entry-start : tie.Need-part-write-entry-start Inv-loop μ-loop
-part-write-entry-start c = search needs
+part-write-four-end : tie.Need-part-write-four-end Inv-loop μ-loop
+part-write-four-end c = search needs
 
-part-write-entry-end : tie.Need-part-write-entry-end Inv-loop μ-loop
-part-write-entry-end c = search needs
+add-write-four-2 : tie.Need-add-write-four-2 Inv-loop μ-loop
+add-write-four-2 c = search needs
 
-mul-write-entry : tie.Need-mul-write-entry Inv-loop μ-loop
-mul-write-entry c = search needs
-
-shared-slice-read-write-entry : tie.Need-shared-slice-read-write-entry Inv-loop μ-loop
-shared-slice-read-write-entry c = search needs
-
-add-write-entry-2 : tie.Need-add-write-entry-2 Inv-loop μ-loop
-add-write-entry-2 c = search needs
-
-mul-write-entry-2 : tie.Need-mul-write-entry-2 Inv-loop μ-loop
-mul-write-entry-2 c = search needs
-
-shared-slice-read-write-entry-2 : tie.Need-shared-slice-read-write-entry-2 Inv-loop μ-loop
-shared-slice-read-write-entry-2 c = search needs
-
-write-entry-requires : tie.Need-write-entry-requires Inv-loop μ-loop
-write-entry-requires c κs = search needs
+write-four-requires : tie.Need-write-four-requires Inv-loop μ-loop
+write-four-requires c κs = search needs
 
 add-j : tie.Need-add-j Inv-loop μ-loop
 add-j c = search needs
@@ -68,22 +53,20 @@ loop-less c = search needs
 
 loop-again : tie.Need-loop-again Inv-loop μ-loop
 loop-again c =
-    let l = c .before .before .before .before .before .before .before .loop in
-    let a = c .before .before .before .before .before .before .before .before .before .before .args in
-    let m = now (a .map) in
-    let e = ap₂ entryBytes (getD-there m (a .first + l .j) 0 none (omega arith)) (getD-there m (places + (a .first + l .j)) 0 none (omega arith)) in
-    let n = write-next m (l .dst) (now (a .dst)) _ (l .j) (a .first) (l .inv .2) (c .before .before .write-entry .ensures ∙ e) in
-    (omega arith, ap length n ∙ simp (length-append, length-drop, entries-length) (omega arith), n)
+    let l = c .before .before .before .before .before .loop in
+    let a = c .before .before .before .before .before .before .before .before .args in
+    let n = write-next (now (a .map)) (l .dst) (now (a .dst)) _ 4 (l .j) (a .first) (l .inv .3) (c .before .before .write-four .ensures) in
+    (omega arith, omega arith, ap length n ∙ simp (length-append, length-drop, entries-length) (omega arith), n)
 
 same-length : tie.Need-same-length Inv-loop μ-loop
-same-length c = c .before .loop .inv .1
+same-length c = c .before .loop .inv .2
 
 returns : tie.Need-returns Inv-loop μ-loop
 returns c =
     let l = c .before .loop in
     let a = c .before .before .before .before .args in
     let e : l .j ≡ entriesInPart = omega arith in
-    l .inv .2 ∙ rw (e, drop-of-length-le (now (a .dst)) {i = payloadSize} (omega arith), append-nil)
+    l .inv .3 ∙ rw (e, drop-of-length-le (now (a .dst)) {i = payloadSize} (omega arith), append-nil)
 
 pub write-entries-spec : {M : Type 1} → statement M
 write-entries-spec =
@@ -93,17 +76,12 @@ write-entries-spec =
     μ-loop
     loop-holds
     mul-at
-    add-x
-    add-write-entry
-    sub-write-entry
-    part-write-entry-start
-    part-write-entry-end
-    mul-write-entry
-    shared-slice-read-write-entry
-    add-write-entry-2
-    mul-write-entry-2
-    shared-slice-read-write-entry-2
-    write-entry-requires
+    add-write-four
+    sub-write-four
+    part-write-four-start
+    part-write-four-end
+    add-write-four-2
+    write-four-requires
     add-j
     loop-less
     loop-again

@@ -1,4 +1,4 @@
--- `store::fit::all_none` meets its contract: the numbers are handed on one by one.
+-- `page::entries::all_none` meets its contract: the numbers are handed on one by one.
 use Prim.Native.Nat.{ℕ, suc, _+_}
 use native.Mathlib.Omega.{arith}
 use mathlib.Core.Path.{_≡_, sym, _∙_}
@@ -8,10 +8,10 @@ use lib.ListN.{getD}
 use borrow.Author.Needs.{needs}
 use Rattle.base.specs.Search.{allFrom}
 use Rattle.base.proofs.Choice.{and-passed}
 use Rattle.page.specs.Entry.{none}
 use Rattle.page.proofs.Slices.{getD-there}
-use Rattle.store.proofs.fit.all_none.Statement.{statement}
-use Rattle.store.proofs.fit.all_none.Tie as tie
+use Rattle.page.proofs.entries.all_none.Statement.{statement}
+use Rattle.page.proofs.entries.all_none.Tie as tie
 
 -- four in a row, one by one
 four-of : (p : ℕ → Bool) (x : ℕ) → allFrom p 4 x ≡ (p x && (p (x + 1) && (p (x + 2) && p (x + 3))))

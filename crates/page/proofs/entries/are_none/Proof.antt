@@ -1,4 +1,4 @@
--- `store::fit::are_none` meets its contract: four numbers of 16 bits in one are four nones only if each is none.
+-- `page::entries::are_none` meets its contract: four numbers of 16 bits in one are four nones only if each is none.
 use Prim.Native.Nat.{ℕ, _+_, _*_, _<_}
 use native.Mathlib.Omega.{arith}
 use mathlib.Core.Path.{_≡_}
@@ -7,9 +7,9 @@ use lib.Dec.{eqb}
 use borrow.Author.Tests.{eqb-true, eq-eqb}
 use borrow.Author.Needs.{needs}
 use Rattle.base.proofs.Choice.{and-true, and-intro, both-ways}
 use Rattle.page.specs.Entry.{none}
-use Rattle.store.proofs.fit.are_none.Statement.{statement}
-use Rattle.store.proofs.fit.are_none.Tie as tie
+use Rattle.page.proofs.entries.are_none.Statement.{statement}
+use Rattle.page.proofs.entries.are_none.Tie as tie
 
 four-none : (a b c d : ℕ) → a < 0x10000 → b < 0x10000 → c < 0x10000 → d < 0x10000
     → eqb (a + b * 0x10000 + c * 0x100000000 + d * 0x1000000000000) 0xffffffffffffffff ≡ (eqb a none && (eqb b none && (eqb c none && eqb d none)))

@@ -58,7 +58,7 @@ fn keep_used(dst: &mut [u8], page: &[u8], letters: &[u8], first: usize)
 
 // Writes the next keys of page i of a key block, the positions from first on: those of used positions stay, all others
 // are noise.
-pub fn renew_keys(
+pub(crate) fn renew_keys(
     dst: &mut [u8],
     image: &[u8],
     last: usize,

@@ -102,7 +102,7 @@ pub fn program_node(
 }
 
 // Programs page g with a header and a payload that stands there as it is, a cut-off's spaces.
-pub fn program_page(image: &mut [u8], g: usize, f: Frame, payload: &[u8], p: Power) -> Power
+pub(crate) fn program_page(image: &mut [u8], g: usize, f: Frame, payload: &[u8], p: Power) -> Power
     requires { ⌜ (g * pageSize + pageSize ≤ length (now image)) × (length (now payload) ≡ payloadSize) ⌝ }
     ensures { λ r. ⌜ device r (new image) ≡ act (program g (pageBytes f (old payload))) (device p (old image)) ⌝ }
 {
@@ -120,7 +120,7 @@ pub fn program_page(image: &mut [u8], g: usize, f: Frame, payload: &[u8], p: Pow
 }
 
 // Programs page g with a header's 30 bytes with another part, and a payload.
-pub fn program_like(
+pub(crate) fn program_like(
     image: &mut [u8],
     g: usize,
     header: &[u8],
@@ -148,7 +148,7 @@ pub fn program_like(
 }
 
 // Programs page g with part i of a commit, from a header's 30 bytes, map and letters.
-pub fn program_part(
+pub(crate) fn program_part(
     image: &mut [u8],
     g: usize,
     header: &[u8],

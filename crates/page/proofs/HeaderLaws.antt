@@ -206,13 +206,13 @@ eventWith xs number unit part' key second =
     let f : Frame = record { kind = getD xs 0 0; number = number; unit = unit; part = part'; key = key; second = second } in
     cond (inRange f) (Is f) Invalid
 
-abbrev pub eventOf : List ℕ → Header
-eventOf xs =
+abbrev pub eventHeader : List ℕ → Header
+eventHeader xs =
     numberThen (numberIn (part xs 1 8)) Invalid λ number.
     pairThen (pairIn (part xs 9 3) (part xs 12 4)) Invalid λ unit part'.
     pairThen (pairIn (part xs 16 4) (spell 4 0)) Invalid (eventWith xs number unit part')
 
-pub event-read : (xs : List ℕ) → same (part xs 20 8) (spell 8 0) ≡ true → same (part xs 28 2) colonSpace ≡ true → headerOf xs ≡ eventOf xs
+pub event-read : (xs : List ℕ) → same (part xs 20 8) (spell 8 0) ≡ true → same (part xs 28 2) colonSpace ≡ true → headerOf xs ≡ eventHeader xs
 unfolding headerOf
 event-read xs s t =
     let none : numberIn (part xs 20 8) ≡ numberIn (spell 4 0) =

@@ -28,7 +28,7 @@ pub fn copy(dst: &mut [u8], src: &[u8])
 }
 
 // Whether two runs of one length are the same bytes. The loop has no other way out, so that it goes over many bytes at once.
-pub fn same(a: &[u8], b: &[u8]) -> bool
+pub(crate) fn same(a: &[u8], b: &[u8]) -> bool
     requires { ⌜ length (now a) ≡ length (now b) ⌝ }
     ensures { λ r. ⌜ r ≡ equal (old a) (old b) ⌝ }
 {

@@ -37,7 +37,7 @@ const EVEN_PAIRS: u64 = 0x0000ffff0000ffff;
 // Four columns of spaces, and the number 0 in four columns and in eight, as words.
 const SPACES: u32 = 0x20202020;
 
-pub const SPELT_ZERO4: u32 = 0x30202020;
+pub(crate) const SPELT_ZERO4: u32 = 0x30202020;
 
 const SPELT_ZERO: u64 = 0x3020202020202020;
 
@@ -62,7 +62,7 @@ fn column_of(m: u32) -> u8
 }
 
 // Writes n into the w columns of dst.
-pub fn put(dst: &mut [u8], w: usize, n: u32)
+pub(crate) fn put(dst: &mut [u8], w: usize, n: u32)
     requires { ⌜ (length (now dst) ≡ w) × (1 ≤ w) ⌝ }
     ensures { λ _. ⌜ new dst ≡ spell w n ⌝ }
 {
@@ -127,7 +127,7 @@ fn spelt_high(n: u32) -> u32
 }
 
 // Writes n into the three columns of dst from at on: the last three of four.
-pub fn put3(dst: &mut [u8], at: usize, n: u32)
+pub(crate) fn put3(dst: &mut [u8], at: usize, n: u32)
     requires { ⌜ at + 3 ≤ length (now dst) ⌝ }
     ensures { λ _. ⌜ new dst ≡ splice (old dst) at (spell 3 n) ⌝ }
 {
@@ -135,7 +135,7 @@ pub fn put3(dst: &mut [u8], at: usize, n: u32)
 }
 
 // Writes n into the four columns of dst from at on.
-pub fn put4(dst: &mut [u8], at: usize, n: u32)
+pub(crate) fn put4(dst: &mut [u8], at: usize, n: u32)
     requires { ⌜ at + 4 ≤ length (now dst) ⌝ }
     ensures { λ _. ⌜ new dst ≡ splice (old dst) at (spell 4 n) ⌝ }
 {
@@ -143,7 +143,7 @@ pub fn put4(dst: &mut [u8], at: usize, n: u32)
 }
 
 // Writes n into the eight columns of dst from at on.
-pub fn put8(dst: &mut [u8], at: usize, n: u32)
+pub(crate) fn put8(dst: &mut [u8], at: usize, n: u32)
     requires { ⌜ at + 8 ≤ length (now dst) ⌝ }
     ensures { λ _. ⌜ new dst ≡ splice (old dst) at (spell 8 n) ⌝ }
 {
@@ -152,7 +152,7 @@ pub fn put8(dst: &mut [u8], at: usize, n: u32)
 }
 
 // Whether the eight columns of a word hold a number from 1 on: below the lowest digit that is not 0 spaces, above it digits.
-pub fn is_counted(v: u64) -> bool
+pub(crate) fn is_counted(v: u64) -> bool
     ensures { λ r. ⌜ r ≡ numberThen (numberIn (wordBytes 8 v)) false (leb 1) ⌝ }
 {
     let changed = v ^ ZEROS;
@@ -190,7 +190,7 @@ fn number_of(v: u64) -> Number
 }
 
 // The number that the eight columns of src from at on hold.
-pub fn get8(src: &[u8], at: usize) -> Number
+pub(crate) fn get8(src: &[u8], at: usize) -> Number
     requires { ⌜ at + 8 ≤ length (now src) ⌝ }
     ensures { λ r. ⌜ r ≡ numberIn (part (old src) at 8) ⌝ }
 {
@@ -198,7 +198,7 @@ pub fn get8(src: &[u8], at: usize) -> Number
 }
 
 // The number that the four columns of src from at on hold, as eight columns with spaces before them.
-pub fn get4(src: &[u8], at: usize) -> Number
+pub(crate) fn get4(src: &[u8], at: usize) -> Number
     requires { ⌜ at + 4 ≤ length (now src) ⌝ }
     ensures { λ r. ⌜ r ≡ numberIn (part (old src) at 4) ⌝ }
 {
@@ -206,7 +206,7 @@ pub fn get4(src: &[u8], at: usize) -> Number
 }
 
 // The number that the three columns of src from at on hold, in the same way.
-pub fn get3(src: &[u8], at: usize) -> Number
+pub(crate) fn get3(src: &[u8], at: usize) -> Number
     requires { ⌜ at + 3 ≤ length (now src) ⌝ }
     ensures { λ r. ⌜ r ≡ numberIn (part (old src) at 3) ⌝ }
 {
@@ -218,7 +218,7 @@ pub fn get3(src: &[u8], at: usize) -> Number
 
 // The numbers that two words of four columns hold, worked out as one word. In each, spaces stand before the first digit
 // that is not 0, or up to the last column, and digits from there on.
-pub fn pair_of(low: u32, high: u32) -> Pair
+pub(crate) fn pair_of(low: u32, high: u32) -> Pair
     ensures { λ r. ⌜ r ≡ pairIn (wordBytes 4 low) (wordBytes 4 high) ⌝ }
 {
     let changed = words::eight(low, high) ^ ZEROS;

@@ -188,7 +188,7 @@ fn read_fields(src: &[u8]) -> Header
 }
 
 // The header that 30 bytes are. The kind letter and the end are looked at first: most bytes that are no header fail there.
-pub fn read_header(src: &[u8]) -> Header
+pub(crate) fn read_header(src: &[u8]) -> Header
     requires { ⌜ length (now src) ≡ headerSize ⌝ }
     ensures { λ r. ⌜ r ≡ headerOf (old src) ⌝ }
 {
@@ -211,7 +211,7 @@ fn read_place(src: &[u8]) -> Pair
 }
 
 // The header that 30 bytes are whose kind letter is that of a node or a cut-off: the second number is 0.
-pub fn read_event(src: &[u8]) -> Header
+pub(crate) fn read_event(src: &[u8]) -> Header
     requires { ⌜ (length (now src) ≡ headerSize) × (isEventLetter (getD (now src) kindAt 0) ≡ true) ⌝ }
     ensures { λ r. ⌜ r ≡ headerOf (old src) ⌝ }
 {
@@ -258,7 +258,7 @@ fn is_place(src: &[u8], file: u32, text: u32, offset: u32) -> bool
 
 // Whether 30 bytes are the header of a node with these fields: only the sequence is read. The file's columns are given
 // as they are spelt.
-pub fn is_node_of(src: &[u8], file: u32, text: u32, offset: u32, position: u32) -> bool
+pub(crate) fn is_node_of(src: &[u8], file: u32, text: u32, offset: u32, position: u32) -> bool
     requires { ⌜ (length (now src) ≡ headerSize) × (inRange (nodeFrame 1 file offset position) ≡ true)
         × (wordBytes 4 text ≡ spell 4 file) ⌝ }
     ensures { λ r. ⌜ r ≡ nodeWith file offset position (headerOf (old src)) ⌝ }
@@ -272,7 +272,7 @@ pub fn is_node_of(src: &[u8], file: u32, text: u32, offset: u32, position: u32) 
 }
 
 // Whether 30 bytes are the header that first are, but for the part: all others are compared with theirs.
-pub fn is_header_like(first: &[u8], src: &[u8], part: u32) -> bool
+pub(crate) fn is_header_like(first: &[u8], src: &[u8], part: u32) -> bool
     requires { ⌜ (length (now first) ≡ headerSize) × (length (now src) ≡ headerSize) × (part < 10_000) ⌝ }
     requires { ⌜ ((f : HeaderFrame) × (headerOf (now first) ≡ Header.Is f) × (inRange (withPart part f) ≡ true)) ⌝ }
     ensures { λ r. ⌜ r ≡ headerLike (headerOf (old first)) part (headerOf (old src)) ⌝ }
@@ -286,7 +286,7 @@ pub fn is_header_like(first: &[u8], src: &[u8], part: u32) -> bool
 }
 
 // Puts a part into the 30 bytes of a header.
-pub fn put_part(dst: &mut [u8], part: u32)
+fn put_part(dst: &mut [u8], part: u32)
     requires { ⌜ (length (now dst) ≡ headerSize) × (part < 10_000) ⌝ }
     ensures { λ _. ⌜ new dst ≡ splice (old dst) partAt (spell partWidth part) ⌝ }
 {
@@ -294,7 +294,7 @@ pub fn put_part(dst: &mut [u8], part: u32)
 }
 
 // Writes 30 bytes of a header, with another part, into dst.
-pub fn write_header_like(dst: &mut [u8], header: &[u8], part: u32)
+pub(crate) fn write_header_like(dst: &mut [u8], header: &[u8], part: u32)
     requires { ⌜ (length (now dst) ≡ headerSize) × (length (now header) ≡ headerSize) × (part < 10_000) ⌝ }
     ensures { λ _. ⌜ new dst ≡ splice (old header) partAt (spell partWidth part) ⌝ }
 {

@@ -7,7 +7,7 @@ pub mod frames;
 pub mod headers;
 pub mod keys;
 pub mod plan;
-pub mod words;
+mod words;
 pub mod writers;
 
 // What columns hold.

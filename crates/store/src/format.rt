@@ -43,7 +43,7 @@ fn first_numbers() -> Numbers
 }
 
 // Makes every place vacant.
-pub fn clear_map(map: &mut [u16])
+pub(crate) fn clear_map(map: &mut [u16])
     ensures { λ _. ⌜ new map ≡ replicate (length (old map)) none ⌝ }
 {
     let mut i = 0;

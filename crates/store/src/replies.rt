@@ -34,21 +34,21 @@ pub fn number(r: Reply) -> u32
 }
 
 // Whether a reply is success.
-pub fn is_done(r: Reply) -> bool
+pub(crate) fn is_done(r: Reply) -> bool
     ensures { λ b. ⌜ b ≡ isDone r ⌝ }
 {
     number(r) == 0
 }
 
 // The reply of a call that was taken, by the power that is left.
-pub fn taken(p: Power) -> Reply
+pub(crate) fn taken(p: Power) -> Reply
     ensures { λ r. ⌜ r ≡ cond (p .on) Done PowerCut ⌝ }
 {
     if p.on { Reply::Done } else { Reply::PowerCut }
 }
 
 // The answer of a call that is refused, or that leaves the record's numbers.
-pub fn refused(r: Reply, numbers: Numbers) -> Answer
+pub(crate) fn refused(r: Reply, numbers: Numbers) -> Answer
     ensures { λ a. ⌜ a ≡ answered r numbers ⌝ }
 {
     Answer {

@@ -12,13 +12,13 @@ use Rattle.page.specs.Frame.{colonSpace}
 use Rattle.page.specs.Column.{spell, columns, pairIn}
 use Rattle.page.specs.Header.{headerOf}
 use Rattle.page.proofs.ColumnValues.{spelt-zero-four}
-use Rattle.page.proofs.HeaderLaws.{no-second, no-colon, eventOf, event-read}
+use Rattle.page.proofs.HeaderLaws.{no-second, no-colon, eventHeader, event-read}
 use Rattle.page.proofs.headers.read_event.Statement.{statement}
 use Rattle.page.proofs.headers.read_event.Tie as tie
 
 -- past both tests the header is read by pairs
 past : (xs : List ℕ) (second colon : Bool) → second ≡ same (part xs 20 8) (spell 8 0) → not second ≡ false
-    → colon ≡ same (part xs 28 2) colonSpace → not colon ≡ false → headerOf xs ≡ eventOf xs
+    → colon ≡ same (part xs 28 2) colonSpace → not colon ≡ false → headerOf xs ≡ eventHeader xs
 past xs second colon e p f q = event-read xs (sym e ∙ not-false second p) (sym f ∙ not-false colon q)
 
 slice-aggregate-same8 : tie.Need-slice-aggregate-same8

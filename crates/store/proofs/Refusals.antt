@@ -4,7 +4,6 @@ use mathlib.Core.Path.{_≡_, refl, sym, ap, _∙_}
 use mathlib.Core.Bool.{Bool, true, false, cond, not}
 use mathlib.Core.List.{List, [], _∷_, _++_}
 use native.Mathlib.Omega.{arith}
-use native.Mathlib.Nat.{add-zero}
 use lib.Dec.{leb}
 use lib.ListN.{length, take, drop}
 use borrow.Author.Tests.{eqb-true, le-leb, lt-leb, leb-true, not-true, not-false}
@@ -163,8 +162,7 @@ module _ (img : List ℕ) (r : Record) (noise : List ℕ) {v : Reply} where
   commit-refused-first e d = sym (refuses-first (formatTests img (r .map) (r .letters) noise) (drop 3 (commitTests img r noise)) e d)
 
   pub commit-goes-on : v ≡ verdict (formatTests img (r .map) (r .letters) noise) → isDone v ≡ true → verdict (renewalTests img r 0) ≡ verdict (commitTests img r noise)
-  commit-goes-on e d =
-      rw (add-zero (r .numbers .epoch)) (sym (passes-first (formatTests img (r .map) (r .letters) noise) (drop 3 (commitTests img r noise)) (refl, (refl, (refl, tt))) e d))
+  commit-goes-on e d = sym (passes-first (formatTests img (r .map) (r .letters) noise) (renewalTests img r 0) (refl, (refl, (refl, tt))) e d)
 
   module _ (file offset : ℕ) where
     pub wipe-refused-first : v ≡ verdict (formatTests img (r .map) (r .letters) noise) → isDone v ≡ false → v ≡ verdict (wipeTests img r noise file offset)

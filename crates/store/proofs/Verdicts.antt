@@ -1,5 +1,6 @@
 -- Replies and their numbers, tests in order, and for each call: it succeeds exactly where all its tests pass.
-use Prim.Native.Nat.{ℕ}
+use Prim.Native.Nat.{ℕ, _+_}
+use native.Mathlib.Omega.{arith}
 use mathlib.Core.Path.{_≡_, refl, sym, ap, _∙_}
 use mathlib.Core.Bool.{Bool, true, false, cond, not, _&&_, _||_}
 use mathlib.Core.List.{List, [], _∷_, _++_}
@@ -10,6 +11,7 @@ use Rattle.base.specs.Each.{Each}
 use Rattle.base.proofs.Choice.{and-true, and-intro, true-false}
 use Rattle.base.proofs.Eachs.{each-at}
 use Rattle.page.specs.Plan.{places}
+use Rattle.page.specs.Header.{lastNumber}
 use Rattle.page.specs.Key.{positions}
 use Rattle.image.specs.Size.{sizeRight}
 use Rattle.store.specs.Reply.{Test, _else_, verdict, isDone, numberOf}
@@ -340,7 +342,7 @@ module _ (img : List ℕ) (r : Record) (noise : List ℕ) where
       record {
         ready = ready-true img r (t 0) (t 1) (t 3);
         noiseFull = eqb-true _ _ (t 2);
-        numbersLeft = leb-true _ _ (t 4);
+        numbersLeft = omega (arith, leb-true (r .numbers .epoch + 0) lastNumber (t 4));
         room = leb-true _ _ (t 5);
       }
 
@@ -348,7 +350,7 @@ module _ (img : List ℕ) (r : Record) (noise : List ℕ) where
   commit-done t =
       let b = buffers-right (r .map) (r .letters) (t .ready .buffers) in
       let n = eq-eqb _ _ (t .noiseFull) in
-      let e = le-leb _ _ (t .numbersLeft) in
+      let e = le-leb (r .numbers .epoch + 0) lastNumber (omega (arith, t .numbersLeft)) in
       let m = le-leb _ _ (t .room) in
       commit-reply ∙ verdict-passed (commitTests img r noise) (t .ready .size, (b, (n, (t .ready .fit, (e, (m, tt))))))
 

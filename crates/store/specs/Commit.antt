@@ -26,9 +26,7 @@ renewalTests img r more =
     fitTests img r ++ ((leb (r .numbers .epoch + more) lastNumber else NumbersSpent) ∷ (leb 1 (emptyBlocks img) else NoRoom) ∷ [])
 
 abbrev pub commitTests : List ℕ → Record → List ℕ → List Test
-commitTests img r noise =
-    formatTests img (r .map) (r .letters) noise
-    ++ (fitTests img r ++ ((leb (r .numbers .epoch) lastNumber else NumbersSpent) ∷ (leb 1 (emptyBlocks img) else NoRoom) ∷ []))
+commitTests img r noise = formatTests img (r .map) (r .letters) noise ++ renewalTests img r 0
 
 -- ---- replacing one block: the copy goes to the lowest empty one, and then the block copied from is erased
 unfoldable pub replaceKeys : List ℕ → Record → List ℕ → ℕ → List Step

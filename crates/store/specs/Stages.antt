@@ -75,7 +75,7 @@ hasLive map b = anyFrom (liveIn map b) places 0
 abbrev pub isUnused : List ℕ → List ℕ → Numbers → ℕ → Bool
 isUnused img map r b = isData img r b && not (hasLive map b)
 
--- a table of the blocks that have a live page among the places before x: a block is marked there, or a place from x on is live in it, where it has one
+-- a table filled for the places before x: a block with a live page is marked in it, or has one at a place from x on
 pub record LiveMarked (map marked : List ℕ) (x : ℕ) : Type 0 where
   pub size : length marked ≡ mostBlocks
   pub told : (b : ℕ) → b < mostBlocks → hasLive map b ≡ ltb 0 (getD marked b 0) || anyFrom (liveIn map b) (places - x) x

@@ -81,7 +81,7 @@ fn image_to_format(file: &ImageFile, force: bool) -> Result<Option<Vec<u8>>, Pro
         let empty = image.iter().all(|&byte| byte == 0xff);
         if !force && !empty {
             image_file::mount(&file.named, image).map_err(|problem| {
-                Problem::Other(format!("{problem}; `format --force` replaces it all the same"))
+                Problem::System(format!("{problem}; `format --force` replaces it all the same"))
             })?;
         }
     }
@@ -217,7 +217,7 @@ fn make(device: &mut Device, what: &Call, input: &[u8]) -> Result<(), Problem> {
 fn told(failure: Failure<CutError<io::Error>>) -> Problem {
     match failure {
         Failure::Refused(refusal) => Problem::Refused(refusal),
-        other => Problem::Other(other.to_string()),
+        other => Problem::System(other.to_string()),
     }
 }
 

@@ -168,7 +168,7 @@ impl Play<'_> {
         let found = noted.iter().filter(|key| contains(chip, &key.bytes)).count();
         let bytes = chip.len();
         if found > 0 {
-            return Err(Problem::Other(format!("{found} old keys are still on the chip")));
+            return Err(Problem::System(format!("{found} old keys are still on the chip")));
         }
         self.say(&format!("none of the {} keys begins at any of the {bytes} bytes", noted.len()))
     }
@@ -231,7 +231,7 @@ impl Play<'_> {
         match result {
             Err(Failure::Chip(CutError::PowerCut)) => Ok(()),
             Err(other) => Err(told(other)),
-            Ok(()) => Err(Problem::Other("the call ended before the cut".into())),
+            Ok(()) => Err(Problem::System("the call ended before the cut".into())),
         }
     }
 
@@ -268,6 +268,6 @@ fn contains(image: &[u8], bytes: &[u8]) -> bool {
 fn told(failure: Failure<CutError<Misuse>>) -> Problem {
     match failure {
         Failure::Refused(refusal) => Problem::Refused(refusal),
-        other => Problem::Other(other.to_string()),
+        other => Problem::System(other.to_string()),
     }
 }

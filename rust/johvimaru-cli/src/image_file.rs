@@ -66,8 +66,8 @@ impl ImageFile {
     }
 
     /// Puts the file beside, when it is on the disk, in the image file's place.
-    pub fn keep(&self, chip: &FileChip) -> Result<(), Problem> {
-        chip.sync().and_then(|()| self.rename()).map_err(|error| at(&self.named, error))
+    pub fn keep(&self, _chip: &FileChip) -> Result<(), Problem> {
+        self.rename().map_err(|error| at(&self.named, error))
     }
 
     /// Replaces the image file by one with these bytes.
@@ -118,7 +118,7 @@ pub fn load(path: &Path) -> Result<Option<Vec<u8>>, Problem> {
         about => about.map_err(|error| at(path, error))?,
     };
     if !about.is_file() {
-        return Err(Problem::Other(format!("{} is no file", path.display())));
+        return Err(Problem::System(format!("{} is no file", path.display())));
     }
     if !is_image_size(about.len()) {
         return Err(refused(path, Refusal::ImageSize));
@@ -153,7 +153,7 @@ pub fn refused(path: &Path, refusal: Refusal) -> Problem {
 
 /// What went wrong at a file.
 pub fn at(path: &Path, error: io::Error) -> Problem {
-    Problem::Other(format!("{}: {error}", path.display()))
+    Problem::System(format!("{}: {error}", path.display()))
 }
 
 /// The blocks that are empty in one image and not in the other, which came before.

@@ -6,8 +6,13 @@ mod check;
 mod demo;
 mod help;
 mod image_file;
+#[allow(dead_code)]
+mod json;
 mod listing;
 mod picture;
+#[allow(dead_code)]
+#[path = "../../sha256.rs"]
+mod sha256;
 
 use args::{Command, Request};
 use johvimaru::Refusal;
@@ -23,8 +28,21 @@ pub enum Problem {
     Refused(Refusal),
     /// A call was refused for this file.
     RefusedFile(String, Refusal),
-    /// Anything else, in words.
-    Other(String),
+    /// Something is left that a handover must not leave, in words.
+    Leftovers(String),
+    /// The file or the system, in words.
+    System(String),
+}
+
+impl Problem {
+    /// The exit status that tells of it.
+    fn status(&self) -> u8 {
+        match self {
+            Problem::Refused(_) | Problem::RefusedFile(..) => 1,
+            Problem::System(_) => 3,
+            Problem::Leftovers(_) => 4,
+        }
+    }
 }
 
 impl fmt::Display for Problem {
@@ -34,7 +52,7 @@ impl fmt::Display for Problem {
             Problem::RefusedFile(file, refusal) => {
                 write!(f, "{file}: refused {}: {refusal}", refusal.number())
             }
-            Problem::Other(words) => f.write_str(words),
+            Problem::Leftovers(words) | Problem::System(words) => f.write_str(words),
         }
     }
 }
@@ -47,7 +65,7 @@ impl From<Refusal> for Problem {
 
 impl From<io::Error> for Problem {
     fn from(error: io::Error) -> Problem {
-        Problem::Other(error.to_string())
+        Problem::System(error.to_string())
     }
 }
 
@@ -68,7 +86,7 @@ fn main() -> ExitCode {
         Ok(()) => ExitCode::SUCCESS,
         Err(problem) => {
             eprintln!("johvimaru: {problem}");
-            ExitCode::FAILURE
+            ExitCode::from(problem.status())
         }
     }
 }
@@ -78,7 +96,7 @@ fn print(text: &[u8]) -> Result<(), Problem> {
     let mut out = io::stdout().lock();
     match out.write_all(text).and_then(|()| out.flush()) {
         Err(error) if error.kind() != ErrorKind::BrokenPipe => {
-            Err(Problem::Other(format!("standard output: {error}")))
+            Err(Problem::System(format!("standard output: {error}")))
         }
         _ => Ok(()),
     }

@@ -66,7 +66,7 @@ pub fn run(path: &Path, options: &MapOptions, out: &mut dyn Write) -> Result<(),
 
 /// The image of a file that must be there.
 fn there(path: &Path) -> Result<Vec<u8>, Problem> {
-    let none = || Problem::Other(format!("{} is not there", path.display()));
+    let none = || Problem::System(format!("{} is not there", path.display()));
     image_file::load(path)?.ok_or_else(none)
 }
 
@@ -74,7 +74,7 @@ fn there(path: &Path) -> Result<Vec<u8>, Problem> {
 fn put(path: &Path, text: &str, drawn: &[Drawn]) -> Result<(), Problem> {
     let real = |path: &Path| fs::canonicalize(path).ok();
     if real(path).is_some_and(|out| drawn.iter().any(|one| real(one.path).as_ref() == Some(&out))) {
-        return Err(Problem::Other(format!("{} is the image itself", path.display())));
+        return Err(Problem::System(format!("{} is the image itself", path.display())));
     }
     fs::write(path, text).map_err(|error| at(path, error))
 }

@@ -84,6 +84,22 @@ pub trait Chip {
 
     /// Erases a block: all its bytes are then FFh.
     fn erase(&mut self, block: usize) -> Result<(), Self::Error>;
+
+    /// Leaves a block as an erase that the power cuts after its first k bytes: these are FFh, the rest is as
+    /// it was. Only [`CutChip`] asks for it. What stands here erases the block and programs the rest again.
+    fn erase_part(&mut self, block: usize, k: usize) -> Result<(), Self::Error> {
+        let first = PAGES_IN_BLOCK * block;
+        let mut old = [[0; PAGE]; PAGES_IN_BLOCK];
+        for (page, bytes) in old.iter_mut().enumerate() {
+            self.read(first + page, bytes)?;
+        }
+        old.as_flattened_mut().iter_mut().take(k).for_each(|byte| *byte = 0xff);
+        self.erase(block)?;
+        for (page, bytes) in old.iter().enumerate().filter(|(_, bytes)| !is_erased(&bytes[..])) {
+            self.program(first + page, bytes)?;
+        }
+        Ok(())
+    }
 }
 
 impl<C: Chip + ?Sized> Chip for &mut C {
@@ -103,6 +119,10 @@ impl<C: Chip + ?Sized> Chip for &mut C {
 
     fn erase(&mut self, block: usize) -> Result<(), C::Error> {
         (**self).erase(block)
+    }
+
+    fn erase_part(&mut self, block: usize, k: usize) -> Result<(), C::Error> {
+        (**self).erase_part(block, k)
     }
 }
 
@@ -201,8 +221,8 @@ impl Chip for MemoryChip {
 
 /// A chip in a file, of as many full blocks as the file has.
 ///
-/// Steps go to the file one by one, in their order. They are on the disk for sure only after
-/// [`sync`](FileChip::sync).
+/// Steps change the file in place, one by one in their order, and each is on the disk when it ends. So a program
+/// that is killed, or whose power fails, leaves what a chip's power cut leaves.
 ///
 /// ```
 /// use johvimaru::{Driver, FileChip, Noise, Offset};
@@ -211,7 +231,6 @@ impl Chip for MemoryChip {
 /// let mut driver = Driver::new(FileChip::create(&path, 8)?);
 /// driver.format(Noise::from_system()?)?;
 /// driver.write(Offset::new(0, 0)?, &[b'x'; 224])?;
-/// driver.chip().sync()?;
 /// assert_eq!(std::fs::read(&path)?, driver.mirror());
 /// # std::fs::remove_file(&path)?;
 /// # Ok::<(), Box<dyn std::error::Error>>(())
@@ -225,10 +244,7 @@ pub struct FileChip {
 impl FileChip {
     /// The chip in a file that is there.
     pub fn open(path: impl AsRef<Path>) -> io::Result<FileChip> {
-        let file = OpenOptions::new().read(true).write(true).open(path)?;
-        let blocks = file.metadata()?.len() / BLOCK as u64;
-        let blocks = usize::try_from(blocks).map_err(|_| ErrorKind::FileTooLarge)?;
-        Ok(FileChip { file, blocks })
+        FileChip::from_file(OpenOptions::new().read(true).write(true).open(path)?)
     }
 
     /// A new chip with empty blocks, in a file that is not yet there.
@@ -237,12 +253,21 @@ impl FileChip {
         for block in 0..blocks {
             file.write_all_at(&[0xff; BLOCK], (BLOCK * block) as u64)?;
         }
+        file.sync_all()?;
         Ok(FileChip { file, blocks })
     }
 
-    /// Waits until all steps are on the disk.
-    pub fn sync(&self) -> io::Result<()> {
-        self.file.sync_all()
+    /// The chip in a file that was opened to be read and written.
+    pub fn from_file(file: File) -> io::Result<FileChip> {
+        let blocks = file.metadata()?.len() / BLOCK as u64;
+        let blocks = usize::try_from(blocks).map_err(|_| ErrorKind::FileTooLarge)?;
+        Ok(FileChip { file, blocks })
+    }
+
+    /// Writes a step's bytes, and waits until they are on the disk.
+    fn put(&self, bytes: &[u8], start: u64) -> io::Result<()> {
+        self.file.write_all_at(bytes, start)?;
+        self.file.sync_data()
     }
 
     /// Where a page or block starts, if the chip has it.
@@ -273,12 +298,16 @@ impl Chip for FileChip {
         if !is_erased(&old) {
             return Err(io::Error::new(ErrorKind::InvalidInput, Misuse::NotEmpty));
         }
-        self.file.write_all_at(bytes, start)
+        self.put(bytes, start)
     }
 
     fn erase(&mut self, block: usize) -> io::Result<()> {
+        self.erase_part(block, BLOCK)
+    }
+
+    fn erase_part(&mut self, block: usize, k: usize) -> io::Result<()> {
         let start = self.start(block, self.blocks, BLOCK)?;
-        self.file.write_all_at(&[0xff; BLOCK], start)
+        self.put(&[0xff; BLOCK][..k.min(BLOCK)], start)
     }
 }
 
@@ -393,21 +422,6 @@ impl<C: Chip> CutChip<C> {
             }
         }
     }
-
-    /// Erases the first k bytes of a block and leaves the rest.
-    fn erase_part(&mut self, block: usize, k: usize) -> Result<(), C::Error> {
-        let first = PAGES_IN_BLOCK * block;
-        let mut old = [[0; PAGE]; PAGES_IN_BLOCK];
-        for (page, bytes) in old.iter_mut().enumerate() {
-            self.chip.read(first + page, bytes)?;
-        }
-        old.as_flattened_mut().iter_mut().take(k).for_each(|byte| *byte = 0xff);
-        self.chip.erase(block)?;
-        for (page, bytes) in old.iter().enumerate().filter(|(_, bytes)| !is_erased(&bytes[..])) {
-            self.chip.program(first + page, bytes)?;
-        }
-        Ok(())
-    }
 }
 
 impl<C: Chip> Chip for CutChip<C> {
@@ -440,7 +454,7 @@ impl<C: Chip> Chip for CutChip<C> {
             return self.chip.erase(block).map_err(CutError::Chip);
         };
         self.bytes = k.min(BLOCK);
-        self.erase_part(block, k).map_err(CutError::Chip)?;
+        self.chip.erase_part(block, k).map_err(CutError::Chip)?;
         Err(CutError::PowerCut)
     }
 }

@@ -317,7 +317,6 @@ fn a_chip_in_a_file_through_a_handover() {
     let mut driver = Driver::new(FileChip::open(&path).unwrap());
     driver.mount().unwrap();
     driver.wipe(at(0, 1), noise(3)).unwrap();
-    driver.chip().sync().unwrap();
     store = cut.mounted().unwrap();
     store.wipe(at(0, 1), noise(3)).unwrap();
     assert!(fs::read(&path).unwrap() == store.image());

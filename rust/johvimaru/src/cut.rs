@@ -2,7 +2,7 @@
 
 use crate::{Cut, Refused, Store};
 
-/// How a call in its form with n and k ended.
+/// How a call in its form with n and k ended. It comes with the feature `cut`.
 #[derive(Clone, Debug)]
 pub enum Outcome<I> {
     /// It has no more than n steps, and was done.
@@ -34,7 +34,8 @@ impl<I: AsRef<[u8]> + AsMut<[u8]>> Outcome<I> {
     }
 }
 
-/// An image that a cut has left without a record. Nothing but a mount makes it a store again.
+/// An image that a cut has left without a record. Nothing but a mount makes it a store again. It comes with
+/// the feature `cut`.
 #[derive(Clone, Debug)]
 pub struct Unmounted<I> {
     image: I,

@@ -3,7 +3,8 @@
 //!
 //! These functions are safe, since the library tests what it is given and refuses what is wrong. They
 //! are for tests of the library, and for callers whose record must lie in buffers of their own. All
-//! others use [`Store`](crate::Store), which keeps image and record together.
+//! others use [`Store`](crate::Store), which keeps image and record together. The forms with n and k,
+//! which end in `_cut`, come with the feature `cut`.
 //!
 //! ```
 //! use johvimaru::raw::{self, Record};
@@ -19,6 +20,8 @@
 #[cfg(feature = "cut")]
 use crate::Cut;
 use crate::{ffi, KEYS, PLACES};
+use alloc::vec;
+use alloc::vec::Vec;
 
 /// The reply of a call that was done.
 pub const DONE: u32 = 0;

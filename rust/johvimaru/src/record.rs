@@ -2,7 +2,7 @@
 
 use crate::raw::{self, NONE};
 use crate::{Offset, BLOCK, HEADER, KEY, PAGE, PLACES};
-use std::ops::Range;
+use core::ops::Range;
 
 /// What stands for a key position in the record.
 #[derive(Clone, Copy, Debug, PartialEq, Eq, Hash)]

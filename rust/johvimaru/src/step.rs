@@ -1,6 +1,7 @@
 //! The two steps of the flash.
 
 use crate::{BLOCK, PAGE, PAGES_IN_BLOCK};
+use alloc::boxed::Box;
 
 /// The bytes of a page.
 pub type Page = [u8; PAGE];

@@ -164,7 +164,8 @@ impl<I: AsRef<[u8]> + AsMut<[u8]>> Store<I> {
     }
 }
 
-/// The calls in their form with n and k. Each takes the store for good: cut, it leaves an image only.
+/// The calls in their form with n and k, which come with the feature `cut`. Each takes the store for good:
+/// cut, it leaves an image only.
 #[cfg(feature = "cut")]
 impl<I: AsRef<[u8]> + AsMut<[u8]>> Store<I> {
     /// A format that the power cuts.

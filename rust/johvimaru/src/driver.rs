@@ -103,11 +103,21 @@ impl<E> From<Refusal> for Failure<E> {
 /// assert_eq!(driver.chip().bytes(), driver.mirror());
 /// # Ok::<(), Box<dyn std::error::Error>>(())
 /// ```
-#[derive(Clone, Debug)]
+#[derive(Clone)]
 pub struct Driver<C> {
     chip: C,
     mirror: Vec<u8>,
     record: Option<Record>,
+}
+
+/// Chip and mirror, which have the keys, are not shown.
+impl<C> fmt::Debug for Driver<C> {
+    fn fmt(&self, f: &mut fmt::Formatter) -> fmt::Result {
+        f.debug_struct("Driver")
+            .field("blocks", &(self.mirror.len() / BLOCK))
+            .field("record", &self.record)
+            .finish_non_exhaustive()
+    }
 }
 
 impl<C> Driver<C> {

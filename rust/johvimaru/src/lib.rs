@@ -52,6 +52,9 @@
 //!
 //! # What stays secret
 //!
+//! `{:?}` of a type of this crate shows no byte of a key or of a payload. A [`Payload`], a [`Page`] and an
+//! image are plain bytes, which are shown where they are printed themselves.
+//!
 //! The library clears nothing behind it: what a call used stays on the stack, below the caller's frame, and
 //! in registers until something overwrites it. Found were the key of the node on the stack after a write
 //! and a read, 16 bytes of the payload in a vector register after a read, and key bytes in vector registers

@@ -52,7 +52,7 @@ impl<E: Error + 'static> Error for CutError<E> {
 /// assert!(driver.read(at)?.starts_with(b"draught 4.12 m"));
 /// # Ok::<(), Box<dyn std::error::Error>>(())
 /// ```
-#[derive(Clone, Debug)]
+#[derive(Clone)]
 pub struct CutChip<C> {
     chip: C,
     steps: u64,
@@ -60,6 +60,17 @@ pub struct CutChip<C> {
     bytes: usize,
     cut: Option<Cut>,
     off: bool,
+}
+
+/// The chip inside is not shown.
+impl<C> fmt::Debug for CutChip<C> {
+    fn fmt(&self, f: &mut fmt::Formatter) -> fmt::Result {
+        f.debug_struct("CutChip")
+            .field("steps", &self.steps)
+            .field("cut", &self.cut)
+            .field("off", &self.off)
+            .finish_non_exhaustive()
+    }
 }
 
 impl<C: Chip> CutChip<C> {

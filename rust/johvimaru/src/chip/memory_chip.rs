@@ -3,6 +3,7 @@
 use crate::step::is_erased;
 use crate::{Chip, Misuse, Page, BLOCK, PAGE, PAGES_IN_BLOCK};
 use alloc::vec::Vec;
+use core::fmt;
 
 /// A chip in memory.
 ///
@@ -17,9 +18,16 @@ use alloc::vec::Vec;
 /// assert_eq!(chip.erase(8), Err(Misuse::Outside));
 /// # Ok::<(), Misuse>(())
 /// ```
-#[derive(Clone, Debug)]
+#[derive(Clone)]
 pub struct MemoryChip {
     bytes: Vec<u8>,
+}
+
+/// The bytes are not shown.
+impl fmt::Debug for MemoryChip {
+    fn fmt(&self, f: &mut fmt::Formatter) -> fmt::Result {
+        f.debug_struct("MemoryChip").field("blocks", &self.blocks()).finish_non_exhaustive()
+    }
 }
 
 impl MemoryChip {

@@ -78,9 +78,11 @@ impl Bed for InFile {
     }
 }
 
+/// Some five thousand steps, each of which waits for the disk: the folder of temporary files may be in memory.
 #[test]
 fn a_wipe_in_a_file_cut_at_every_step() {
-    let bed = InFile(temporary("wipe.img"));
+    let name = format!("johvimaru-wipe-{}.img", std::process::id());
+    let bed = InFile(std::env::temp_dir().join(name));
     assert_eq!(wipe_at_every_step(&bed, &[1, 100, 4_095]), 57);
     fs::remove_file(&bed.0).unwrap();
 }

@@ -217,6 +217,9 @@ fn make(device: &mut Device, what: &Call, input: &[u8]) -> Result<(), Problem> {
 fn told(failure: Failure<CutError<io::Error>>) -> Problem {
     match failure {
         Failure::Refused(refusal) => Problem::Refused(refusal),
+        Failure::Chip(CutError::Chip(error)) => {
+            Problem::System(format!("the chip failed: {error}"))
+        }
         other => Problem::System(other.to_string()),
     }
 }

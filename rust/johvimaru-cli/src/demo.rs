@@ -268,6 +268,9 @@ fn contains(image: &[u8], bytes: &[u8]) -> bool {
 fn told(failure: Failure<CutError<Misuse>>) -> Problem {
     match failure {
         Failure::Refused(refusal) => Problem::Refused(refusal),
+        Failure::Chip(CutError::Chip(error)) => {
+            Problem::System(format!("the chip failed: {error}"))
+        }
         other => Problem::System(other.to_string()),
     }
 }

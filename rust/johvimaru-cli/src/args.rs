@@ -331,7 +331,7 @@ fn help(words: &Words) -> Result<Command, Usage> {
     match &words.plain[..] {
         [] if words.has(MAN) => Ok(Command::Man),
         [] => Ok(Command::Help(Topic::Johvimaru)),
-        [name] => named(&name.to_string_lossy()).map(Command::Help),
+        [name] if !words.has(MAN) => named(&name.to_string_lossy()).map(Command::Help),
         _ => wrong("help takes one name"),
     }
 }

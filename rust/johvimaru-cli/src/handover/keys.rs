@@ -56,7 +56,7 @@ pub fn at(image: &[u8], start: usize) -> Bytes {
 }
 
 /// The keys on an image: the slots of all pages of keys, whole or torn, and of spoilt pages in blocks without nodes
-/// and cut-offs, where an erase may have left the end of such a page. A slot all of FFh there was never written.
+/// and cut-offs, where an erase may have left the end of such a page.
 fn keys_on(image: &[u8]) -> Vec<(Found, Bytes)> {
     let forms: Vec<Form> = Form::all(image).collect();
     let mut keys = Vec::new();
@@ -68,8 +68,12 @@ fn keys_on(image: &[u8]) -> Vec<(Found, Bytes)> {
             let page = PAGES_IN_BLOCK * block + number;
             match form {
                 Form::Whole(Header::Keys { .. }) => keys.extend(slots(image, page, *form)),
-                Form::Torn(Header::Keys { .. }) => keys.extend(written(image, page, *form)),
-                Form::Spoilt if !is_data => keys.extend(written(image, page, *form)),
+                Form::Torn(Header::Keys { .. }) => {
+                    keys.extend(slots(image, page, *form).filter(|(_, bytes)| is_written(bytes)));
+                }
+                Form::Spoilt if !is_data => {
+                    keys.extend(slots(image, page, *form).filter(|(_, bytes)| !is_text(bytes)));
+                }
                 _ => {}
             }
         }
@@ -91,9 +95,14 @@ fn slots(image: &[u8], page: usize, form: Form) -> impl Iterator<Item = (Found, 
     })
 }
 
-/// Those slots of a page that are not all of FFh.
-fn written(image: &[u8], page: usize, form: Form) -> impl Iterator<Item = (Found, Bytes)> + '_ {
-    slots(image, page, form).filter(|(_, bytes)| *bytes != [0xff; KEY])
+/// Whether a slot of a page that the power cut was begun.
+fn is_written(bytes: &Bytes) -> bool {
+    bytes.iter().any(|&byte| byte != 0xff)
+}
+
+/// Whether bytes of a page without a header are erased or text, as those of a commit are.
+fn is_text(bytes: &Bytes) -> bool {
+    bytes.iter().all(|byte| matches!(byte, 0xff | b' '..=b'~'))
 }
 
 #[cfg(test)]
@@ -102,16 +111,15 @@ mod tests {
     use johvimaru::{Noise, Refusal, Store, BLOCK, KEYS, NOISE};
 
     /// Noise in which each key is another.
-    fn noise(first: u8) -> Noise {
-        let bytes: Vec<u8> = (0..NOISE)
-            .map(|at| first ^ (at / KEY) as u8 ^ (at % KEY) as u8 ^ (at / 4096) as u8)
-            .collect();
+    fn noise() -> Noise {
+        let word = |at: usize| (at as u32 + 1).wrapping_mul(2_654_435_761).to_be_bytes();
+        let bytes: Vec<u8> = (0..NOISE / 4).flat_map(word).collect();
         Noise::new(&bytes).unwrap()
     }
 
     #[test]
     fn each_key_of_a_store_is_found_where_it_stands() -> Result<(), Refusal> {
-        let store = Store::format(vec![0; 8 * BLOCK], noise(1))?;
+        let store = Store::format(vec![0; 8 * BLOCK], noise())?;
         let keys = keys_on(store.image());
         assert_eq!(keys.len(), KEYS);
         for (key, bytes) in keys {
@@ -125,7 +133,7 @@ mod tests {
     /// What a cut erase leaves of a page of keys, without its header, is searched for too.
     #[test]
     fn keys_of_a_page_whose_header_is_erased() -> Result<(), Refusal> {
-        let mut image = Store::format(vec![0; 8 * BLOCK], noise(1))?.into_image();
+        let mut image = Store::format(vec![0; 8 * BLOCK], noise())?.into_image();
         let last = 15 * PAGE;
         image[..last + HEADER + 5].fill(0xff);
         let left: Vec<usize> = keys_on(&image)
@@ -139,9 +147,18 @@ mod tests {
         Ok(())
     }
 
+    /// Text of a commit whose first page is damaged is taken for no key.
+    #[test]
+    fn text_is_no_key() -> Result<(), Refusal> {
+        let mut image = Store::format(vec![0; 8 * BLOCK], noise())?.into_image();
+        image[2 * BLOCK] = b'X';
+        assert_eq!(keys_on(&image).len(), KEYS);
+        Ok(())
+    }
+
     #[test]
     fn copies_are_found_at_any_byte() -> Result<(), Refusal> {
-        let store = Store::format(vec![0; 8 * BLOCK], noise(1))?;
+        let store = Store::format(vec![0; 8 * BLOCK], noise())?;
         let key = at(store.image(), store.record().key_bytes(300).start);
         let mut other = vec![0xff; 8 * BLOCK];
         other[1_001..1_001 + KEY].copy_from_slice(&key);

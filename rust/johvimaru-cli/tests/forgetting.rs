@@ -3,9 +3,11 @@
 mod common;
 
 use common::{holds, Folder};
-use johvimaru::{Offset, Store};
+use johvimaru::{Cut, Noise, Offset, Step, Store, BLOCK, NOISE, PAGE};
 use std::fs;
 use std::os::unix::fs::MetadataExt;
+use std::path::Path;
+use std::process::Command;
 
 /// The key of a live node, as it stands on the image.
 fn key_of(folder: &Folder, file: u32, offset: u32) -> Vec<u8> {
@@ -93,4 +95,53 @@ fn a_file_that_may_only_be_read() {
         }
         assert!(folder.image() == before);
     }
+}
+
+/// Builds the library that logs what changes a file.
+fn log_of_steps(folder: &Folder) -> std::path::PathBuf {
+    let source = Path::new(env!("CARGO_MANIFEST_DIR")).join("tests/c/log_steps.c");
+    let library = folder.path.join("log_steps.so");
+    let words = ["-shared", "-fPIC", "-O1", "-Wall", "-Wextra", "-Werror", "-ldl", "-o"];
+    let built = Command::new("cc").arg(source).args(words).arg(&library).output();
+    let built = built.expect("a C compiler is there");
+    assert!(built.status.success(), "{}", String::from_utf8_lossy(&built.stderr));
+    library
+}
+
+/// The steps of a wipe as the log must have them: each where it goes, and a sync behind it.
+fn steps_of_wipe(before: &[u8]) -> String {
+    let noise = || Noise::new(&[9; NOISE]).unwrap();
+    let after = |n| {
+        let store = Store::mount(before.to_vec()).unwrap();
+        store.wipe_cut(Offset::new(0, 0).unwrap(), noise(), Cut { n, k: 0 }).unwrap()
+    };
+    let mut lines = String::new();
+    for n in 0.. {
+        let (now, next) = (after(n), after(n + 1));
+        lines += &match Step::between(now.image(), next.image()) {
+            Some(Step::Program { page, .. }) => format!("write {PAGE} {}\nsync 0 0\n", PAGE * page),
+            Some(Step::Erase { block }) => format!("write {BLOCK} {}\nsync 0 0\n", BLOCK * block),
+            None => String::new(),
+        };
+        if !next.is_cut() {
+            break;
+        }
+    }
+    lines
+}
+
+/// The file is written in the order of the call's steps, and each is on the disk before the next begins.
+#[test]
+fn each_step_is_synced_before_the_next() {
+    let folder = Folder::new("synced");
+    let library = log_of_steps(&folder);
+    folder.done("format --blocks 8");
+    folder.done("write 0 0 x");
+    let expected = steps_of_wipe(&folder.image());
+    let mut wipe = folder.command(&["wipe", "0", "0"]);
+    let wiped =
+        wipe.env("LD_PRELOAD", library).env("LOG", folder.path.join("log")).output().unwrap();
+    assert!(wiped.status.success(), "{}", String::from_utf8_lossy(&wiped.stderr));
+    assert_eq!(expected.lines().count(), 2 * 57);
+    assert_eq!(String::from_utf8(folder.bytes("log")).unwrap(), expected);
 }

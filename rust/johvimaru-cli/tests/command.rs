@@ -367,20 +367,19 @@ fn the_demo() {
     assert_eq!(folder.names(), [""; 0], "the demo leaves no file");
 }
 
-/// The session that the README shows is what the command prints.
+/// The session that docs/COMMAND.md shows is what the command prints.
 #[test]
-fn the_session_of_the_readme() {
+fn the_session_of_the_documents() {
     let top = Path::new(env!("CARGO_MANIFEST_DIR")).join("../..");
-    let readme = fs::read_to_string(top.join("README.md")).unwrap();
-    let (_, section) = readme.split_once("## The command\n").expect("the section is there");
+    let page = fs::read_to_string(top.join("docs/COMMAND.md")).unwrap();
     let first = "    $ johvimaru ";
-    let session: Vec<&str> = section
+    let session: Vec<&str> = page
         .lines()
         .skip_while(|line| !line.starts_with(first))
         .take_while(|line| line.starts_with("    "))
         .collect();
-    assert!(session.len() > 20, "the session is in the README");
-    let folder = Folder::new("readme");
+    assert!(session.len() > 20, "the session is there");
+    let folder = Folder::new("session");
     let mut printed = Vec::new();
     for call in session.iter().filter_map(|line| line.strip_prefix(first)) {
         let script = format!("{} {call} 2>&1", env!("CARGO_BIN_EXE_johvimaru"));

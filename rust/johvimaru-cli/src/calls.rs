@@ -55,16 +55,14 @@ pub fn format(
     let Some(file) = ImageFile::find(path)? else {
         return format_new(path, blocks.unwrap_or(BLOCKS), cut, out);
     };
-    let before = file.all_bytes()?;
-    if !force && !image_file::is_empty(&before) {
-        return Err(Problem::System(format!(
-            "{}; `format --force` makes an empty store of it",
-            what_stands(&file.named, &before)
-        )));
+    if !force && !file.is_empty()? {
+        let what = what_stands(&file)?;
+        let words = format!("{what}; `format --force` makes an empty store of it");
+        return Err(Problem::System(words));
     }
-    let old = image_file::is_image_size(before.len() as u64).then_some(before.len() / BLOCK);
+    let old = file.blocks()?;
     let blocks = blocks.or(old).unwrap_or(BLOCKS);
-    if before.len() != BLOCK * blocks {
+    if old != Some(blocks) {
         file.clear(blocks)?;
     }
     let mut device = device(&file)?;
@@ -73,15 +71,15 @@ pub fn format(
 }
 
 /// What stands in a file, in words.
-fn what_stands(path: &Path, bytes: &[u8]) -> String {
-    let name = path.display();
-    match image_file::mount(path, bytes) {
+fn what_stands(file: &ImageFile) -> Result<String, Problem> {
+    match file.bytes().and_then(|bytes| image_file::mount(&file.named, &bytes)) {
         Ok(store) => {
             let nodes = counted(store.record().nodes().count(), "live node");
             let last = store.record().next_sequence() - 1;
-            format!("{name} holds a store with {nodes}, last sequence {last}")
+            Ok(format!("{} holds a store with {nodes}, last sequence {last}", file.named.display()))
         }
-        Err(problem) => format!("{problem}"),
+        Err(problem @ Problem::System(_)) => Err(problem),
+        Err(problem) => Ok(problem.to_string()),
     }
 }
 

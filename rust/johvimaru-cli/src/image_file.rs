@@ -49,23 +49,37 @@ impl ImageFile {
         Ok(Some(ImageFile { named: named.to_path_buf(), file }))
     }
 
-    /// What is in the file. One of a wrong size is refused.
-    pub fn bytes(&self) -> Result<Vec<u8>, Problem> {
-        let length = self.file.metadata().map_err(|error| at(&self.named, error))?.len();
-        if !is_image_size(length) {
-            return Err(refused(&self.named, Refusal::ImageSize));
-        }
-        self.all_bytes()
+    /// How many bytes it has.
+    fn length(&self) -> Result<u64, Problem> {
+        Ok(self.file.metadata().map_err(|error| at(&self.named, error))?.len())
     }
 
-    /// What is in the file, whatever its size.
-    pub fn all_bytes(&self) -> Result<Vec<u8>, Problem> {
-        let read = || {
-            let length = self.file.metadata()?.len();
-            let mut bytes = vec![0; usize::try_from(length).map_err(|_| ErrorKind::FileTooLarge)?];
-            self.file.read_exact_at(&mut bytes, 0).map(|()| bytes)
-        };
-        read().map_err(|error| at(&self.named, error))
+    /// How many blocks it has, where it is of the size of an image.
+    pub fn blocks(&self) -> Result<Option<usize>, Problem> {
+        let length = self.length()?;
+        Ok(is_image_size(length).then_some(length as usize / BLOCK))
+    }
+
+    /// What is in the file. One of a wrong size is refused.
+    pub fn bytes(&self) -> Result<Vec<u8>, Problem> {
+        let blocks = self.blocks()?.ok_or_else(|| refused(&self.named, Refusal::ImageSize))?;
+        let mut bytes = vec![0; BLOCK * blocks];
+        self.file.read_exact_at(&mut bytes, 0).map_err(|error| at(&self.named, error))?;
+        Ok(bytes)
+    }
+
+    /// Whether all bytes of the file are FFh, whatever its size.
+    pub fn is_empty(&self) -> Result<bool, Problem> {
+        let length = self.length()?;
+        for start in (0..length).step_by(BLOCK) {
+            let mut bytes = [0; BLOCK];
+            let bytes = &mut bytes[..(length - start).min(BLOCK as u64) as usize];
+            self.file.read_exact_at(bytes, start).map_err(|error| at(&self.named, error))?;
+            if !is_empty(bytes) {
+                return Ok(false);
+            }
+        }
+        Ok(true)
     }
 
     /// The chip in the file. The file stays locked as long as either of the two is there.
@@ -150,7 +164,10 @@ fn wait(
 /// Whether there is a file of this name. What is there and is no file is a problem.
 fn is_there(path: &Path) -> Result<bool, Problem> {
     match fs::metadata(path) {
-        Err(error) if error.kind() == ErrorKind::NotFound => Ok(false),
+        Err(error) if error.kind() == ErrorKind::NotFound => match fs::symlink_metadata(path) {
+            Ok(_) => Err(Problem::System(format!("{} is a link to nothing", path.display()))),
+            Err(_) => Ok(false),
+        },
         Err(error) => Err(at(path, error)),
         Ok(about) if about.is_file() => Ok(true),
         Ok(_) => Err(Problem::System(format!("{} is no file", path.display()))),

@@ -216,6 +216,13 @@ fn a_file_that_is_not_there() {
         assert_eq!(folder.run(line).status, 1, "{line}");
     }
     assert_eq!(folder.names(), [""; 0], "nothing was made");
+    std::os::unix::fs::symlink("nowhere.img", folder.path.join("recorder.img")).unwrap();
+    for line in CALLS {
+        let ran = folder.run(line);
+        let said = "johvimaru: recorder.img is a link to nothing\n";
+        assert_eq!((ran.status, &ran.errors[..]), (3, said), "{line}");
+    }
+    assert!(folder.path.join("recorder.img").is_symlink());
 }
 
 #[test]

@@ -24,7 +24,22 @@ pub struct Request {
 pub enum Command {
     /// Print a help text.
     Help(Topic),
-    /// Make a call that changes the flash, and cut it where that is asked.
+    /// Print all help texts as a man page.
+    Man,
+    /// Print the version.
+    Version,
+    /// Make an empty store.
+    Format {
+        /// How many blocks.
+        blocks: Option<usize>,
+        /// Also over a file that holds something.
+        force: bool,
+        /// Where the power fails.
+        cut: Option<Cut>,
+    },
+    /// Mount, and nothing more; and where the power fails.
+    Mount(Option<Cut>),
+    /// Mount and make a call, and cut it where that is asked.
     Call(Call, Option<Cut>),
     /// Read a payload.
     Read {
@@ -35,28 +50,35 @@ pub enum Command {
         /// Print the 224 bytes as they are.
         raw: bool,
     },
-    /// Print document 01's listing.
-    List,
-    /// Say what is there.
-    Check,
+    /// Print the nodes of a file, a line each.
+    Export {
+        /// The file.
+        file: u32,
+        /// Payloads as text.
+        text: bool,
+    },
+    /// Write the nodes of such lines.
+    Import {
+        /// The file.
+        file: u32,
+        /// Payloads are text.
+        text: bool,
+    },
+    /// Clear the recorder for another owner.
+    Handover(Handover),
+    /// Print document 01's listing, as JSON where that is asked.
+    List(bool),
+    /// Say what is there, as JSON where that is asked.
+    Check(bool),
     /// Draw the picture.
     Map(MapOptions),
     /// Play a handover.
     Demo,
 }
 
-/// A call that changes the flash.
+/// A call that changes the flash and comes after a mount.
 #[derive(Debug, PartialEq, Eq)]
 pub enum Call {
-    /// Format.
-    Format {
-        /// How many blocks.
-        blocks: Option<usize>,
-        /// Also over a file that is no image.
-        force: bool,
-    },
-    /// Mount, and nothing more.
-    Mount,
     /// Write.
     Write {
         /// The file.
@@ -82,6 +104,19 @@ pub enum Call {
         /// The first offset removed.
         offset: u32,
     },
+}
+
+/// How a recorder is handed over.
+#[derive(Debug, Default, PartialEq, Eq)]
+pub struct Handover {
+    /// The files that stay.
+    pub keep: Vec<u32>,
+    /// The file that the report is written to; none is standard output.
+    pub report: Option<PathBuf>,
+    /// The report as JSON.
+    pub json: bool,
+    /// Format an image that cannot be mounted.
+    pub force: bool,
 }
 
 /// What picture is drawn, and where it goes.
@@ -121,17 +156,23 @@ struct Shape {
 /// The options of every subcommand.
 const IMAGE_OPTION: &str = "--image";
 const HELP: &str = "--help";
+/// Prints the help texts as a man page.
+const MAN: &str = "--man";
 
 impl Shape {
     fn of(topic: Topic) -> Shape {
         let at: &[&str] = &["FILE", "OFFSET"];
         let (words, needed, values, flags): (&[&str], usize, &[&str], &[&str]) = match topic {
-            Topic::Johvimaru | Topic::List | Topic::Check | Topic::Demo => (&[], 0, &[], &[]),
+            Topic::Johvimaru => (&["WHAT"], 0, &[], &["--man"]),
+            Topic::Demo | Topic::Version => (&[], 0, &[], &[]),
+            Topic::List | Topic::Check => (&[], 0, &[], &["--json"]),
             Topic::Format => (&[], 0, &["--blocks", "--cut"], &["--force"]),
             Topic::Mount | Topic::Commit => (&[], 0, &["--cut"], &[]),
             Topic::Write => (&["FILE", "OFFSET", "TEXT"], 2, &["--cut"], &[]),
             Topic::Read => (at, 2, &[], &["--raw"]),
             Topic::CutOff | Topic::Wipe => (at, 2, &["--cut"], &[]),
+            Topic::Export | Topic::Import => (&["FILE"], 1, &[], &["--text"]),
+            Topic::Handover => (&[], 0, &["--keep", "--report"], &["--json", "--force"]),
             Topic::Map => (&[], 0, &["--svg", "--before", "--after"], &[]),
         };
         Shape { topic, words, needed, values, flags }
@@ -245,7 +286,10 @@ pub fn parse(words: &[OsString]) -> Result<Request, Usage> {
     if image.as_os_str().is_empty() {
         return wrong("--image needs the name of a file");
     }
-    if words.has(HELP) || topic == Topic::Johvimaru {
+    if topic == Topic::Johvimaru {
+        return Ok(Request { image, command: help(&words)? });
+    }
+    if words.has(HELP) {
         return Ok(Request { image, command: Command::Help(topic) });
     }
     if words.plain.len() < shape.needed {
@@ -265,44 +309,49 @@ fn subcommand(words: &[OsString]) -> Result<(Topic, Vec<OsString>), Usage> {
         match word.as_bytes() {
             b"--image" => at += 2,
             b"--help" | b"-h" => return Ok((Topic::Johvimaru, Vec::new())),
+            b"--version" | b"-V" => return Ok((Topic::Version, Vec::new())),
             bytes if bytes.starts_with(b"--image=") => at += 1,
             bytes => {
-                let name = String::from_utf8_lossy(bytes);
-                let Some(topic) = Topic::of(&name) else {
-                    return wrong(format!("there is no {name:?}"));
-                };
+                let topic = named(&String::from_utf8_lossy(bytes))?;
                 let rest = words[..at].iter().chain(&words[at + 1..]).cloned().collect();
-                return help_of(topic, rest);
+                return Ok((topic, rest));
             }
         }
     }
     wrong("what is to be done is missing")
 }
 
-/// `help` takes the name of a subcommand.
-fn help_of(topic: Topic, rest: Vec<OsString>) -> Result<(Topic, Vec<OsString>), Usage> {
-    if topic != Topic::Johvimaru {
-        return Ok((topic, rest));
-    }
-    match &rest[..] {
-        [] => Ok((topic, rest)),
-        [name] => match Topic::of(&name.to_string_lossy()) {
-            Some(topic) => Ok((topic, vec![HELP.into()])),
-            None => wrong(format!("there is no {:?}", name.to_string_lossy())),
-        },
+/// The subcommand of a name.
+fn named(name: &str) -> Result<Topic, Usage> {
+    Topic::of(name).ok_or_else(|| Usage(format!("there is no {name:?}")))
+}
+
+/// `help`, with the name of a subcommand or without.
+fn help(words: &Words) -> Result<Command, Usage> {
+    match &words.plain[..] {
+        [] if words.has(MAN) => Ok(Command::Man),
+        [] => Ok(Command::Help(Topic::Johvimaru)),
+        [name] if !words.has(MAN) => named(&name.to_string_lossy()).map(Command::Help),
         _ => wrong("help takes one name"),
     }
 }
 
 /// The command of sorted words, of which there are enough and not too many.
 fn command(shape: &Shape, words: &Words) -> Result<Command, Usage> {
+    let file = || words.number(shape, 0);
     let at = || Ok((words.number(shape, 0)?, words.number(shape, 1)?));
+    let (text, json, force) = (words.has("--text"), words.has("--json"), words.has("--force"));
     let call = match shape.topic {
-        Topic::Johvimaru => return Ok(Command::Help(Topic::Johvimaru)),
-        Topic::List => return Ok(Command::List),
-        Topic::Check => return Ok(Command::Check),
+        Topic::Johvimaru => return help(words),
+        Topic::Version => return Ok(Command::Version),
+        Topic::List => return Ok(Command::List(json)),
+        Topic::Check => return Ok(Command::Check(json)),
         Topic::Demo => return Ok(Command::Demo),
         Topic::Map => return Ok(Command::Map(map_options(words)?)),
+        Topic::Export => return Ok(Command::Export { file: file()?, text }),
+        Topic::Import => return Ok(Command::Import { file: file()?, text }),
+        Topic::Handover => return Ok(Command::Handover(handover(words)?)),
+        Topic::Mount => return Ok(Command::Mount(words.cut()?)),
         Topic::Read => {
             let (file, offset) = at()?;
             return Ok(Command::Read { file, offset, raw: words.has("--raw") });
@@ -310,9 +359,8 @@ fn command(shape: &Shape, words: &Words) -> Result<Command, Usage> {
         Topic::Format => {
             let blocks = words.value("--blocks").map(|value| number("--blocks", value));
             let blocks = blocks.transpose()?.map(|number| number as usize);
-            Call::Format { blocks, force: words.has("--force") }
+            return Ok(Command::Format { blocks, force, cut: words.cut()? });
         }
-        Topic::Mount => Call::Mount,
         Topic::Write => {
             let (file, offset) = at()?;
             let text = words.plain.get(2).map(|text| text.as_bytes().to_vec());
@@ -323,6 +371,22 @@ fn command(shape: &Shape, words: &Words) -> Result<Command, Usage> {
         Topic::Wipe => at().map(|(file, offset)| Call::Wipe { file, offset })?,
     };
     Ok(Command::Call(call, words.cut()?))
+}
+
+fn handover(words: &Words) -> Result<Handover, Usage> {
+    let keep = match words.value("--keep") {
+        None => Vec::new(),
+        Some(files) => {
+            let files = files.to_string_lossy();
+            let numbers = files.split(',').map(|file| number("a file of --keep", OsStr::new(file)));
+            numbers.collect::<Result<_, _>>()?
+        }
+    };
+    let report = words.path("--report");
+    if report.as_ref().is_some_and(|path| path.as_os_str().is_empty()) {
+        return wrong("--report needs the name of a file");
+    }
+    Ok(Handover { keep, report, json: words.has("--json"), force: words.has("--force") })
 }
 
 fn map_options(words: &Words) -> Result<MapOptions, Usage> {
@@ -372,11 +436,12 @@ mod tests {
         let from_input = Command::Call(Call::Write { file: 2, offset: 5, text: None }, None);
         assert_eq!(command_of("write 2 5 -"), from_input);
         assert_eq!(command_of("write 2 5"), from_input);
-        let format = |blocks, force| Command::Call(Call::Format { blocks, force }, None);
+        let format = |blocks, force| Command::Format { blocks, force, cut: None };
         assert_eq!(command_of("format"), format(None, false));
         assert_eq!(command_of("format --blocks 8 --force"), format(Some(8), true));
         assert_eq!(command_of("commit"), Command::Call(Call::Commit, None));
-        assert_eq!(command_of("mount"), Command::Call(Call::Mount, None));
+        assert_eq!(command_of("mount"), Command::Mount(None));
+        assert_eq!(command_of("mount --cut 0,30"), Command::Mount(cut));
         let wipe = Call::Wipe { file: 0, offset: 1 };
         assert_eq!(command_of("wipe 0 1"), Command::Call(wipe, None));
         let cut_off = Call::CutOff { file: 0, offset: 1 };
@@ -387,13 +452,29 @@ mod tests {
     fn calls_that_only_look() {
         assert_eq!(command_of("read 1 2"), Command::Read { file: 1, offset: 2, raw: false });
         assert_eq!(command_of("read 1 2 --raw"), Command::Read { file: 1, offset: 2, raw: true });
-        assert_eq!(command_of("list"), Command::List);
-        assert_eq!(command_of("check"), Command::Check);
+        assert_eq!(command_of("list"), Command::List(false));
+        assert_eq!(command_of("check --json"), Command::Check(true));
+        assert_eq!(command_of("export 3 --text"), Command::Export { file: 3, text: true });
+        assert_eq!(command_of("import 3"), Command::Import { file: 3, text: false });
         assert_eq!(command_of("demo"), Command::Demo);
         assert_eq!(command_of("map"), Command::Map(MapOptions::default()));
         let before_after = Some(("a".into(), "b".into()));
         let options = MapOptions { svg: Some("o.svg".into()), before_after };
         assert_eq!(command_of("map --before a --after b --svg o.svg"), Command::Map(options));
+    }
+
+    #[test]
+    fn a_handover_with_its_words() {
+        assert_eq!(command_of("handover"), Command::Handover(Handover::default()));
+        let line = "handover --keep 3,13 --report out.txt --json --force";
+        let (keep, report) = (vec![3, 13], Some("out.txt".into()));
+        let handover = Handover { keep, report, json: true, force: true };
+        assert_eq!(command_of(line), Command::Handover(handover));
+        assert_eq!(usage("handover 0"), "handover takes no \"0\"");
+        let text = "a file of --keep is a number in decimal digits and not ";
+        assert_eq!(usage("handover --keep 1,x"), format!("{text}\"x\""));
+        assert_eq!(usage("handover --keep="), format!("{text}\"\""));
+        assert_eq!(usage("handover --report="), "--report needs the name of a file");
     }
 
     #[test]
@@ -413,6 +494,10 @@ mod tests {
         }
         for line in ["write --help", "write -h", "help write", "write 1 --help"] {
             assert_eq!(command_of(line), Command::Help(Topic::Write), "{line}");
+        }
+        assert_eq!(command_of("help --man"), Command::Man);
+        for line in ["--version", "-V", "version"] {
+            assert_eq!(command_of(line), Command::Version, "{line}");
         }
     }
 

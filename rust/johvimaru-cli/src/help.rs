@@ -19,6 +19,12 @@ pub enum Topic {
     Commit,
     /// `wipe`.
     Wipe,
+    /// `handover`.
+    Handover,
+    /// `export`.
+    Export,
+    /// `import`.
+    Import,
     /// `list`.
     List,
     /// `check`.
@@ -27,11 +33,13 @@ pub enum Topic {
     Map,
     /// `demo`.
     Demo,
+    /// `version`.
+    Version,
 }
 
 impl Topic {
     /// All topics.
-    pub const ALL: [Topic; 12] = [
+    pub const ALL: [Topic; 16] = [
         Topic::Johvimaru,
         Topic::Format,
         Topic::Mount,
@@ -40,10 +48,14 @@ impl Topic {
         Topic::CutOff,
         Topic::Commit,
         Topic::Wipe,
+        Topic::Handover,
+        Topic::Export,
+        Topic::Import,
         Topic::List,
         Topic::Check,
         Topic::Map,
         Topic::Demo,
+        Topic::Version,
     ];
 
     /// Its name among the words of the command.
@@ -57,10 +69,14 @@ impl Topic {
             Topic::CutOff => "cut-off",
             Topic::Commit => "commit",
             Topic::Wipe => "wipe",
+            Topic::Handover => "handover",
+            Topic::Export => "export",
+            Topic::Import => "import",
             Topic::List => "list",
             Topic::Check => "check",
             Topic::Map => "map",
             Topic::Demo => "demo",
+            Topic::Version => "version",
         }
     }
 
@@ -81,10 +97,14 @@ pub fn text(topic: Topic) -> &'static str {
         Topic::CutOff => CUT_OFF,
         Topic::Commit => COMMIT,
         Topic::Wipe => WIPE,
+        Topic::Handover => HANDOVER,
+        Topic::Export => EXPORT,
+        Topic::Import => IMPORT,
         Topic::List => LIST,
         Topic::Check => CHECK,
         Topic::Map => MAP,
         Topic::Demo => DEMO,
+        Topic::Version => VERSION,
     }
 }
 
@@ -100,16 +120,22 @@ johvimaru: a flash page store that forgets, on an image file
   cut-off FILE OFFSET          remove the nodes of a file from an offset on
   commit                       replace the keys that no node has
   wipe FILE OFFSET             cut off and commit: it cannot be read again
+  handover [--keep FILE,..]    clear all files for the next owner, with a report
+  export FILE                  print the nodes of a file, a line each
+  import FILE                  write the nodes of such lines
   list                         the nodes with their pages and keys, in columns
   check                        what is there, in words
   map                          a picture of blocks, pages and keys
   demo                         a handover with power cuts, from beginning to end
+  version                      the version of this command
   help WHAT                    more on one of these
 
 The image file is recorder.img in the working folder, or the one that --image
-names. It is made on first use, as an empty store of 32 blocks. Each call but
+names. Only format makes it, and write, where there is none. Each call but
 format mounts it first, as a recorder does when its power comes on. The file
-is replaced as a whole, so it is never half of one thing and half of another.
+is changed in place, step by step, each step on the disk before the next: a
+command that is stopped leaves what a power failure leaves, and the next call
+mounts it. read, export, list, check and map change nothing.
 
 Files are 0 to 13. Files 0 and 1 have 32 offsets, 2 and 3 have 24, 4 to 7 have
 16, 8 to 13 have 8.
@@ -118,8 +144,10 @@ Files are 0 to 13. Files 0 and 1 have 32 offsets, 2 and 3 have 24, 4 to 7 have
 whole steps and k bytes of one more. A step programs a page of 256 bytes or
 erases a block of 4,096.
 
-The exit status is 0; or 1 where a call is refused, with the refusal's number;
-or 2 where the words of the command are not understood.
+The exit status is 0 where it is done; 1 where a call is refused, with the
+refusal's number; 2 where the words of the command are not understood; 3 where
+the file or the system does not allow it; 4 where check or handover finds that
+something is left.
 ";
 
 const FORMAT: &str = "\
@@ -129,8 +157,8 @@ Makes an empty store of N blocks, 8 to 256; all that was on the image is gone.
 Without --blocks an image that is there keeps its size, and a new one has 32.
 The keys come from the system's randomness.
 
-A file that is there and cannot be mounted is left alone, unless all its
-blocks are empty or --force is given.
+A file in which any byte is not FFh is left alone, and what stands in it is
+told, unless --force is given.
 
 It has a step for each block, which erases it, and 42 more.
 ";
@@ -159,7 +187,8 @@ const READ: &str = "\
 johvimaru read FILE OFFSET [--raw] [--image FILE]
 
 Prints the payload without the spaces at its end, and ends the line. With
---raw the 224 bytes are printed as they are.
+--raw the 224 bytes are printed as they are. It mounts a copy, and leaves the
+image as it is.
 ";
 
 const CUT_OFF: &str = "\
@@ -186,21 +215,58 @@ step has ended it has removed nothing. Cut later it has removed the nodes, but
 some of their keys may still be there: wipe again.
 ";
 
+const HANDOVER: &str = "\
+johvimaru handover [--keep FILE,..] [--report OUT] [--json] [--force]
+                   [--image FILE]
+
+Clears a recorder for its next owner: wipes every file that has a node, but
+not the kept ones, or commits where none has. Then it reads the image anew and
+reports: what was there by file, what is left, the hashes of the image before
+and after, for each key that was there before whether a copy of it is left at
+any byte, and what a reader of the chip can still learn. No content is told.
+The last line says whether the recorder may be handed over; where it may not,
+the exit status is 4, or 1 where a call was refused.
+
+With --report the report goes to a file that is not yet there. With --json it
+is JSON. An image that mount refuses, or whose epochs are spent, cannot be
+cleared so; with --force it is formatted, and nothing of it can be kept.
+
+A handover that was stopped is made again from the start, and ends the same.
+";
+
+const EXPORT: &str = "\
+johvimaru export FILE [--text] [--image FILE]
+
+Prints a line for each node of a file: its offset, a tab, and its payload in
+hexadecimal digits. With --text the payload is printed as text, without the
+spaces at its end; a tab, an end of line, a backslash and what is no text are
+printed as \\t, \\n, \\r, \\\\ and \\x with two digits. The image is left as it is.
+";
+
+const IMPORT: &str = "\
+johvimaru import FILE [--text] [--image FILE]
+
+Writes the nodes of such lines, read from standard input, into a file. All
+lines are tested first, and whether there are keys and pages for all of them:
+where one is wrong nothing is written. Nodes at other offsets stay.
+";
+
 const LIST: &str = "\
-johvimaru list [--image FILE]
+johvimaru list [--json] [--image FILE]
 
 Prints a line for each node: file, offset, page and key position in 4, 4, 6
 and 6 columns. Then how many keys are used, free and deleted, 6 columns each.
 It mounts a copy, and leaves the file as it is. Where the mount is refused it
-prints the number in 6 columns.
+prints the number in 6 columns. With --json all of it is JSON.
 ";
 
 const CHECK: &str = "\
-johvimaru check [--image FILE]
+johvimaru check [--json] [--image FILE]
 
 Mounts a copy and says what is there: the nodes of each file, how many keys
 are used, free and deleted, the next numbers, the pages that writes can still
 take, and the blocks that a mount would erase. It leaves the file as it is.
+The exit status is 4 where keys are deleted or blocks would be erased.
 ";
 
 const MAP: &str = "\
@@ -223,6 +289,12 @@ Plays a handover on an image in memory: one firm's draughts and track are
 written, one is overwritten, the power fails in a write and in a wipe, and
 after each step it says what has changed. At the end it looks for the old keys
 in every byte of the image, and draws it before and after.
+";
+
+const VERSION: &str = "\
+johvimaru version
+
+Prints the version of the command, as --version does.
 ";
 
 #[cfg(test)]

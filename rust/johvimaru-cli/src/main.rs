@@ -4,13 +4,14 @@ mod args;
 mod calls;
 mod check;
 mod demo;
+mod handover;
 mod help;
 mod image_file;
-#[allow(dead_code)]
 mod json;
 mod listing;
+mod man;
+mod nodes;
 mod picture;
-#[allow(dead_code)]
 #[path = "../../sha256.rs"]
 mod sha256;
 
@@ -28,6 +29,8 @@ pub enum Problem {
     Refused(Refusal),
     /// A call was refused for this file.
     RefusedFile(String, Refusal),
+    /// A call was refused, for the reason in these words.
+    Explained(Refusal, String),
     /// Something is left that a handover must not leave, in words.
     Leftovers(String),
     /// The file or the system, in words.
@@ -38,7 +41,7 @@ impl Problem {
     /// The exit status that tells of it.
     fn status(&self) -> u8 {
         match self {
-            Problem::Refused(_) | Problem::RefusedFile(..) => 1,
+            Problem::Refused(_) | Problem::RefusedFile(..) | Problem::Explained(..) => 1,
             Problem::System(_) => 3,
             Problem::Leftovers(_) => 4,
         }
@@ -51,6 +54,9 @@ impl fmt::Display for Problem {
             Problem::Refused(refusal) => write!(f, "refused {}: {refusal}", refusal.number()),
             Problem::RefusedFile(file, refusal) => {
                 write!(f, "{file}: refused {}: {refusal}", refusal.number())
+            }
+            Problem::Explained(refusal, words) => {
+                write!(f, "refused {}: {words}", refusal.number())
             }
             Problem::Leftovers(words) | Problem::System(words) => f.write_str(words),
         }
@@ -107,10 +113,17 @@ fn run(request: Request, out: &mut dyn Write) -> Result<(), Problem> {
     let Request { image, command } = request;
     match command {
         Command::Help(topic) => Ok(out.write_all(help::text(topic).as_bytes())?),
+        Command::Man => Ok(out.write_all(man::page().as_bytes())?),
+        Command::Version => Ok(writeln!(out, "johvimaru {}", env!("CARGO_PKG_VERSION"))?),
+        Command::Format { blocks, force, cut } => calls::format(&image, blocks, force, cut, out),
+        Command::Mount(cut) => calls::mount(&image, cut, out),
         Command::Call(call, cut) => calls::run(&image, call, cut, out),
-        Command::Read { file, offset, raw } => calls::read(&image, file, offset, raw, out),
-        Command::List => listing::run(&image, out),
-        Command::Check => check::run(&image, out),
+        Command::Read { file, offset, raw } => nodes::read(&image, file, offset, raw, out),
+        Command::Export { file, text } => nodes::export(&image, file, text, out),
+        Command::Import { file, text } => nodes::import(&image, file, text, out),
+        Command::Handover(options) => handover::run(&image, &options, out),
+        Command::List(json) => listing::run(&image, json, out),
+        Command::Check(json) => check::run(&image, json, out),
         Command::Map(options) => picture::run(&image, &options, out),
         Command::Demo => demo::run(out),
     }

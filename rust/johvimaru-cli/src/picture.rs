@@ -52,7 +52,10 @@ pub fn run(path: &Path, options: &MapOptions, out: &mut dyn Write) -> Result<(),
     let drawn = match &options.before_after {
         None => vec![Drawn::of(path, image_file::look(path)?)],
         Some((before, after)) => {
-            vec![Drawn::of(before, there(before)?), Drawn::of(after, there(after)?)]
+            vec![
+                Drawn::of(before, image_file::look(before)?),
+                Drawn::of(after, image_file::look(after)?),
+            ]
         }
     };
     let shown: Vec<Shown> = drawn.iter().map(Drawn::shown).collect();
@@ -62,12 +65,6 @@ pub fn run(path: &Path, options: &MapOptions, out: &mut dyn Write) -> Result<(),
     }
     let refused = drawn.iter().find_map(|one| Some((one.path, *one.mounted.as_ref().err()?)));
     refused.map_or(Ok(()), |(path, refusal)| Err(image_file::refused(path, refusal)))
-}
-
-/// The image of a file that must be there.
-fn there(path: &Path) -> Result<Vec<u8>, Problem> {
-    let none = || Problem::System(format!("{} is not there", path.display()));
-    image_file::load(path)?.ok_or_else(none)
 }
 
 /// Writes the SVG file, over no image that is drawn.

@@ -254,9 +254,7 @@ fn make<C: Chip>(
 pub fn told<E: std::fmt::Display>(failure: Failure<CutError<E>>) -> Problem {
     match failure {
         Failure::Refused(refusal) => Problem::Refused(refusal),
-        Failure::Chip(CutError::Chip(error)) => {
-            Problem::System(format!("the chip failed: {error}"))
-        }
+        Failure::Chip(CutError::Chip(error)) => Problem::System(format!("the image file: {error}")),
         other => Problem::System(other.to_string()),
     }
 }

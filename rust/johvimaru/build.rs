@@ -7,8 +7,6 @@
 use std::env;
 use std::fs::{self, File, OpenOptions};
 use std::io::{self, BufRead, BufReader, IsTerminal, Write};
-use std::os::unix::fs::FileTypeExt;
-use std::os::unix::process::parent_id;
 use std::path::{Path, PathBuf};
 use std::process::{Command, Stdio};
 
@@ -77,8 +75,8 @@ fn test_target() -> Result<(), String> {
     match target.as_str() {
         "x86_64 linux" => Ok(()),
         _ => Err(format!(
-            "the static library is built for x86_64 linux, not for {target}; if you have one for it, \
-             set {FOLDER} to its folder"
+            "the static library is built for x86_64 linux, not for {target}; if you have one for \
+             it, set {FOLDER} to its folder"
         )),
     }
 }
@@ -114,26 +112,27 @@ fn lock(folder: &Path) -> io::Result<File> {
 
 /// Has the library built at the top of the repository, and shows what `rt` says.
 fn build(top: &Path, why: &str) -> Result<(), String> {
-    let mut shown = cargo_output();
     let minutes = (CRATES.iter().map(|(_, seconds)| seconds).sum::<u32>() + 30) / 60;
-    let start = format!("johvimaru: {why}: rt builds it, which takes some {minutes} minutes");
-    say(&mut shown, &then(&start, 0));
-    match run_rt(top, &mut shown) {
+    let (first, seconds) = CRATES[0];
+    let how_long = format!("some {minutes} minutes on two cores; first {first}, some {seconds} s");
+    let start = format!("johvimaru: {why}: rt proves and builds it anew, {how_long}");
+    match run_rt(top, &start) {
         Ok((true, _)) => Ok(()),
         Ok((false, last)) => {
             Err(format!("{why}, and `rt staticlib recorder` failed; it said last: {last}"))
         }
         Err(error) if error.kind() == io::ErrorKind::NotFound => Err(format!(
             "{why}, and the program `rt`, which builds it anew, is not here: install the Rattle \
-             toolchain, or bring crates and {KEPT} back to what the repository has, or set {FOLDER} \
-             to a folder that has the library"
+             toolchain, or bring crates and {KEPT} back to what the repository has, or set \
+             {FOLDER} to a folder that has the library"
         )),
         Err(error) => Err(format!("{why}, and `rt` cannot be run: {error}")),
     }
 }
 
-/// Runs `rt staticlib recorder` and shows its own lines. Tells whether it ended well, and its last line.
-fn run_rt(top: &Path, shown: &mut Option<File>) -> io::Result<(bool, String)> {
+/// Runs `rt staticlib recorder`, and shows this line and its own ones. Tells whether it ended well, and what
+/// it said last.
+fn run_rt(top: &Path, start: &str) -> io::Result<(bool, String)> {
     let (lines, end) = io::pipe()?;
     let mut command = Command::new("rt");
     command.args(["staticlib", "recorder"]).current_dir(top).stdin(Stdio::null());
@@ -141,11 +140,13 @@ fn run_rt(top: &Path, shown: &mut Option<File>) -> io::Result<(bool, String)> {
     let mut rt = command.spawn()?;
     // The command has the pipe's end, without which the lines would not end.
     drop(command);
-    let mut last = String::new();
+    let mut shown = cargo_output();
+    say(&mut shown, start);
+    let mut last = "nothing".to_string();
     for line in BufReader::new(lines).split(b'\n') {
         let line = String::from_utf8_lossy(&line?).into_owned();
         if line.starts_with("rt: ") {
-            say(shown, &after(&line));
+            say(&mut shown, &after(&line));
         }
         if !line.trim().is_empty() {
             last = line;
@@ -172,10 +173,12 @@ fn describe(top: &Path, folder: &Path, sources: &Sources) -> Result<(), String> 
 /// Where cargo writes its own lines, if that is a terminal or a pipe: what a build script writes to its
 /// own output is kept until it has failed.
 fn cargo_output() -> Option<File> {
-    let path = format!("/proc/{}/fd/2", parent_id());
-    let kind = fs::metadata(&path).ok()?.file_type();
+    let status = fs::read_to_string("/proc/self/status").ok()?;
+    let cargo = status.lines().find_map(|line| line.strip_prefix("PPid:"))?.trim();
+    let path = PathBuf::from(format!("/proc/{cargo}/fd/2"));
     let file = OpenOptions::new().write(true).open(&path).ok()?;
-    (file.is_terminal() || kind.is_fifo()).then_some(file)
+    let is_pipe = fs::read_link(&path).ok()?.to_string_lossy().starts_with("pipe:");
+    (file.is_terminal() || is_pipe).then_some(file)
 }
 
 /// Writes a line there. On a terminal it takes the place of the bar that cargo draws.
@@ -187,17 +190,12 @@ fn say(shown: &mut Option<File>, line: &str) {
     }
 }
 
-/// A line of `rt`, with what comes next where a crate is proved.
+/// A line of `rt`, and what comes next where it says that a crate is proved.
 fn after(line: &str) -> String {
     let name = line.strip_prefix("rt: ").and_then(|line| line.split_once(" proved"));
     let at = name.and_then(|(name, _)| CRATES.iter().position(|(other, _)| *other == name));
-    at.map_or(line.to_string(), |at| then(line, at + 1))
-}
-
-/// A line, with the name and time of the crate at this index.
-fn then(line: &str, at: usize) -> String {
-    match CRATES.get(at) {
-        Some((name, seconds)) => format!("{line}; next {name}, some {seconds} s"),
+    match at.and_then(|at| CRATES.get(at + 1)) {
+        Some((next, seconds)) => format!("{line}; next {next}, some {seconds} s"),
         None => line.to_string(),
     }
 }

@@ -35,7 +35,7 @@ fi
 
 of=$(sed -n 's/^toolchain //p' "$kept/librecorder.txt")
 if [ "$of" != "$version" ]; then
-    say "rt is $version and the kept archive is of $of: they are not compared"
+    say "rt is $version and the kept archive is of $of: not compared; the tests use the one just built"
     exit
 fi
 for file in "$built/librecorder.a" "$work/librecorder.txt"; do

@@ -90,6 +90,19 @@ impl Repository {
         fs::write(path, content).expect("it can be written");
     }
 
+    /// Copies files of the repository that this test is in.
+    fn copy(&self, names: &[&str]) {
+        for name in names {
+            self.put(name, &fs::read_to_string(here().join(name)).expect("it is there"));
+        }
+    }
+
+    /// The programs of this machine, with those of the repository before them.
+    fn programs(&self) -> String {
+        let programs = std::env::var("PATH").expect("cargo runs with one");
+        format!("{}:{programs}", self.path("programs").display())
+    }
+
     /// Puts a script in the place of `rt`.
     fn put_rt(&self, rest: &str) {
         self.put("programs/rt", &(RT.to_string() + rest));
@@ -294,20 +307,17 @@ fn other_machines_are_told_so() {
 #[test]
 fn cargo_notices_a_changed_source() {
     let repository = Repository::new("cargo");
-    for path in ["rust/johvimaru/build.rs", "rust/sha256.rs", "tools/archive.rs"] {
-        repository.put(path, &fs::read_to_string(here().join(path)).expect("it is there"));
-    }
+    repository.copy(&["rust/johvimaru/build.rs", "rust/sha256.rs", "tools/archive.rs"]);
     let manifest = "[package]\nname = \"johvimaru\"\nedition = \"2021\"\nlinks = \"recorder\"\n\
                     [workspace]\n";
     repository.put("rust/johvimaru/Cargo.toml", manifest);
     repository.put("rust/johvimaru/src/lib.rs", "");
     repository.put_rt(FAILS);
-    let programs = std::env::var("PATH").expect("cargo runs with one");
     let check = || {
         let mut cargo = Command::new(std::env::var_os("CARGO").unwrap_or("cargo".into()));
         cargo.args(["check", "--offline", "--target-dir"]).arg(repository.path("out"));
         cargo.current_dir(repository.path("rust/johvimaru")).env_remove("JOHVIMARU_LIB_DIR");
-        cargo.env("PATH", format!("{}:{programs}", repository.path("programs").display()));
+        cargo.env("PATH", repository.programs());
         let run = cargo.output().expect("cargo runs");
         (run.status.success(), String::from_utf8(run.stderr).expect("it is text"))
     };
@@ -320,6 +330,39 @@ fn cargo_notices_a_changed_source() {
     repository.put(SOURCES[0], SOURCES[0]);
     let (right, said) = check();
     assert!(right, "{said}");
+}
+
+/// The gate's comparison of the kept archive with the one that `rt` has built.
+#[test]
+fn the_kept_archive_must_be_what_rt_builds() {
+    let repository = Repository::new("compared");
+    let tools = ["tools/keep-archive.sh", "tools/describe_archive.rs", "tools/archive.rs"];
+    repository.copy(&tools);
+    repository.copy(&["rust/sha256.rs"]);
+    repository.put_rt(BUILDS);
+    let keep = |words: &[&str]| {
+        let mut shell = Command::new("sh");
+        shell.arg(repository.path("tools/keep-archive.sh")).args(words);
+        let run = shell.env("PATH", repository.programs()).output().expect("it runs");
+        let said = String::from_utf8([run.stdout, run.stderr].concat()).expect("it is text");
+        (run.status.code(), said)
+    };
+    let assert_checked = |status, words: &str| {
+        let (code, said) = keep(&["--check"]);
+        assert_eq!(code, Some(status), "{said}");
+        assert!(said.contains(words), "{said}");
+    };
+    repository.put("target/staticlib/librecorder.a", SOURCES[0]);
+    assert_checked(1, "run tools/keep-archive.sh");
+    assert_eq!(keep(&[]).0, Some(0));
+    assert_eq!(repository.linked(), Ok(SOURCES[0].into()), "what was kept now is linked");
+    assert_checked(0, "byte for byte");
+    repository.put(SOURCES[3], "changed, without a change of the archive");
+    assert_checked(1, "run tools/keep-archive.sh");
+    let text = fs::read_to_string(repository.path("lib/x86_64/librecorder.txt"));
+    let other = text.expect("it is there").replace("test 1", "test 2");
+    repository.put("lib/x86_64/librecorder.txt", &other);
+    assert_checked(0, "rt is test 1 and the kept archive is of test 2");
 }
 
 /// The command in the comment of tools/archive.rs gives the same SHA-256, here.

@@ -13,7 +13,7 @@ use std::process::{Command, Stdio};
 #[path = "../../tools/archive.rs"]
 mod archive;
 
-use archive::{Sources, ARCHIVE, TEXT};
+use archive::{take, Sources, ARCHIVE, TEXT};
 
 const FOLDER: &str = "JOHVIMARU_LIB_DIR";
 /// The folder of the kept archive, and the one that `rt` writes to.
@@ -44,10 +44,14 @@ fn folder() -> Result<PathBuf, String> {
     let top = Path::new(&env::var_os("CARGO_MANIFEST_DIR").expect("cargo sets it")).join("../..");
     let top = top.canonicalize().map_err(|error| format!("{}: {error}", top.display()))?;
     let sources = Sources::of(&top)?;
-    for path in &sources.paths {
+    let kept = top.join(KEPT);
+    // A file that is not there would count as changed each time.
+    let files =
+        [ARCHIVE, TEXT].map(|name| kept.join(name)).into_iter().filter(|file| file.exists());
+    for path in sources.paths.iter().cloned().chain(files) {
         println!("cargo::rerun-if-changed={}", path.display());
     }
-    let archive = take(&top.join(KEPT), &sources).or_else(|why| built(&top, &sources, &why))?;
+    let archive = take(&kept, &sources).or_else(|why| built(&top, &sources, &why))?;
     // What is linked is what was looked at, whatever becomes of the file that it was read from.
     let folder = PathBuf::from(env::var_os("OUT_DIR").expect("cargo sets it"));
     match fs::write(folder.join(ARCHIVE), archive) {
@@ -79,16 +83,6 @@ fn test_target() -> Result<(), String> {
              it, set {FOLDER} to its folder"
         )),
     }
-}
-
-/// The archive in a folder, if it was built from these sources, or why it cannot be taken.
-fn take(folder: &Path, sources: &Sources) -> Result<Vec<u8>, String> {
-    for path in [ARCHIVE, TEXT].map(|name| folder.join(name)) {
-        if path.exists() {
-            println!("cargo::rerun-if-changed={}", path.display());
-        }
-    }
-    archive::take(folder, sources)
 }
 
 /// The archive that `rt` has built, or builds now, since the kept one cannot be taken.

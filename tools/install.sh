@@ -46,12 +46,10 @@ version=$(sed -n 's/^#define JOHVIMARU_VERSION //p' include/johvimaru.h)
 escaped=$(printf '%s\n' "$prefix" | sed 's/[&|\]/\\&/g')
 sed -e "s|@PREFIX@|$escaped|" -e "s|@VERSION@|$version|" tools/johvimaru.pc.in >"$work/johvimaru.pc"
 
+"$program" help --man >"$work/johvimaru.1"
+
 put 644 "$work/libjohvimaru.a" lib/libjohvimaru.a
 put 644 "$work/johvimaru.pc" lib/pkgconfig/johvimaru.pc
 put 644 include/johvimaru.h include/johvimaru.h
 put 755 "$program" bin/johvimaru
-if "$program" help --man >"$work/johvimaru.1" 2>/dev/null; then
-    put 644 "$work/johvimaru.1" share/man/man1/johvimaru.1
-else
-    say "no manual page: the command does not know \`help --man\`"
-fi
+put 644 "$work/johvimaru.1" share/man/man1/johvimaru.1

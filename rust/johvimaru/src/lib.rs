@@ -64,9 +64,10 @@
 //!
 //! # The static library
 //!
-//! The build takes `librecorder.a` from the folder that the variable `JOHVIMARU_LIB_DIR` names, or from
-//! `target/staticlib` of the repository. If it is not there, `rt staticlib recorder` makes it, and
-//! without the program `rt` the build ends and says so. The library is for x86-64 with ELF objects. It
+//! The build takes `librecorder.a` from the folder that the variable `JOHVIMARU_LIB_DIR` names. Where none is
+//! named it is the proved archive that the repository keeps, if it was built from the very sources at hand;
+//! else `rt staticlib recorder` proves and builds it, in some minutes, and without the program `rt` the build
+//! ends and says so. The library is for x86-64 with ELF objects. It
 //! needs `memcpy` and `memset`, and nothing else.
 
 #![no_std]

@@ -7,7 +7,7 @@ use mathlib.Core.Path.{_≡_, refl, sym, ap, subst, _∙_}
 use mathlib.Core.Logic.{_⊎_, inl, inr}
 use mathlib.Core.Bool.{Bool, true, false, cond, not, _&&_}
 use mathlib.Core.List.{List, [], _∷_, _++_}
-use mathlib.Core.Option.{Option, none}
+use mathlib.Core.Option.{Option, none, some}
 use lib.Dec.{T, eqb}
 use lib.ListN.{length, getD, drop, length-replicate, getD-replicate, drop-of-length-le}
 use lib.Seq.{take-nil, ext-getD}
@@ -267,7 +267,15 @@ handover-same x y long noise numbers = (
   handover-empty x .cleared ∙ ap (withNumbers formatted) numbers ∙ sym (handover-empty y .cleared),
 )
 
--- ---- how a handover comes about: a list without a write in which each file is wiped whole and done, and which ends with a commit or wipe that is done. What
+-- ---- how a handover comes about: the record that a commit or wipe leaves, which a device can look at, has no live place
+pub no-live-place : (x : Purge) → ((y : ℕ) → y < places → live (afterPurge x .store .map) y ≡ false) → Handover
+no-live-place x dead = record { purge = x; bare = λ y l. unfilled y l (afterPurge x .book .content y) (at-end (afterPurge x) (purge-history x) (purge-on x) .mapped y l) }
+  where
+    unfilled : (y : ℕ) → y < places → (c : Option Holding) → MapHas (afterPurge x .store .map) y c → c ≡ none
+    unfilled y l none q = refl
+    unfilled y l (some h) q = absurd (let t = q .0 in let z = dead y l in rw z at t)
+
+-- ---- and without looking: a list without a write in which each file is wiped whole and done, and which ends with a commit or wipe that is done. What
 -- is cut between them, how often it is mounted and what else is called has no part in it
 abbrev pub isWrite : Call → Bool
 isWrite (mount map letters scratch) = false

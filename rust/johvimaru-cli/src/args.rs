@@ -43,6 +43,15 @@ pub enum Command {
     Map(MapOptions),
     /// Play a handover.
     Demo,
+    /// Say what has changed between two images.
+    Diff {
+        /// The older image file.
+        old: PathBuf,
+        /// The newer one.
+        new: PathBuf,
+        /// As JSON.
+        json: bool,
+    },
 }
 
 /// A call that changes the flash.
@@ -133,6 +142,7 @@ impl Shape {
             Topic::Read => (at, 2, &[], &["--raw"]),
             Topic::CutOff | Topic::Wipe => (at, 2, &["--cut"], &[]),
             Topic::Map => (&[], 0, &["--svg", "--before", "--after"], &[]),
+            Topic::Diff => (&["OLD", "NEW"], 2, &[], &["--json"]),
         };
         Shape { topic, words, needed, values, flags }
     }
@@ -303,6 +313,7 @@ fn command(shape: &Shape, words: &Words) -> Result<Command, Usage> {
         Topic::Check => return Ok(Command::Check),
         Topic::Demo => return Ok(Command::Demo),
         Topic::Map => return Ok(Command::Map(map_options(words)?)),
+        Topic::Diff => return diff(words),
         Topic::Read => {
             let (file, offset) = at()?;
             return Ok(Command::Read { file, offset, raw: words.has("--raw") });
@@ -339,6 +350,14 @@ fn map_options(words: &Words) -> Result<MapOptions, Usage> {
         return wrong("--svg takes the name of a file that ends in .svg");
     }
     Ok(MapOptions { svg, before_after })
+}
+
+fn diff(words: &Words) -> Result<Command, Usage> {
+    if words.value(IMAGE_OPTION).is_some() {
+        return wrong("diff takes OLD and NEW, and no --image");
+    }
+    let [old, new] = [0, 1].map(|at| PathBuf::from(&words.plain[at]));
+    Ok(Command::Diff { old, new, json: words.has("--json") })
 }
 
 #[cfg(test)]
@@ -447,5 +466,15 @@ mod tests {
         assert_eq!(usage("commit --cut 1,2 --cut 1,2"), "--cut is given twice");
         assert_eq!(usage("format --force=yes"), "--force takes no value");
         assert_eq!(usage("map --before a"), "map takes --before and --after together");
+    }
+
+    #[test]
+    fn two_images_to_compare() {
+        let diff = |json| Command::Diff { old: "a".into(), new: "b".into(), json };
+        assert_eq!(command_of("diff a b"), diff(false));
+        assert_eq!(command_of("diff --json a b"), diff(true));
+        assert_eq!(usage("diff a"), "diff needs NEW");
+        assert_eq!(usage("diff a b c"), "diff takes no \"c\"");
+        assert_eq!(usage("diff a b --image c"), "diff takes OLD and NEW, and no --image");
     }
 }

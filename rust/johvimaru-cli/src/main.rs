@@ -2,14 +2,17 @@
 
 mod args;
 mod calls;
+mod changes;
 mod check;
 mod demo;
+mod diff;
 mod help;
 mod image_file;
 #[allow(dead_code)]
 mod json;
 mod listing;
 mod picture;
+mod seen;
 #[allow(dead_code)]
 #[path = "../../sha256.rs"]
 mod sha256;
@@ -113,5 +116,6 @@ fn run(request: Request, out: &mut dyn Write) -> Result<(), Problem> {
         Command::Check => check::run(&image, out),
         Command::Map(options) => picture::run(&image, &options, out),
         Command::Demo => demo::run(out),
+        Command::Diff { old, new, json } => diff::run(&old, &new, json, out),
     }
 }

@@ -1,6 +1,7 @@
 //! A handover, played on a chip in memory.
 
 use crate::picture::{self, Shown};
+use crate::seen::Seen;
 use crate::Problem;
 use johvimaru::{
     payload, Cut, CutChip, CutError, Driver, Failure, File, MemoryChip, Misuse, Noise, Offset,
@@ -36,12 +37,6 @@ type Device = Driver<CutChip<MemoryChip>>;
 struct Noted {
     position: usize,
     bytes: [u8; KEY],
-}
-
-/// The image and record at one time, for the picture.
-struct Seen {
-    image: Vec<u8>,
-    record: Record,
 }
 
 /// Plays the handover.
@@ -182,13 +177,10 @@ impl Play<'_> {
     }
 
     fn pictures(&mut self, before: &Seen, after: &Seen) -> Result<(), Problem> {
-        let shown = [("before the wipe", before), ("after it", after)].map(|(title, seen)| Shown {
-            title,
-            image: &seen.image,
-            record: Ok(&seen.record),
-        });
+        let shown = [("before the wipe", before), ("after it", after)]
+            .map(|(title, seen)| Shown { title: title.into(), seen });
         writeln!(self.out)?;
-        self.out.write_all(picture::text(&shown, picture::colours()).as_bytes())?;
+        self.out.write_all(picture::text(&shown).as_bytes())?;
         Ok(())
     }
 
@@ -217,7 +209,7 @@ impl Play<'_> {
     }
 
     fn seen(&self) -> Seen {
-        Seen { image: self.device.mirror().to_vec(), record: self.record() }
+        Seen::of(self.device.mirror().to_vec())
     }
 
     /// The power comes on, and the device mounts.

@@ -33,7 +33,7 @@ pub struct Side {
     pub told: Result<Told, Refusal>,
 }
 
-/// What a record tells beside its nodes.
+/// What a record tells of an image, in numbers.
 #[derive(Clone, Copy, Debug, PartialEq, Eq)]
 pub struct Told {
     /// How many nodes are live.

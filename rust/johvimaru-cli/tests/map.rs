@@ -86,8 +86,8 @@ since then: 446 of 448 keys replaced; of 4 used or deleted keys, 2 are left,
   of live nodes; no block erased; 1 node gone
 
 K0 key block 0  K1 key block 1  C0 to C9 commit  0 to 13 live node, by file
--0 to -9, -p to -s node gone since  x dead node  . empty  f free key  u used
-d deleted  F U D the same, replaced since
+-0 to -9 node gone since  -p to -s of files 10 to 13  x dead node  . empty
+f free key  u used  d deleted  F U D the same, replaced since
 ";
     assert_eq!(folder.done("map --before before.img --after recorder.img"), drawn);
 }
@@ -106,13 +106,15 @@ fn marks_of_all_that_is_wiped() {
         "   0 DUUUFFFFFFFFFFFFFFFFFFFFFFFF         0 to 447: all F",
         "since then: all 448 keys replaced; of 4 used or deleted keys, none is left;",
         "  block 3 erased; 3 nodes gone",
-        "d deleted  F U D the same, replaced since  * block erased since",
     ] {
         assert!(all.lines().any(|drawn| drawn == line), "{line}\n{all}");
     }
+    for entry in ["-0 to -9 node gone", "F U D the same, replaced", "* block erased"] {
+        assert!(all.contains(&format!("{entry} since")), "{entry}\n{all}");
+    }
     let same = folder.done("map --before before.img --after before.img");
     assert!(same.contains("no key replaced; of 4 used or deleted keys, 4 are left, 3 of"));
-    for mark in ["*", "F", "-0", "since  "] {
+    for mark in ["*", "F", "-0"] {
         assert!(!same.contains(mark), "{mark}\n{same}");
     }
 }
@@ -490,7 +492,7 @@ fn parts_beside_each_other_or_below() {
     // Small cells where not even one picture has room.
     let small = in_columns(&folder, "map", 36);
     assert!(small.lines().any(|line| line == "   2 CCCCCCCCCC......"), "{small}");
-    assert!(small.contains("0 to 9, p to s live node, by file"), "{small}");
+    assert!(small.contains("0 to 9 live node, by file"), "{small}");
 }
 
 /// Names with signs of XML in them are spelt; those that no text can have are left out.

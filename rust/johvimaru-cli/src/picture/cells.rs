@@ -8,6 +8,9 @@ use johvimaru::{Form, Header, Letter, Record, FILES, PAGES_IN_BLOCK};
 pub const FOLD: usize = 3;
 /// Keys in a key page.
 pub const KEYS_IN_PAGE: usize = 14;
+/// What stands above the rows of blocks, and above the keys.
+pub const BLOCKS_TITLE: &str = "blocks and their pages";
+pub const KEYS_TITLE: &str = "key positions";
 /// What stands in the terminal behind the number of a block that is erased.
 pub const ERASED: &str = "*";
 
@@ -256,6 +259,12 @@ impl<'a> Cells<'a> {
     /// Whether there is a page of this kind.
     pub fn has(&self, kind: Kind) -> bool {
         self.kinds.iter().any(|other| other.is_like(kind))
+    }
+
+    /// Whether there is a node of this kind of a file above 9.
+    pub fn has_above_9(&self, kind: Kind) -> bool {
+        let above = |other: &Kind| matches!(other, Kind::Live(10..) | Kind::Gone(10..));
+        self.kinds.iter().any(|other| other.is_like(kind) && above(other))
     }
 
     /// What is there, in two lines.

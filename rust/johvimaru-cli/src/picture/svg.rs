@@ -2,7 +2,7 @@
 
 mod symbols;
 
-use super::cells::{Cells, Key, Kind, Row, KEYS_IN_PAGE};
+use super::cells::{Cells, Key, Kind, Row, BLOCKS_TITLE, KEYS_IN_PAGE, KEYS_TITLE};
 use super::{broken, shortened, Drawing};
 use johvimaru::PAGES_IN_BLOCK;
 use symbols::{escaped, group, key_name, name, symbols, using, words, STYLE};
@@ -74,9 +74,9 @@ impl Layout {
     fn text(&self, kind: Kind) -> String {
         match kind {
             Kind::Empty => String::new(),
+            // It is struck out besides.
+            Kind::Gone(file) => self.text(Kind::Live(file)),
             _ if self.letters == 1 => kind.letter().to_string(),
-            // The mark says that it is gone.
-            Kind::Gone(file) => file.to_string(),
             _ => kind.text(),
         }
     }
@@ -181,7 +181,7 @@ fn panel(cells: &Cells, rows: &[Row], places: &Places) -> String {
 
 /// The rows of blocks.
 fn map(cells: &Cells, rows: &[Row], layout: &Layout) -> String {
-    let mut text = words(NUMBER, 10, "words", "blocks and their pages");
+    let mut text = words(NUMBER, 10, "words", BLOCKS_TITLE);
     for (number, row) in rows.iter().enumerate() {
         let (x, y) = layout.place(number);
         let y = y + LINE;
@@ -227,7 +227,7 @@ fn keys(cells: &Cells) -> String {
     if cells.keys.is_empty() {
         return words(0, 10, "words", "no letters of keys without a mount");
     }
-    let mut text = words(NUMBER, 10, "words", "key positions");
+    let mut text = words(NUMBER, 10, "words", KEYS_TITLE);
     for (position, key) in cells.keys.iter().enumerate() {
         let (row, column) = (position / KEYS_IN_ROW, position % KEYS_IN_ROW);
         let y = LINE + row * KEY_CELL + KEY_GAP * (row / (KEY_ROWS / 2));

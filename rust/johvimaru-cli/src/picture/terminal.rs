@@ -1,6 +1,6 @@
 //! The picture as lines of text.
 
-use super::cells::{Cells, Key, Kind, Row, ERASED, FOLD};
+use super::cells::{Cells, Key, Kind, Row, BLOCKS_TITLE, ERASED, FOLD, KEYS_TITLE};
 use super::{broken, shortened, Drawing};
 use johvimaru::Letter;
 
@@ -18,8 +18,6 @@ const KEYS_IN_LINE: usize = 28;
 const LEGEND: usize = 78;
 /// Columns between two parts.
 const GAP: usize = 2;
-/// What stands above the rows.
-const BLOCKS: &str = "blocks and their pages";
 
 /// The pictures, side by side where they have room, and the legend. No line is longer than the width.
 pub fn text(drawing: &Drawing, colours: bool, width: Option<usize>) -> String {
@@ -72,7 +70,7 @@ fn pictures(cells: &[Cells], style: &Style, room: usize) -> Vec<Line> {
 fn side_by_side(cells: &[Cells], style: &Style, room: usize) -> Vec<Line> {
     let mut panels: Vec<Vec<Line>> = cells.iter().map(|cells| head(cells, room)).collect();
     for (panel, cells) in panels.iter_mut().zip(cells) {
-        panel.push(Line::plain(BLOCKS));
+        panel.push(Line::plain(BLOCKS_TITLE));
         panel.extend(style.rows.iter().map(|row| line_of_pages(cells, *row, style.wide)));
         panel.extend(notes(cells, room));
     }
@@ -92,7 +90,7 @@ fn alone(cells: &Cells, style: &Style, room: usize) -> Vec<Line> {
     let rows = style.rows.chunks(style.rows.len().div_ceil(columns)).map(|rows| {
         rows.iter().map(|row| line_of_pages(cells, *row, style.wide)).collect::<Vec<Line>>()
     });
-    let mut blocks = vec![Line::plain(BLOCKS)];
+    let mut blocks = vec![Line::plain(BLOCKS_TITLE)];
     blocks.extend(beside(rows.collect()));
     if style.wide && WIDE + GAP + KEY_LINE <= room {
         lines.extend(beside(vec![blocks, keys(cells)]));
@@ -146,7 +144,7 @@ fn keys(cells: &Cells) -> Vec<Line> {
     if keys.is_empty() {
         return Vec::new();
     }
-    let mut lines = vec![Line::plain("key positions")];
+    let mut lines = vec![Line::plain(KEYS_TITLE)];
     let mut first = 0;
     while first < keys.len() {
         let alike = keys[first..].iter().take_while(|key| **key == keys[first]).count();
@@ -196,39 +194,55 @@ fn legend(cells: &[Cells], wide: bool, room: usize) -> Vec<Line> {
 
 /// The kinds of pages, the letters of keys, and the marks.
 fn entries(cells: &[Cells], wide: bool) -> Vec<Line> {
-    let has = |kind: &Kind| cells.iter().any(|cells| cells.has(*kind));
-    let mut entries: Vec<Line> =
-        Kind::ALL.into_iter().filter(has).map(|kind| entry(kind, wide)).collect();
-    let named = |key: Key| Piece(key.text().into(), colours_of_key(key));
+    let entry = |name: &str, colours, words: &str| {
+        Line(vec![Piece(name.into(), colours), Piece(format!(" {words}"), "")])
+    };
+    let mut entries = Vec::new();
+    for kind in Kind::ALL.into_iter().filter(|kind| cells.iter().any(|cells| cells.has(*kind))) {
+        entries.push(entry(&in_legend(kind, wide), colours_of(kind), kind.words()));
+        let letters = letters_of_files(kind, wide);
+        let letters = letters.filter(|_| cells.iter().any(|cells| cells.has_above_9(kind)));
+        entries.extend(letters.map(|text| entry(text, colours_of(kind), "of files 10 to 13")));
+    }
     if cells.iter().any(|cells| !cells.keys.is_empty()) {
         for (key, words) in Key::all(false).into_iter().zip(["free key", "used", "deleted"]) {
-            entries.push(Line(vec![named(key), Piece(format!(" {words}"), "")]));
+            entries.push(entry(&key.text().to_string(), colours_of_key(key), words));
         }
     }
     if cells.iter().any(Cells::has_replaced) {
-        let space = || Piece(" ".into(), "");
-        let mut pieces: Vec<Piece> =
-            Key::all(true).into_iter().flat_map(|key| [named(key), space()]).collect();
-        pieces.push(Piece("the same, replaced since".into(), ""));
-        entries.push(Line(pieces));
+        let mut line = Line::default();
+        for key in Key::all(true) {
+            line.push(&key.text().to_string(), colours_of_key(key));
+            line.push(" ", "");
+        }
+        line.push("the same, replaced since", "");
+        entries.push(line);
     }
     if cells.iter().any(Cells::has_erased) {
-        let mark = Piece(ERASED.into(), MARKED);
-        entries.push(Line(vec![mark, Piece(" block erased since".into(), "")]));
+        entries.push(entry(ERASED, MARKED, "block erased since"));
     }
     entries
 }
 
-fn entry(kind: Kind, wide: bool) -> Line {
-    let name = match kind {
-        Kind::Live(_) if wide => "0 to 13".into(),
-        Kind::Live(_) => "0 to 9, p to s".into(),
-        Kind::Gone(_) if wide => "-0 to -9, -p to -s".into(),
-        Kind::Commit(_) if wide => "C0 to C9".into(),
-        _ if wide => kind.text(),
-        _ => kind.letter().to_string(),
-    };
-    Line(vec![Piece(name, colours_of(kind)), Piece(format!(" {}", kind.words()), "")])
+/// What stands in the cells of a kind.
+fn in_legend(kind: Kind, wide: bool) -> String {
+    match (kind, wide) {
+        (Kind::Live(_), true) => "0 to 13".into(),
+        (Kind::Live(_), false) => "0 to 9".into(),
+        (Kind::Gone(_), true) => "-0 to -9".into(),
+        (Kind::Commit(_), true) => "C0 to C9".into(),
+        (_, true) => kind.text(),
+        (_, false) => kind.letter().to_string(),
+    }
+}
+
+/// What stands there for files above 9, where that is no number.
+fn letters_of_files(kind: Kind, wide: bool) -> Option<&'static str> {
+    match (kind, wide) {
+        (Kind::Live(_), false) => Some("p to s"),
+        (Kind::Gone(_), true) => Some("-p to -s"),
+        _ => None,
+    }
 }
 
 // ---- Lines

@@ -141,8 +141,8 @@ fn empty(count: usize, width: usize, height: usize) -> String {
 
 /// The mark of an erased block: a line inside its edges.
 fn outline(width: usize, height: usize) -> String {
-    let (width, height) = (width - 2, height - 2);
-    format!("<rect class=\"mark\" x=\"1\" y=\"1\" width=\"{width}\" height=\"{height}\"/>")
+    let (width, height) = (width as f32 - 1.6, height as f32 - 1.6);
+    format!("<rect class=\"mark\" x=\".8\" y=\".8\" width=\"{width}\" height=\"{height}\"/>")
 }
 
 // ---- Elements
@@ -157,7 +157,7 @@ text { font-family: 'DejaVu Sans', Verdana, Arial, sans-serif }
 .folded { font-size: 10px; fill: #444 }
 .in { font-family: 'DejaVu Sans Mono', Menlo, Consolas, monospace; text-anchor: middle }
 .cell { stroke: #999; stroke-width: .5 }
-.mark { fill: none; stroke: #c8102e; stroke-width: 2; pointer-events: none }
+.mark { fill: none; stroke: #c8102e; stroke-width: 1.6; pointer-events: none }
 .corner { fill: #c8102e }
 </style>
 ";

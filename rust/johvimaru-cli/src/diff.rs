@@ -34,7 +34,7 @@ fn text(names: &[String; 2], changes: &Changes) -> String {
     }
     lines.extend(group("nodes", nodes_in_words(changes)));
     lines.extend(group("keys", keys_in_words(changes)));
-    lines.extend(group("blocks", blocks_in_words(&changes.blocks)));
+    lines.extend(group("blocks", blocks_in_words(changes)));
     lines.extend(group("numbers", numbers_in_words(changes)));
     lines.join("\n") + "\n"
 }
@@ -131,8 +131,9 @@ fn left_by_use(left: &[LeftKey]) -> Vec<String> {
         .collect()
 }
 
-fn blocks_in_words(blocks: &Blocks) -> Vec<String> {
-    let Blocks { erased, begun, written_on, other } = blocks;
+fn blocks_in_words(changes: &Changes) -> Vec<String> {
+    let sizes = changes.sides.each_ref().map(|side| Some(format!("{} blocks", side.blocks)));
+    let Blocks { erased, begun, written_on, other } = &changes.blocks;
     let named = [
         ("erased", erased),
         ("newly in use", begun),
@@ -140,7 +141,8 @@ fn blocks_in_words(blocks: &Blocks) -> Vec<String> {
         ("other contents", other),
     ];
     let named = named.iter().filter(|(_, blocks)| !blocks.is_empty());
-    named.map(|(what, blocks)| format!("{what}: {}", listed("block", blocks))).collect()
+    let named = named.map(|(what, blocks)| format!("{what}: {}", listed("block", blocks)));
+    both(sizes, ", ").into_iter().chain(named).collect()
 }
 
 /// The numbers that are not the same in both images.

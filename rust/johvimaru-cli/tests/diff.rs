@@ -206,6 +206,7 @@ fn files_that_cannot_be_compared() {
     assert_eq!(folder.run("diff a.img .").status, 3);
     let sizes = folder.done("diff a.img b.img");
     assert!(sizes.starts_with("before: a.img, 8 blocks, 0 live nodes\nnow: b.img, 9 blocks,"));
+    assert!(sizes.contains("\nblocks:\n  8 blocks before, 9 blocks now\n"), "{sizes}");
 }
 
 // ---- Random images

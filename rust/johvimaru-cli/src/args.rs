@@ -74,6 +74,15 @@ pub enum Command {
     Map(MapOptions),
     /// Play a handover.
     Demo,
+    /// Say what has changed between two images.
+    Diff {
+        /// The older image file.
+        old: PathBuf,
+        /// The newer one.
+        new: PathBuf,
+        /// As JSON.
+        json: bool,
+    },
 }
 
 /// A call that changes the flash and comes after a mount.
@@ -174,6 +183,7 @@ impl Shape {
             Topic::Export | Topic::Import => (&["FILE"], 1, &[], &["--text"]),
             Topic::Handover => (&[], 0, &["--keep", "--report"], &["--json", "--force"]),
             Topic::Map => (&[], 0, &["--svg", "--before", "--after"], &[]),
+            Topic::Diff => (&["OLD", "NEW"], 2, &[], &["--json"]),
         };
         Shape { topic, words, needed, values, flags }
     }
@@ -352,6 +362,7 @@ fn command(shape: &Shape, words: &Words) -> Result<Command, Usage> {
         Topic::Import => return Ok(Command::Import { file: file()?, text }),
         Topic::Handover => return Ok(Command::Handover(handover(words)?)),
         Topic::Mount => return Ok(Command::Mount(words.cut()?)),
+        Topic::Diff => return diff(words),
         Topic::Read => {
             let (file, offset) = at()?;
             return Ok(Command::Read { file, offset, raw: words.has("--raw") });
@@ -403,6 +414,14 @@ fn map_options(words: &Words) -> Result<MapOptions, Usage> {
         return wrong("--svg takes the name of a file that ends in .svg");
     }
     Ok(MapOptions { svg, before_after })
+}
+
+fn diff(words: &Words) -> Result<Command, Usage> {
+    if words.value(IMAGE_OPTION).is_some() {
+        return wrong("diff takes OLD and NEW, and no --image");
+    }
+    let [old, new] = [0, 1].map(|at| PathBuf::from(&words.plain[at]));
+    Ok(Command::Diff { old, new, json: words.has("--json") })
 }
 
 #[cfg(test)]
@@ -532,5 +551,15 @@ mod tests {
         assert_eq!(usage("commit --cut 1,2 --cut 1,2"), "--cut is given twice");
         assert_eq!(usage("format --force=yes"), "--force takes no value");
         assert_eq!(usage("map --before a"), "map takes --before and --after together");
+    }
+
+    #[test]
+    fn two_images_to_compare() {
+        let diff = |json| Command::Diff { old: "a".into(), new: "b".into(), json };
+        assert_eq!(command_of("diff a b"), diff(false));
+        assert_eq!(command_of("diff --json a b"), diff(true));
+        assert_eq!(usage("diff a"), "diff needs NEW");
+        assert_eq!(usage("diff a b c"), "diff takes no \"c\"");
+        assert_eq!(usage("diff a b --image c"), "diff takes OLD and NEW, and no --image");
     }
 }

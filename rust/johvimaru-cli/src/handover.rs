@@ -6,6 +6,7 @@ mod report;
 use crate::args::Handover;
 use crate::calls::{self, Device};
 use crate::image_file::{self, at, counted, is_empty, ImageFile};
+use crate::seen::Seen;
 use crate::sha256;
 use crate::Problem;
 use johvimaru::{File, Form, Header, KeyCounts, Noise, Record, Refusal, Store, BLOCK};
@@ -87,7 +88,7 @@ fn hand_over(
     keep: &[File],
     force: bool,
 ) -> Result<(Report, Result<(), Problem>), Problem> {
-    let first = Side::of(before);
+    let first = Seen::of(before.to_vec());
     let mut done = Vec::new();
     let cleared = match &first.mounted {
         Err(refusal) if !force || !keep.is_empty() => {
@@ -105,7 +106,7 @@ fn hand_over(
         Err(problem @ Problem::System(_)) => return Err(problem),
         cleared => cleared,
     };
-    let last = Side::of(&file.bytes()?);
+    let last = Seen::of(file.bytes()?);
     let mut report = Report::new(file.named.display().to_string(), keep, done, first, last);
     if let Err(problem) = &ended {
         report.faults.insert(0, problem.to_string());
@@ -151,34 +152,20 @@ fn nodes_of(record: &Record, file: File) -> usize {
     record.nodes().filter(|node| node.at.file() == file).count()
 }
 
-/// What is on an image at one time.
-struct Side {
-    image: Vec<u8>,
-    mounted: Result<Store<Vec<u8>>, Refusal>,
-}
-
-impl Side {
-    fn of(image: &[u8]) -> Side {
-        let mounted = Store::mount(image.to_vec()).map_err(Refusal::from);
-        Side { image: image.to_vec(), mounted }
-    }
-
-    fn record(&self) -> Option<&Record> {
-        self.mounted.as_ref().ok().map(Store::record)
-    }
-
+/// What a report tells of an image.
+impl Seen {
     fn hash(&self) -> String {
         sha256::hex(&self.image)
     }
 
     fn counts(&self) -> Option<KeyCounts> {
-        self.record().map(Record::counts)
+        self.record().ok().map(Record::counts)
     }
 
     /// The files that have nodes, with their numbers of nodes.
     fn files(&self) -> Vec<(File, usize)> {
-        let record = self.record();
-        let counted = File::all().map(|file| (file, record.map_or(0, |r| nodes_of(r, file))));
+        let Ok(record) = self.record() else { return Vec::new() };
+        let counted = File::all().map(|file| (file, nodes_of(record, file)));
         counted.filter(|(_, nodes)| *nodes > 0).collect()
     }
 
@@ -190,7 +177,7 @@ impl Side {
 
     /// The blocks that are not empty, not chosen, and have no live node.
     fn blocks_in_question(&self) -> Vec<usize> {
-        let Some(record) = self.record() else { return Vec::new() };
+        let Ok(record) = self.record() else { return Vec::new() };
         let [first, second] = record.key_blocks();
         let mut known = vec![first, second, record.commit_block()];
         known.extend(record.nodes().map(|node| node.page / johvimaru::PAGES_IN_BLOCK));
@@ -201,7 +188,7 @@ impl Side {
     /// How many pages have the header of a node that is not live, or of a cut-off.
     fn dead_headers(&self) -> usize {
         let is_live = |page: usize| {
-            self.record().is_some_and(|record| record.nodes().any(|node| node.page == page))
+            self.record().is_ok_and(|record| record.nodes().any(|node| node.page == page))
         };
         let is_dead = |(page, form): &(usize, Form)| match form.header() {
             Some(Header::Node { .. }) => !is_live(*page),
@@ -213,7 +200,7 @@ impl Side {
 }
 
 /// Which kept nodes are not as they were.
-fn changed(before: &Side, after: &Side, keep: &[File]) -> Vec<String> {
+fn changed(before: &Seen, after: &Seen, keep: &[File]) -> Vec<String> {
     let (Ok(old), Ok(new)) = (&before.mounted, &after.mounted) else { return Vec::new() };
     let nodes = old.record().nodes().filter(|node| keep.contains(&node.at.file()));
     let is_other = |at| old.read(at).ok() != new.read(at).ok();
@@ -221,7 +208,7 @@ fn changed(before: &Side, after: &Side, keep: &[File]) -> Vec<String> {
 }
 
 /// The keys that were on the image before, those of kept nodes left out, and where they are found now.
-fn search(before: &Side, after: &Side, keep: &[File]) -> (Vec<Found>, usize) {
+fn search(before: &Seen, after: &Seen, keep: &[File]) -> (Vec<Found>, usize) {
     let kept: Vec<[u8; johvimaru::KEY]> = before.record().map_or(Vec::new(), |record| {
         let nodes = record.nodes().filter(|node| keep.contains(&node.at.file()));
         nodes.map(|node| keys::at(&before.image, record.key_bytes(node.key).start)).collect()

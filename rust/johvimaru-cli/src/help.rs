@@ -33,13 +33,15 @@ pub enum Topic {
     Map,
     /// `demo`.
     Demo,
+    /// `diff`.
+    Diff,
     /// `version`.
     Version,
 }
 
 impl Topic {
     /// All topics.
-    pub const ALL: [Topic; 16] = [
+    pub const ALL: [Topic; 17] = [
         Topic::Johvimaru,
         Topic::Format,
         Topic::Mount,
@@ -55,6 +57,7 @@ impl Topic {
         Topic::Check,
         Topic::Map,
         Topic::Demo,
+        Topic::Diff,
         Topic::Version,
     ];
 
@@ -76,6 +79,7 @@ impl Topic {
             Topic::Check => "check",
             Topic::Map => "map",
             Topic::Demo => "demo",
+            Topic::Diff => "diff",
             Topic::Version => "version",
         }
     }
@@ -104,6 +108,7 @@ pub fn text(topic: Topic) -> &'static str {
         Topic::Check => CHECK,
         Topic::Map => MAP,
         Topic::Demo => DEMO,
+        Topic::Diff => DIFF,
         Topic::Version => VERSION,
     }
 }
@@ -126,6 +131,7 @@ johvimaru: a flash page store that forgets, on an image file
   list                         the nodes with their pages and keys, in columns
   check                        what is there, in words
   map                          a picture of blocks, pages and keys
+  diff OLD NEW                 what has changed between two images
   demo                         a handover with power cuts, from beginning to end
   version                      the version of this command
   help WHAT                    more on one of these
@@ -274,9 +280,14 @@ johvimaru map [--svg OUT.svg] [--image FILE]
 johvimaru map --before A --after B [--svg OUT.svg]
 
 Draws the image: a row for each block, a cell for each page by what it is, and
-the 448 key positions by letter. With --before and --after two images stand
-side by side. With --svg the picture goes into a file, else it is printed: in
-colours on a terminal, unless NO_COLOR is set.
+the 448 key positions by letter. With --before and --after two images are
+drawn, with marks at what has changed since: nodes that are gone, keys that
+are replaced, blocks that are erased.
+
+With --svg the picture goes into a file, in which each cell has a tooltip that
+says what it is. Else it is printed: in colours on a terminal, unless NO_COLOR
+is set, and no wider than the terminal's window, or where there is none than
+the variable COLUMNS says.
 
 It mounts a copy, and leaves the image as it is. One that mount refuses is
 drawn by the form of its pages; the exit status is then 1.
@@ -295,6 +306,21 @@ const VERSION: &str = "\
 johvimaru version
 
 Prints the version of the command, as --version does.
+";
+
+const DIFF: &str = "\
+johvimaru diff OLD NEW [--json]
+
+Compares two image files of a recorder, an older and a newer one, and says
+what a reader of both sees: the nodes that are new or gone or have another
+payload, page or key; the keys that were replaced, and which of the old ones
+stand anywhere on the newer image; the blocks that were erased or written; and
+the next numbers and the places of keys and commit. No payload and no key is
+printed.
+
+It mounts copies, and leaves both files as they are. The exit status is 0
+whether they differ or not. Where a mount is refused it says what can be told
+without it, and the exit status is 1.
 ";
 
 #[cfg(test)]

@@ -2,8 +2,10 @@
 
 mod args;
 mod calls;
+mod changes;
 mod check;
 mod demo;
+mod diff;
 mod handover;
 mod help;
 mod image_file;
@@ -12,6 +14,7 @@ mod listing;
 mod man;
 mod nodes;
 mod picture;
+mod seen;
 #[path = "../../sha256.rs"]
 mod sha256;
 
@@ -126,5 +129,6 @@ fn run(request: Request, out: &mut dyn Write) -> Result<(), Problem> {
         Command::Check(json) => check::run(&image, json, out),
         Command::Map(options) => picture::run(&image, &options, out),
         Command::Demo => demo::run(out),
+        Command::Diff { old, new, json } => diff::run(&old, &new, json, out),
     }
 }

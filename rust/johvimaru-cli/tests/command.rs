@@ -189,7 +189,7 @@ fn help_for_each() {
     let all = folder.done("--help");
     for name in [
         "format", "mount", "write", "read", "cut-off", "commit", "wipe", "handover", "export",
-        "import", "list", "check", "map", "demo", "version",
+        "import", "list", "check", "map", "diff", "demo", "version",
     ] {
         assert!(all.contains(name), "{name}");
         let text = folder.done(&format!("{name} --help"));

@@ -136,7 +136,7 @@ After
 Old keys
   on the image before: 578 keys
   of kept nodes, and still there: 1
-  positions 0 to 2, 4 to 447: no copy at any byte
+  positions 0-2 4-447: no copy at any byte
 
 What a reader of the chip can still learn
   next sequence 5: 4 pages since the format, written or cut off
@@ -252,9 +252,9 @@ fn a_key_that_is_found_again_is_told() {
     folder.put("recorder.img", &image);
     let ran = folder.run("handover --keep 1");
     assert_eq!(ran.status, 4, "{}", ran.printed);
-    assert!(ran.printed.contains("  positions 224: STILL THERE\n"), "{}", ran.printed);
+    assert!(ran.printed.contains("  position 224: STILL THERE\n"), "{}", ran.printed);
     assert!(ran.printed.contains("MUST NOT BE HANDED OVER: 1 old key still on the image."));
-    assert!(folder.done("handover").contains("positions 0 to 447: no copy at any byte"));
+    assert!(folder.done("handover").contains("positions 0-447: no copy at any byte"));
 }
 
 /// The report goes to a new file only, and is not left behind empty.

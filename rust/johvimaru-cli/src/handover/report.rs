@@ -1,9 +1,11 @@
 //! The report of a handover: no content, and no byte of a key.
 
 use super::keys::Found;
-use super::{changed, search, Side};
+use super::{changed, search};
+use crate::changes::listed;
 use crate::image_file::{blocks_in_words, counted};
 use crate::json::Json;
+use crate::seen::Seen;
 use johvimaru::{File, Record, BLOCK, PAGES_IN_BLOCK};
 use std::time::{SystemTime, UNIX_EPOCH};
 
@@ -13,8 +15,8 @@ pub struct Report {
     made: String,
     keep: Vec<File>,
     done: Vec<String>,
-    before: Side,
-    after: Side,
+    before: Seen,
+    after: Seen,
     /// The keys that were there before and are of no kept node.
     keys: Vec<Found>,
     /// How many keys are of kept nodes.
@@ -29,8 +31,8 @@ impl Report {
         image: String,
         keep: &[File],
         done: Vec<String>,
-        before: Side,
-        after: Side,
+        before: Seen,
+        after: Seen,
     ) -> Report {
         let (keys, kept_keys) = search(&before, &after, keep);
         let faults = faults(&before, &after, keep, &keys);
@@ -79,10 +81,10 @@ impl Report {
     }
 
     /// What is on the image at one time.
-    fn side(&self, side: &Side) -> Vec<String> {
+    fn side(&self, side: &Seen) -> Vec<String> {
         let blocks = side.image.len() / BLOCK;
         let mut lines = vec![format!("  {blocks} blocks, SHA-256 {}", side.hash())];
-        if let Err(refusal) = side.mounted {
+        if let Err(refusal) = side.record() {
             lines.push(format!("  mount refuses it, {}: {refusal}", refusal.number()));
         }
         for (file, nodes) in side.files() {
@@ -110,12 +112,15 @@ impl Report {
         }
         let in_slots = |left: bool| {
             let keys = self.keys.iter().filter(move |key| (key.copies > 0) == left);
-            keys.filter_map(|key| key.position).collect::<Vec<_>>()
+            let mut positions: Vec<usize> = keys.filter_map(|key| key.position).collect();
+            positions.sort_unstable();
+            positions.dedup();
+            positions
         };
         let (gone, left) = (in_slots(false), in_slots(true));
         for (positions, what) in [(gone, "no copy at any byte"), (left, "STILL THERE")] {
             if !positions.is_empty() {
-                lines.push(format!("  positions {}: {what}", ranges(positions)));
+                lines.push(format!("  {}: {what}", listed("position", &positions)));
             }
         }
         let torn = self.keys.iter().filter(|key| key.position.is_none());
@@ -130,7 +135,7 @@ impl Report {
 
     /// What the image tells whoever reads it.
     fn learned(&self) -> Vec<String> {
-        let Some(record) = self.after.record() else {
+        let Ok(record) = self.after.record() else {
             return vec!["  all that is on it: it is not cleared".into()];
         };
         let mut lines = numbers_tell(record);
@@ -174,11 +179,11 @@ fn texts(lines: &[String]) -> Json {
     Json::List(lines.iter().map(|line| line.trim().into()).collect())
 }
 
-fn side_json(side: &Side) -> Json {
+fn side_json(side: &Seen) -> Json {
     let files = side.files().into_iter().map(|(file, nodes)| {
         Json::Object(vec![("file", file.number().into()), ("nodes", nodes.into())])
     });
-    let refused = side.mounted.as_ref().err().map_or(Json::Null, |r| r.number().into());
+    let refused = side.record().err().map_or(Json::Null, |refusal| refusal.number().into());
     let number = |of: fn(&Record) -> u32| side.record().map_or(Json::Null, |r| of(r).into());
     Json::Object(vec![
         ("blocks", (side.image.len() / BLOCK).into()),
@@ -203,9 +208,9 @@ fn key_json(key: &Found) -> Json {
 }
 
 /// What must not be on an image that is handed over.
-fn faults(before: &Side, after: &Side, keep: &[File], keys: &[Found]) -> Vec<String> {
+fn faults(before: &Seen, after: &Seen, keep: &[File], keys: &[Found]) -> Vec<String> {
     let mut faults = Vec::new();
-    if let Err(refusal) = after.mounted {
+    if let Err(refusal) = after.record() {
         faults.push(format!("mount refuses the image, {}: {refusal}", refusal.number()));
     }
     for (file, nodes) in after.files().iter().filter(|(file, _)| !keep.contains(file)) {
@@ -249,24 +254,6 @@ fn numbers_tell(record: &Record) -> Vec<String> {
     ]
 }
 
-/// Numbers in rising order as ranges: `0 to 2, 5`.
-fn ranges(mut numbers: Vec<usize>) -> String {
-    numbers.sort_unstable();
-    numbers.dedup();
-    let mut ranges: Vec<(usize, usize)> = Vec::new();
-    for number in numbers {
-        match ranges.last_mut() {
-            Some((_, last)) if *last + 1 == number => *last = number,
-            _ => ranges.push((number, number)),
-        }
-    }
-    let spelt = |(first, last): &(usize, usize)| match first == last {
-        true => first.to_string(),
-        false => format!("{first} to {last}"),
-    };
-    ranges.iter().map(spelt).collect::<Vec<_>>().join(", ")
-}
-
 /// Date and time of day, as UTC.
 fn now() -> String {
     let since = SystemTime::now().duration_since(UNIX_EPOCH).map_or(0, |time| time.as_secs());
@@ -301,12 +288,6 @@ fn date(mut days: u64) -> (u64, u64, u64) {
 #[cfg(test)]
 mod tests {
     use super::*;
-
-    #[test]
-    fn numbers_as_ranges() {
-        assert_eq!(ranges(vec![5, 0, 1, 2, 2, 7, 8]), "0 to 2, 5, 7 to 8");
-        assert_eq!(ranges(vec![]), "");
-    }
 
     #[test]
     fn days_as_dates() {

@@ -24,7 +24,7 @@ impl Folder {
     /// The command, not yet started.
     pub fn command<S: AsRef<OsStr>>(&self, words: &[S]) -> Command {
         let mut command = Command::new(env!("CARGO_BIN_EXE_johvimaru"));
-        command.args(words).current_dir(&self.path).env_remove("NO_COLOR");
+        command.args(words).current_dir(&self.path).env_remove("NO_COLOR").env_remove("COLUMNS");
         command
     }
 

@@ -25,11 +25,9 @@ done
 "$johvimaru" --image wipe-cut.img write 2 4 "track 4" --cut 0,100
 "$johvimaru" --image wipe-cut.img wipe 0 0 --cut 22,12
 
-# All is wiped to the end, and the next firm writes.
+# The recorder is handed over, and the next firm writes.
 cp wipe-cut.img handed-over.img
-for file in 0 1 2 13; do
-    "$johvimaru" --image handed-over.img wipe $file 0
-done
+"$johvimaru" --image handed-over.img handover
 "$johvimaru" --image handed-over.img write 0 0 "draught of the next firm"
 
 "$johvimaru" map --before wipe-cut.img --after handed-over.img --svg "$out"

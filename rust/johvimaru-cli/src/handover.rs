@@ -67,9 +67,12 @@ impl Paper<'_> {
     }
 
     fn write(mut self, text: &str) -> Result<(), Problem> {
-        let Some(mut file) = self.file.take() else { return Ok(()) };
-        let written = file.write_all(text.as_bytes()).and_then(|()| file.sync_all());
-        written.map_err(|error| at(self.path, error))
+        if let Some(file) = &mut self.file {
+            let written = file.write_all(text.as_bytes()).and_then(|()| file.sync_all());
+            written.map_err(|error| at(self.path, error))?;
+        }
+        self.file = None;
+        Ok(())
     }
 }
 
@@ -103,7 +106,11 @@ fn hand_over(
         },
     };
     let ended = match cleared {
-        Err(problem @ Problem::System(_)) => return Err(problem),
+        Err(Problem::System(words)) => {
+            let words =
+                format!("THE RECORDER MUST NOT BE HANDED OVER, it was not cleared: {words}");
+            return Err(Problem::System(words));
+        }
         cleared => cleared,
     };
     let last = Seen::of(file.bytes()?);

@@ -9,8 +9,9 @@ use std::path::Path;
 
 /// A chip in a file, of as many full blocks as the file has. It comes with the feature `std`.
 ///
-/// Steps change the file in place, one by one in their order, and each is on the disk when it ends. So a program
-/// that is killed, or whose power fails, leaves what a chip's power cut leaves.
+/// Steps change the file in place, one by one in their order, and each is on the disk (`fdatasync`) when it ends.
+/// So a program that is killed leaves what a chip's power cut leaves. What lies below the file may keep older
+/// bytes: docs/USING.md, "What a file cannot promise".
 ///
 /// ```
 /// use johvimaru::{Driver, FileChip, Noise, Offset};

@@ -23,7 +23,8 @@
  * plain C that nothing else here needs and that is no part of what is proved: whoever calls them compiles
  * it too. tools/install.sh puts both together into libjohvimaru.a, with a file for pkg-config.
  *
- * What stays secret: the library clears nothing behind it. As measured on x86-64 (tests/c/secrets.c):
+ * What stays secret: the library clears nothing behind it. As measured on x86-64, keys and payloads on the
+ * stack and in vector registers by tests/c/secrets.c, the rest by hand:
  *
  *   - After a write or a read the key, its round keys and the last 16 bytes of its key stream lie on the
  *     stack, below the caller's frame; after a read the last 16 bytes of the payload are in a vector
@@ -162,7 +163,7 @@
 extern "C" {
 #endif
 
-/* The version of this header: another one has other calls or constants. */
+/* The version of the library's calls and constants: those of another one are others. */
 #define JOHVIMARU_VERSION 1
 
 /* ---- Sizes, of a type in which an image's bytes can be counted whatever an int holds */

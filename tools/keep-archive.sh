@@ -15,8 +15,7 @@ built=target/staticlib
 say() { printf 'keep-archive: %s\n' "$*"; }
 
 case "$*" in
-'') rt staticlib recorder ;;
---check) ;;
+'' | --check) ;;
 *) say "usage: tools/keep-archive.sh [--check]" >&2; exit 2 ;;
 esac
 
@@ -24,6 +23,17 @@ work=$(mktemp -d)
 trap 'rm -rf "$work"' EXIT
 version=$(rt version)
 rustc --edition 2021 -D warnings -o "$work/describe" tools/describe_archive.rs
+# The hash of the sources at hand. Any file stands for the archive.
+sources() { "$work/describe" crates.txt "$version" | grep '^sources '; }
+
+if [ $# -eq 0 ]; then
+    before=$(sources)
+    rt staticlib recorder
+    if [ "$(sources)" != "$before" ]; then
+        say "the sources were changed while rt built the library: nothing is kept, run it again" >&2
+        exit 1
+    fi
+fi
 "$work/describe" "$built/librecorder.a" "$version" >"$work/librecorder.txt"
 
 if [ $# -eq 0 ]; then

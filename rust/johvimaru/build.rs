@@ -38,7 +38,10 @@ fn main() {
 /// The folder that has the library, or what is missing.
 fn folder() -> Result<PathBuf, String> {
     if let Some(named) = env::var_os(FOLDER) {
-        return named_folder(PathBuf::from(named));
+        return match PathBuf::from(named) {
+            named if named.is_absolute() => named_folder(named),
+            named => Err(format!("{FOLDER} has to be a path from /, and is {named:?}")),
+        };
     }
     test_target()?;
     let top = Path::new(&env::var_os("CARGO_MANIFEST_DIR").expect("cargo sets it")).join("../..");
@@ -158,6 +161,11 @@ fn describe(top: &Path, folder: &Path, sources: &Sources) -> Result<(), String> 
     let version =
         Command::new("rt").arg("version").output().map_err(|e| fault(Path::new("rt"), e))?;
     let version = String::from_utf8_lossy(&version.stdout);
+    let expected = fs::read_to_string(top.join("toolchain.txt")).unwrap_or_default();
+    if version.trim() != expected.trim() {
+        let (is, has) = (version.trim(), expected.trim());
+        println!("cargo::warning=rt is {is}, and toolchain.txt has {has}");
+    }
     let (path, text) = (folder.join(ARCHIVE), folder.join(TEXT));
     let archive = fs::read(&path).map_err(|error| fault(&path, error))?;
     let words = archive::text(version.trim(), sources, &archive);

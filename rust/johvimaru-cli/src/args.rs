@@ -307,7 +307,9 @@ pub fn parse(words: &[OsString]) -> Result<Request, Usage> {
         return wrong(format!("{} needs {missing}", topic.name()));
     }
     if let Some(word) = words.plain.get(shape.words.len()) {
-        return wrong(format!("{} takes no {:?}", topic.name(), word.to_string_lossy()));
+        let (name, word) = (topic.name(), word.to_string_lossy());
+        let hint = if shape.words.is_empty() { "; the image file is named by --image" } else { "" };
+        return wrong(format!("{name} takes no {word:?}{hint}"));
     }
     Ok(Request { image, command: command(&shape, &words)? })
 }
@@ -489,7 +491,10 @@ mod tests {
         let (keep, report) = (vec![3, 13], Some("out.txt".into()));
         let handover = Handover { keep, report, json: true, force: true };
         assert_eq!(command_of(line), Command::Handover(handover));
-        assert_eq!(usage("handover 0"), "handover takes no \"0\"");
+        assert_eq!(
+            usage("handover 0"),
+            "handover takes no \"0\"; the image file is named by --image"
+        );
         let text = "a file of --keep is a number in decimal digits and not ";
         assert_eq!(usage("handover --keep 1,x"), format!("{text}\"x\""));
         assert_eq!(usage("handover --keep="), format!("{text}\"\""));
@@ -545,7 +550,7 @@ mod tests {
         assert_eq!(usage("write"), "write needs FILE");
         assert_eq!(usage("write 1"), "write needs OFFSET");
         assert_eq!(usage("write 1 2 x y"), "write takes no \"y\"");
-        assert_eq!(usage("list all"), "list takes no \"all\"");
+        assert_eq!(usage("list all"), "list takes no \"all\"; the image file is named by --image");
         assert_eq!(usage("read 1 2 --cut 0,0"), "read has no option --cut");
         assert_eq!(usage("commit --cut"), "--cut needs a value");
         assert_eq!(usage("commit --cut 1,2 --cut 1,2"), "--cut is given twice");

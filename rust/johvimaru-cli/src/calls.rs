@@ -1,8 +1,8 @@
 //! The calls that change the flash, on an image file. Each but format mounts first.
 
 use crate::args::Call;
-use crate::image_file::{self, blocks_in_words, counted, ImageFile, BLOCKS};
-use crate::Problem;
+use crate::image_file::{self, blocks_in_words, counted, name, ImageFile, BLOCKS};
+use crate::{say, Problem};
 use johvimaru::{
     payload, Chip, Cut, CutChip, CutError, Driver, Failure, FileChip, MemoryChip, Noise, Offset,
     Payload, Record, Refusal, Store, BLOCK, MAX_BLOCKS, MIN_BLOCKS, PAYLOAD,
@@ -76,7 +76,7 @@ fn what_stands(file: &ImageFile) -> Result<String, Problem> {
         Ok(store) => {
             let nodes = counted(store.record().nodes().count(), "live node");
             let last = store.record().next_sequence() - 1;
-            Ok(format!("{} holds a store with {nodes}, last sequence {last}", file.named.display()))
+            Ok(format!("{} holds a store with {nodes}, last sequence {last}", name(&file.named)))
         }
         Err(problem @ Problem::System(_)) => Err(problem),
         Err(problem) => Ok(problem.to_string()),
@@ -97,7 +97,7 @@ fn format_new(
     if !image_file::make(path, device.chip().inner().bytes())? {
         return Err(Problem::System(format!(
             "{} was made by another command meanwhile; nothing was done",
-            path.display()
+            name(path)
         )));
     }
     say_formatted(end, blocks, &device, cut, out)
@@ -127,7 +127,7 @@ fn open_or_make(path: &Path) -> Result<ImageFile, Problem> {
     let empty = vec![0xff; BLOCK * BLOCKS];
     let store = Store::format(empty, Noise::from_system()?).map_err(Refusal::from)?;
     if image_file::make(path, store.image())? {
-        eprintln!("johvimaru: {} was not there; made, {BLOCKS} blocks", path.display());
+        say(format!("{} was not there; made, {BLOCKS} blocks", name(path)));
     }
     ImageFile::open(path)
 }
@@ -144,7 +144,8 @@ pub fn mount(path: &Path, cut: Option<Cut>, out: &mut dyn Write) -> Result<(), P
             if image_file::erased(&before, device.mirror()).is_empty() {
                 writeln!(out, "mounted: nothing to erase")?;
             }
-            say_erased(&before, &device, out)
+            say_erased(&before, &device, out)?;
+            say_late_cut(&device, cut, out)
         }
         End::Cut => say_cut(&device, out),
     }

@@ -12,6 +12,8 @@ use std::collections::HashSet;
 pub struct Changes {
     /// The older image, and the newer one.
     pub sides: [Side; 2],
+    /// How many of the bytes that both have are others.
+    pub bytes: usize,
     /// Their live nodes.
     pub nodes: Option<Nodes>,
     /// The key positions whose 16 bytes are others in the newer image.
@@ -102,6 +104,7 @@ impl Changes {
         let both = old.mounted.as_ref().ok().zip(new.mounted.as_ref().ok());
         Changes {
             sides: [old, new].map(Side::of),
+            bytes: old.image.iter().zip(&new.image).filter(|(was, is)| was != is).count(),
             nodes: both.map(|(old, new)| Nodes::between(old, new)),
             replaced: both.map(|(old, new)| replaced(old, new)),
             left: old.record().ok().map(|record| left(&old.image, record, new)),

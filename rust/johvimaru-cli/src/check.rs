@@ -1,6 +1,6 @@
 //! What is on an image, in words.
 
-use crate::image_file::{self, blocks_in_words, counted};
+use crate::image_file::{self, blocks_in_words, counted, numbers_in_words};
 use crate::json::Json;
 use crate::listing;
 use crate::Problem;
@@ -20,31 +20,37 @@ pub fn run(path: &Path, json: bool, out: &mut dyn Write) -> Result<(), Problem> 
         store => store?,
     };
     let strays = image_file::erased(&image, store.image());
+    let spoilt = image_file::spoilt(store.image());
     if json {
-        writeln!(out, "{}", as_json(path, &store, &strays))?;
+        writeln!(out, "{}", as_json(path, &store, &strays, &spoilt))?;
     } else {
         let blocks = image.len() / BLOCK;
-        writeln!(out, "{}: {blocks} blocks, {} bytes", path.display(), image.len())?;
+        writeln!(out, "{}: {blocks} blocks, {} bytes", image_file::name(path), image.len())?;
         out.write_all(contents(store.record()).as_bytes())?;
         let left = pages_left(store.image());
         writeln!(out, "pages that writes and cut-offs can still take: {left}")?;
         out.write_all(would_erase(&strays).as_bytes())?;
+        if !spoilt.is_empty() {
+            let pages = numbers_in_words("page", &spoilt);
+            writeln!(out, "spoilt, by a cut erase or by damage: {pages}")?;
+        }
     }
-    leftovers(store.record().counts().deleted, &strays)
+    leftovers(store.record().counts().deleted, &strays, &spoilt)
 }
 
-/// Tells of deleted keys, and of blocks that are no part of the store.
-fn leftovers(deleted: usize, strays: &[usize]) -> Result<(), Problem> {
+/// Tells of deleted keys, of blocks that are no part of the store, and of pages that no call reads.
+fn leftovers(deleted: usize, strays: &[usize], spoilt: &[usize]) -> Result<(), Problem> {
     let keys = (deleted > 0).then(|| counted(deleted, "deleted key"));
     let blocks = (!strays.is_empty()).then(|| format!("{} of a cut call", blocks_in_words(strays)));
-    let left: Vec<String> = keys.into_iter().chain(blocks).collect();
+    let pages = (!spoilt.is_empty()).then(|| counted(spoilt.len(), "spoilt page"));
+    let left: Vec<String> = keys.into_iter().chain(blocks).chain(pages).collect();
     match left.is_empty() {
         true => Ok(()),
         false => Err(Problem::Leftovers(format!("left over: {}", left.join(", ")))),
     }
 }
 
-fn as_json(path: &Path, store: &Store<Vec<u8>>, strays: &[usize]) -> Json {
+fn as_json(path: &Path, store: &Store<Vec<u8>>, strays: &[usize], spoilt: &[usize]) -> Json {
     let record = store.record();
     Json::Object(vec![
         ("image", path.display().to_string().into()),
@@ -57,6 +63,7 @@ fn as_json(path: &Path, store: &Store<Vec<u8>>, strays: &[usize]) -> Json {
         ("commit_block", record.commit_block().into()),
         ("pages_left", pages_left(store.image()).into()),
         ("would_erase", Json::numbers(strays.iter().copied())),
+        ("spoilt_pages", Json::numbers(spoilt.iter().copied())),
     ])
 }
 

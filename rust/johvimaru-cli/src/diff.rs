@@ -34,11 +34,21 @@ fn text(names: &[String; 2], changes: &Changes) -> String {
     for ((when, name), side) in ["before", "now"].iter().zip(names).zip(&changes.sides) {
         lines.push(format!("{when}: {name}, {}", side_in_words(side)));
     }
+    lines.push(bytes_in_words(changes));
     lines.extend(group("nodes", nodes_in_words(changes)));
     lines.extend(group("keys", keys_in_words(changes)));
     lines.extend(group("blocks", blocks_in_words(changes)));
     lines.extend(group("numbers", numbers_in_words(changes)));
     lines.join("\n") + "\n"
+}
+
+/// Whether the images are the same at all.
+fn bytes_in_words(changes: &Changes) -> String {
+    let [old, new] = changes.sides.each_ref().map(|side| side.blocks);
+    match changes.bytes {
+        0 if old == new => "bytes: no difference, the two are the same".into(),
+        bytes => format!("bytes: {bytes} differ"),
+    }
 }
 
 /// The lines of a group, set in below its name.
@@ -188,6 +198,7 @@ fn as_json(paths: [&Path; 2], changes: &Changes) -> Json {
     Json::Object(vec![
         ("old", old),
         ("new", new),
+        ("bytes_differing", changes.bytes.into()),
         ("nodes", nodes),
         ("keys_replaced", changes.replaced.as_ref().map_or(Json::Null, positions)),
         ("old_keys_left", changes.left.as_ref().map_or(Json::Null, left)),

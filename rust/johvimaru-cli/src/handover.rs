@@ -5,31 +5,43 @@ mod report;
 
 use crate::args::Handover;
 use crate::calls::{self, Device};
-use crate::image_file::{self, at, counted, is_empty, ImageFile};
+use crate::image_file::{self, at, counted, is_empty, name, ImageFile};
 use crate::seen::Seen;
 use crate::sha256;
 use crate::Problem;
-use johvimaru::{File, Form, Header, KeyCounts, Noise, Record, Refusal, Store, BLOCK};
+use johvimaru::{
+    File, Form, Header, KeyCounts, Noise, Record, Refusal, Store, BLOCK, PAGE, PAGES_IN_BLOCK,
+};
 use keys::{Found, Search};
 use report::Report;
 use std::fs::{self, OpenOptions};
 use std::io::{ErrorKind, Write};
+use std::os::unix::fs::FileExt;
 use std::path::Path;
+
+/// The first number that is no epoch.
+const EPOCHS_END: u32 = 100_000_000;
 
 /// Hands a recorder over, and reports. Where anything is left, that is a problem.
 pub fn run(path: &Path, options: &Handover, out: &mut dyn Write) -> Result<(), Problem> {
     let keep = kept_files(&options.keep)?;
     let file = ImageFile::open(path)?;
-    let before = file.bytes()?;
-    let paper = options.report.as_deref().map(Paper::new).transpose()?;
-    let (report, ended) = hand_over(&file, &before, &keep, options.force)?;
-    let text = if options.json { format!("{}\n", report.json()) } else { report.text() };
-    match paper {
-        None => out.write_all(text.as_bytes())?,
-        Some(paper) => {
-            writeln!(out, "report: {}\n{}", paper.path.display(), report.verdict())?;
-            paper.write(&text)?;
-        }
+    let before = Seen::of(file.bytes()?);
+    let way = Way::of(&file, &before, &keep, options.force)?;
+    // A report that says "not finished" is on the disk before anything is changed.
+    let paper = Paper::new(options)?;
+    let mut report = Report::begun(name(path), &keep, before);
+    paper.write(&report)?;
+    let ended = way.go(&file, &keep, &mut report.done);
+    if let Err(Problem::System(words)) = ended {
+        let words = format!("THE RECORDER MUST NOT BE HANDED OVER: it was not cleared: {words}");
+        return Err(Problem::System(words));
+    }
+    report.finish(Seen::of(file.bytes()?), file.has_its_name()?, ended.as_ref().err());
+    paper.write(&report)?;
+    match paper.path {
+        None => out.write_all(report.spelt(options.json).as_bytes())?,
+        Some(path) => writeln!(out, "report: {}\n{}", name(path), report.verdict())?,
     }
     ended?;
     match report.faults.is_empty() {
@@ -47,78 +59,103 @@ fn kept_files(numbers: &[u32]) -> Result<Vec<File>, Problem> {
     Ok(files)
 }
 
-/// The file of the report. It goes again where no report is written to it.
+/// The file that the report goes to, where one is named.
 struct Paper<'a> {
-    path: &'a Path,
+    path: Option<&'a Path>,
     file: Option<fs::File>,
+    json: bool,
 }
 
 impl Paper<'_> {
     /// A file that is not there yet.
-    fn new(path: &Path) -> Result<Paper<'_>, Problem> {
-        match OpenOptions::new().write(true).create_new(true).open(path) {
-            Ok(file) => Ok(Paper { path, file: Some(file) }),
+    fn new(options: &Handover) -> Result<Paper<'_>, Problem> {
+        let path = options.report.as_deref();
+        let create = |path: &Path| match OpenOptions::new().write(true).create_new(true).open(path)
+        {
             Err(error) if error.kind() == ErrorKind::AlreadyExists => {
-                let name = path.display();
-                Err(Problem::System(format!("{name} is there already; name a new file")))
+                Err(Problem::System(format!("{} is there already; name a new file", name(path))))
             }
-            Err(error) => Err(at(path, error)),
-        }
+            created => created.map_err(|error| at(path, error)),
+        };
+        Ok(Paper { path, file: path.map(create).transpose()?, json: options.json })
     }
 
-    fn write(mut self, text: &str) -> Result<(), Problem> {
-        if let Some(file) = &mut self.file {
-            let written = file.write_all(text.as_bytes()).and_then(|()| file.sync_all());
-            written.map_err(|error| at(self.path, error))?;
-        }
-        self.file = None;
-        Ok(())
+    /// Writes the report over what was there of it.
+    fn write(&self, report: &Report) -> Result<(), Problem> {
+        let (Some(path), Some(file)) = (self.path, &self.file) else { return Ok(()) };
+        let text = report.spelt(self.json);
+        let written = file.set_len(0).and_then(|()| file.write_all_at(text.as_bytes(), 0));
+        written.and_then(|()| file.sync_all()).map_err(|error| {
+            let words = "the report could not be written; make the handover again with another one";
+            Problem::System(format!("{}: {error}: {words}", name(path)))
+        })
     }
 }
 
-impl Drop for Paper<'_> {
-    fn drop(&mut self) {
-        if self.file.is_some() {
-            let _ = fs::remove_file(self.path);
+/// How an image is cleared.
+enum Way {
+    /// These files are wiped.
+    Wipes(Vec<File>),
+    /// No file has to go: a commit replaces the deleted keys.
+    Commit,
+    /// It cannot be mounted, or its epochs are spent, and all of it may go.
+    Format,
+}
+
+impl Way {
+    /// Finds the way, or why there is none. Nothing is changed yet.
+    fn of(file: &ImageFile, before: &Seen, keep: &[File], force: bool) -> Result<Way, Problem> {
+        let record = match before.record() {
+            Ok(record) => record,
+            Err(_) if force && keep.is_empty() && has_headers(&before.image) => {
+                return Ok(Way::Format);
+            }
+            Err(refusal) => return Err(image_file::refused(&file.named, refusal)),
+        };
+        if let Some(file) = keep.iter().find(|file| nodes_of(record, **file) == 0) {
+            let words = format!("{file} has no node to keep; nothing was changed");
+            return Err(Problem::Explained(Refusal::NothingThere, words));
+        }
+        let to_wipe = |file: &File| !keep.contains(file) && nodes_of(record, *file) > 0;
+        let files: Vec<File> = File::all().filter(to_wipe).collect();
+        let needed = (2 * files.len()).max(1);
+        let left = (EPOCHS_END - record.next_epoch()) as usize;
+        match (left < needed, force && keep.is_empty()) {
+            (true, true) => Ok(Way::Format),
+            (true, false) => {
+                let words = format!(
+                    "this takes {}, and {left} are left; nothing was changed; export what is \
+                     needed, then `handover --force` formats the image",
+                    counted(needed, "epoch")
+                );
+                Err(Problem::Explained(Refusal::NumbersSpent, words))
+            }
+            _ if files.is_empty() => Ok(Way::Commit),
+            _ => Ok(Way::Wipes(files)),
+        }
+    }
+
+    /// Clears the image, and notes what was done.
+    fn go(&self, file: &ImageFile, keep: &[File], done: &mut Vec<String>) -> Result<(), Problem> {
+        match self {
+            Way::Format => format(file, done),
+            Way::Wipes(files) => wipe(file, files, done),
+            Way::Commit => {
+                let mut device = mounted(file, done)?;
+                device.commit(Noise::from_system()?).map_err(calls::told)?;
+                done.push(match keep {
+                    [] => "committed: no file had a node to wipe".into(),
+                    _ => "committed: every file that has a node is kept".into(),
+                });
+                Ok(())
+            }
         }
     }
 }
 
-/// Clears the image, and reports. A call that was refused ends it early.
-fn hand_over(
-    file: &ImageFile,
-    before: &[u8],
-    keep: &[File],
-    force: bool,
-) -> Result<(Report, Result<(), Problem>), Problem> {
-    let first = Seen::of(before.to_vec());
-    let mut done = Vec::new();
-    let cleared = match &first.mounted {
-        Err(refusal) if !force || !keep.is_empty() => {
-            Err(image_file::refused(&file.named, *refusal))
-        }
-        Err(_) => format(file, &mut done),
-        Ok(_) => match clear(file, keep, &mut done) {
-            Err(Problem::Refused(Refusal::NumbersSpent)) if force && keep.is_empty() => {
-                format(file, &mut done)
-            }
-            cleared => cleared,
-        },
-    };
-    let ended = match cleared {
-        Err(Problem::System(words)) => {
-            let words =
-                format!("THE RECORDER MUST NOT BE HANDED OVER, it was not cleared: {words}");
-            return Err(Problem::System(words));
-        }
-        cleared => cleared,
-    };
-    let last = Seen::of(file.bytes()?);
-    let mut report = Report::new(file.named.display().to_string(), keep, done, first, last);
-    if let Err(problem) = &ended {
-        report.faults.insert(0, problem.to_string());
-    }
-    Ok((report, ended))
+/// Whether any page has a header of the store's.
+fn has_headers(image: &[u8]) -> bool {
+    Form::all(image).any(|form| form.header().is_some())
 }
 
 /// Formats an image that cannot be cleared otherwise.
@@ -129,29 +166,23 @@ fn format(file: &ImageFile, done: &mut Vec<String>) -> Result<(), Problem> {
     Ok(())
 }
 
-/// Wipes each file that has a node and does not stay. Where there is none, a commit replaces the deleted keys.
-fn clear(file: &ImageFile, keep: &[File], done: &mut Vec<String>) -> Result<(), Problem> {
-    let mut said = Vec::new();
-    let mut device = calls::mounted(file, &mut said)?;
-    done.extend(String::from_utf8_lossy(&said).lines().map(String::from));
-    let mut wiped = false;
-    for file in File::all().filter(|file| !keep.contains(file)) {
-        let nodes = device.record().map_or(0, |record| nodes_of(record, file));
-        if nodes > 0 {
-            device.wipe(file.start(), Noise::from_system()?).map_err(calls::told)?;
-            done.push(format!("wiped: {file}, {}", counted(nodes, "node")));
-            wiped = true;
-        }
-    }
-    if !wiped {
-        commit(&mut device)?;
-        done.push("committed: no file had a node to wipe".into());
+/// Wipes these files.
+fn wipe(image: &ImageFile, files: &[File], done: &mut Vec<String>) -> Result<(), Problem> {
+    let mut device = mounted(image, done)?;
+    for file in files {
+        let nodes = device.record().map_or(0, |record| nodes_of(record, *file));
+        device.wipe(file.start(), Noise::from_system()?).map_err(calls::told)?;
+        done.push(format!("wiped: {file}, {}", counted(nodes, "node")));
     }
     Ok(())
 }
 
-fn commit(device: &mut Device) -> Result<(), Problem> {
-    device.commit(Noise::from_system()?).map_err(calls::told)
+/// The device, mounted. What the mount has erased is noted.
+fn mounted(file: &ImageFile, done: &mut Vec<String>) -> Result<Device, Problem> {
+    let mut said = Vec::new();
+    let device = calls::mounted(file, &mut said)?;
+    done.extend(String::from_utf8_lossy(&said).lines().map(String::from));
+    Ok(device)
 }
 
 /// How many nodes a file has.
@@ -182,12 +213,30 @@ impl Seen {
         mounted.map_or(Vec::new(), |image| image_file::erased(&self.image, image))
     }
 
+    /// Pages that no call looks at, and of which it cannot be told what is in them: those of keys and commits in
+    /// blocks that are not chosen, and spoilt ones that no cut erase leaves, which begins with FFh.
+    fn pages_in_question(&self) -> Vec<usize> {
+        let Ok(record) = self.record() else { return Vec::new() };
+        let [first, second] = record.key_blocks();
+        let chosen = [first, second, record.commit_block()];
+        let is_other = |(page, form): &(usize, Form)| {
+            !chosen.contains(&(page / PAGES_IN_BLOCK))
+                && matches!(form.header(), Some(Header::Keys { .. } | Header::Commit { .. }))
+        };
+        let others = Form::all(&self.image).enumerate().filter(is_other).map(|(page, _)| page);
+        let spoilt = image_file::spoilt(&self.image).into_iter();
+        let damaged = spoilt.filter(|page| self.image[PAGE * page] != 0xff);
+        let mut pages: Vec<usize> = others.chain(damaged).collect();
+        pages.sort_unstable();
+        pages
+    }
+
     /// The blocks that are not empty, not chosen, and have no live node.
     fn blocks_in_question(&self) -> Vec<usize> {
         let Ok(record) = self.record() else { return Vec::new() };
         let [first, second] = record.key_blocks();
         let mut known = vec![first, second, record.commit_block()];
-        known.extend(record.nodes().map(|node| node.page / johvimaru::PAGES_IN_BLOCK));
+        known.extend(record.nodes().map(|node| node.page / PAGES_IN_BLOCK));
         let blocks = self.image.chunks(BLOCK).enumerate();
         blocks.filter(|(b, bytes)| !known.contains(b) && !is_empty(bytes)).map(|(b, _)| b).collect()
     }

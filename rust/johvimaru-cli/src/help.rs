@@ -146,14 +146,14 @@ mounts it. read, export, list, check, map and diff change nothing.
 Files are 0 to 13. Files 0 and 1 have 32 offsets, 2 and 3 have 24, 4 to 7 have
 16, 8 to 13 have 8.
 
---cut n,k goes with every call that changes the flash: the power fails after n
-whole steps and k bytes of one more. A step programs a page of 256 bytes or
-erases a block of 4,096.
+--cut n,k goes with format, mount, write, cut-off, commit and wipe: the power
+fails after n whole steps and k bytes of one more. A step programs a page of
+256 bytes or erases a block of 4,096.
 
 The exit status is 0 where it is done; 1 where a call is refused, with the
 refusal's number; 2 where the words of the command are not understood; 3 where
-the file or the system does not allow it; 4 where check or handover finds that
-something is left.
+the file, the lines of an import or the system do not allow it; 4 where check
+or handover finds that something is left.
 ";
 
 const FORMAT: &str = "\
@@ -175,6 +175,14 @@ johvimaru mount [--cut n,k] [--image FILE]
 Finds the record from what is on the image alone, and erases the blocks that
 cut calls have left. The other calls do this first, format does not. It has a
 step for each block that it erases.
+
+After a power failure a mount is never refused, whenever it was, unless the
+call that was cut is a format. So 12, 13 and 14 mean one of these:
+- it was never formatted, or a format was cut: `format --force`;
+- the image was read out badly, or another file: read it out again;
+- something else wrote to the chip, or it is worn: keep a copy and look at it
+  with `map`. Without its keys nothing can be read.
+To hand it over nevertheless, with nothing to save: `handover --force`.
 ";
 
 const WRITE: &str = "\
@@ -231,20 +239,24 @@ reports: what was there by file, what is left, the hashes of the image before
 and after, for each key that was there before whether a copy of it is left at
 any byte, and what a reader of the chip can still learn. No content is told.
 The last line says whether the recorder may be handed over; where it may not,
-the exit status is 4, or 1 where a call was refused.
+the exit status is not 0.
 
-With --report the report goes to a file that is not yet there. With --json it
-is JSON. An image that mount refuses, or whose epochs are spent, cannot be
-cleared so; with --force it is formatted, and nothing of it can be kept.
+With --report the report goes to a file that is not yet there; until the
+handover is finished it says that it is not. With --json it is JSON. A file of
+--keep must have a node.
 
-A handover that was stopped is made again from the start, and ends the same.
+An image that mount refuses, or whose epochs do not last for the wipes, is
+left as it is. With --force it is formatted, if any page of a recorder is on
+it, and nothing of it can be kept.
+
+A handover that was stopped is made again. Keep both reports then.
 ";
 
 const EXPORT: &str = "\
 johvimaru export FILE [--text] [--image FILE]
 
 Prints a line for each node of a file: its offset, a tab, and its payload in
-hexadecimal digits. With --text the payload is printed as text, without the
+448 hexadecimal digits. With --text the payload is printed as text, without the
 spaces at its end; a tab, an end of line, a backslash and what is no text are
 printed as \\t, \\n, \\r, \\\\ and \\x with two digits. The image is left as it is.
 ";
@@ -272,7 +284,8 @@ johvimaru check [--json] [--image FILE]
 Mounts a copy and says what is there: the nodes of each file, how many keys
 are used, free and deleted, the next numbers, the pages that writes can still
 take, and the blocks that a mount would erase. It leaves the file as it is.
-The exit status is 4 where keys are deleted or blocks would be erased.
+The exit status is 4 where keys are deleted, blocks would be erased, or pages
+are spoilt.
 ";
 
 const MAP: &str = "\

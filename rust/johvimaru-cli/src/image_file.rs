@@ -3,12 +3,12 @@
 //! A call changes the file step by step, as it would change a chip, so no older copy of it is left anywhere by the
 //! command, and a command that is stopped leaves what a power cut leaves.
 
-use crate::Problem;
-use johvimaru::{FileChip, Refusal, Store, BLOCK, MAX_BLOCKS, MIN_BLOCKS};
+use crate::{say, Problem};
+use johvimaru::{FileChip, Form, Refusal, Store, BLOCK, HEADER, MAX_BLOCKS, MIN_BLOCKS, PAGE};
 use std::ffi::OsString;
 use std::fs::{self, File, OpenOptions, TryLockError};
 use std::io::{self, ErrorKind, Read, Write};
-use std::os::unix::fs::FileExt;
+use std::os::unix::fs::{FileExt, MetadataExt, OpenOptionsExt};
 use std::path::{Path, PathBuf};
 use std::thread;
 use std::time::{Duration, Instant};
@@ -39,14 +39,24 @@ impl ImageFile {
 
     /// Opens a file to change it, or none where there is no file.
     pub fn find(named: &Path) -> Result<Option<ImageFile>, Problem> {
-        if !is_there(named)? {
-            return Ok(None);
+        while is_there(named)? {
+            let opened = OpenOptions::new().read(true).write(true).open(named);
+            let file = opened.map_err(|error| at(named, error))?;
+            wait(named, || file.try_lock(), || file.lock()).map_err(|error| at(named, error))?;
+            let image = ImageFile { named: named.to_path_buf(), file };
+            // Another file may have taken the name while this one was waited for.
+            if image.has_its_name()? {
+                return Ok(Some(image));
+            }
         }
-        let opened = OpenOptions::new().read(true).write(true).open(named);
-        let file = opened.map_err(|error| at(named, error))?;
-        let whose = named.display().to_string();
-        wait(&whose, || file.try_lock(), || file.lock()).map_err(|error| at(named, error))?;
-        Ok(Some(ImageFile { named: named.to_path_buf(), file }))
+        Ok(None)
+    }
+
+    /// Whether its name still leads to it.
+    pub fn has_its_name(&self) -> Result<bool, Problem> {
+        let ours = self.file.metadata().map_err(|error| at(&self.named, error))?;
+        let named = fs::metadata(&self.named).map_err(|error| at(&self.named, error))?;
+        Ok((ours.dev(), ours.ino()) == (named.dev(), named.ino()))
     }
 
     /// How many bytes it has.
@@ -112,8 +122,7 @@ pub fn make(named: &Path, bytes: &[u8]) -> Result<bool, Problem> {
         _ => Path::new("."),
     };
     let folder = File::open(parent).map_err(|error| at(parent, error))?;
-    let whose = parent.display().to_string();
-    wait(&whose, || folder.try_lock(), || folder.lock()).map_err(|error| at(parent, error))?;
+    wait(parent, || folder.try_lock(), || folder.lock()).map_err(|error| at(parent, error))?;
     if is_there(named)? {
         return Ok(false);
     }
@@ -134,14 +143,15 @@ fn put(path: &Path, bytes: &[u8]) -> io::Result<()> {
         Err(error) if error.kind() != ErrorKind::NotFound => return Err(error),
         _ => {}
     }
-    let mut file = OpenOptions::new().write(true).create_new(true).open(path)?;
+    // It will have keys in it, so nobody else may read it.
+    let mut file = OpenOptions::new().write(true).create_new(true).mode(0o600).open(path)?;
     file.write_all(bytes)?;
     file.sync_all()
 }
 
-/// Waits for a lock, and says so where it takes long. Where there are no locks it goes on.
+/// Waits for a lock, and says so where it takes long. Where there are no locks it says that and goes on.
 fn wait(
-    whose: &str,
+    whose: &Path,
     mut now: impl FnMut() -> Result<(), TryLockError>,
     later: impl FnOnce() -> io::Result<()>,
 ) -> io::Result<()> {
@@ -150,6 +160,8 @@ fn wait(
         match now() {
             Ok(()) => return Ok(()),
             Err(TryLockError::Error(error)) if error.kind() == ErrorKind::Unsupported => {
+                let whose = name(whose);
+                say(format!("{whose} cannot be locked; see that no other command works on it"));
                 return Ok(());
             }
             Err(TryLockError::Error(error)) => return Err(error),
@@ -157,7 +169,8 @@ fn wait(
             Err(TryLockError::WouldBlock) => break,
         }
     }
-    eprintln!("johvimaru: another command is at work on {whose}; waiting until it has ended");
+    let whose = name(whose);
+    say(format!("another command is at work on {whose}; waiting until it has ended"));
     later()
 }
 
@@ -165,12 +178,12 @@ fn wait(
 fn is_there(path: &Path) -> Result<bool, Problem> {
     match fs::metadata(path) {
         Err(error) if error.kind() == ErrorKind::NotFound => match fs::symlink_metadata(path) {
-            Ok(_) => Err(Problem::System(format!("{} is a link to nothing", path.display()))),
+            Ok(_) => Err(Problem::System(format!("{} is a link to nothing", name(path)))),
             Err(_) => Ok(false),
         },
         Err(error) => Err(at(path, error)),
         Ok(about) if about.is_file() => Ok(true),
-        Ok(_) => Err(Problem::System(format!("{} is no file", path.display()))),
+        Ok(_) => Err(Problem::System(format!("{} is no file", name(path)))),
     }
 }
 
@@ -181,8 +194,7 @@ pub fn look(path: &Path) -> Result<Vec<u8>, Problem> {
     }
     let read = || {
         let mut file = File::open(path)?;
-        let whose = path.display().to_string();
-        wait(&whose, || file.try_lock_shared(), || file.lock_shared())?;
+        wait(path, || file.try_lock_shared(), || file.lock_shared())?;
         if !is_image_size(file.metadata()?.len()) {
             return Ok(None);
         }
@@ -207,24 +219,38 @@ pub fn mount(path: &Path, image: &[u8]) -> Result<Store<Vec<u8>>, Problem> {
 
 /// A refusal for what is in a file.
 pub fn refused(path: &Path, refusal: Refusal) -> Problem {
-    Problem::RefusedFile(path.display().to_string(), refusal)
+    Problem::RefusedFile(name(path), refusal)
 }
 
 /// What went wrong at a file.
 pub fn at(path: &Path, error: io::Error) -> Problem {
-    Problem::System(format!("{}: {error}", path.display()))
+    Problem::System(format!("{}: {error}", name(path)))
 }
 
 /// There is no file of this name.
 fn not_there(path: &Path) -> Problem {
-    let name = path.display();
-    Problem::System(format!("{name} is not there; `johvimaru format --image {name}` makes one"))
+    let words = "is not there; check the name, or name the image file by --image";
+    Problem::System(format!("{} {words}", name(path)))
+}
+
+/// The name of a file as it can be printed.
+pub fn name(path: &Path) -> String {
+    path.display().to_string().replace(|c: char| c.is_control(), "?")
 }
 
 /// The blocks that are empty in one image and not in the other, which came before.
 pub fn erased(before: &[u8], after: &[u8]) -> Vec<usize> {
     let blocks = before.chunks(BLOCK).zip(after.chunks(BLOCK)).enumerate();
     blocks.filter(|(_, (old, new))| is_empty(new) && !is_empty(old)).map(|(b, _)| b).collect()
+}
+
+/// The spoilt pages of an image that hold more than the beginning of a header: what a cut erase leaves of a page, or
+/// damage.
+pub fn spoilt(image: &[u8]) -> Vec<usize> {
+    let pages = image.as_chunks::<PAGE>().0.iter().enumerate();
+    let is_spoilt =
+        |page: &[u8; PAGE]| Form::of(page) == Form::Spoilt && !is_empty(&page[HEADER..]);
+    pages.filter(|(_, page)| is_spoilt(page)).map(|(number, _)| number).collect()
 }
 
 /// Whether all bytes are FFh.
@@ -234,8 +260,13 @@ pub fn is_empty(bytes: &[u8]) -> bool {
 
 /// Numbers of blocks in words: `block 5`, `blocks 5 6`.
 pub fn blocks_in_words(blocks: &[usize]) -> String {
-    let numbers: Vec<String> = blocks.iter().map(usize::to_string).collect();
-    format!("{} {}", plural(blocks.len(), "block"), numbers.join(" "))
+    numbers_in_words("block", blocks)
+}
+
+/// Numbers behind what they count: `page 5`, `pages 5 6`.
+pub fn numbers_in_words(name: &str, numbers: &[usize]) -> String {
+    let spelt: Vec<String> = numbers.iter().map(usize::to_string).collect();
+    format!("{} {}", plural(numbers.len(), name), spelt.join(" "))
 }
 
 /// A count of things in words: `1 node`, `2 nodes`.

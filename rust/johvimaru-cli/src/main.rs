@@ -56,7 +56,13 @@ impl fmt::Display for Problem {
         match self {
             Problem::Refused(refusal) => write!(f, "refused {}: {refusal}", refusal.number()),
             Problem::RefusedFile(file, refusal) => {
-                write!(f, "{file}: refused {}: {refusal}", refusal.number())
+                write!(f, "{file}: refused {}: {refusal}", refusal.number())?;
+                match refusal {
+                    Refusal::NoKeyBlock | Refusal::NoCommit | Refusal::EntryUnfit => {
+                        f.write_str("; `johvimaru help mount` says what to do")
+                    }
+                    _ => Ok(()),
+                }
             }
             Problem::Explained(refusal, words) => {
                 write!(f, "refused {}: {words}", refusal.number())
@@ -83,32 +89,38 @@ fn main() -> ExitCode {
     let request = match args::parse(&words) {
         Ok(request) => request,
         Err(usage) => {
-            eprintln!("johvimaru: {usage}");
+            say(usage);
             return ExitCode::from(2);
         }
     };
     // All is printed at the end, so that a closed output stops no call.
     let mut text = Vec::new();
+    let all_matters = matches!(request.command, Command::Handover(_));
     let result = run(request, &mut text);
-    let printed = print(&text);
+    let printed = print(&text, all_matters);
     match result.and(printed) {
         Ok(()) => ExitCode::SUCCESS,
         Err(problem) => {
-            eprintln!("johvimaru: {problem}");
+            say(&problem);
             ExitCode::from(problem.status())
         }
     }
 }
 
-/// Prints a text. A reader that has seen enough of it is no problem.
-fn print(text: &[u8]) -> Result<(), Problem> {
+/// Prints a text. A reader that has seen enough of it is no problem, unless all of it matters.
+fn print(text: &[u8], all_matters: bool) -> Result<(), Problem> {
     let mut out = io::stdout().lock();
     match out.write_all(text).and_then(|()| out.flush()) {
-        Err(error) if error.kind() != ErrorKind::BrokenPipe => {
+        Err(error) if all_matters || error.kind() != ErrorKind::BrokenPipe => {
             Err(Problem::System(format!("standard output: {error}")))
         }
         _ => Ok(()),
     }
+}
+
+/// Says something on standard error. Where that takes nothing there is nobody to tell.
+pub fn say(words: impl fmt::Display) {
+    let _ = writeln!(io::stderr(), "johvimaru: {words}");
 }
 
 /// Does what is asked, and prints what it says.

@@ -3,8 +3,8 @@
 use crate::calls::{self, fitting, offset_in};
 use crate::check::pages_left;
 use crate::image_file::{self, counted, ImageFile};
-use crate::Problem;
-use johvimaru::{File, Offset, Payload, Record, Refusal};
+use crate::{say, Problem};
+use johvimaru::{File, Offset, Payload, Record, Refusal, PAYLOAD};
 use std::io::{self, Read, Write};
 use std::path::Path;
 
@@ -39,11 +39,13 @@ fn trimmed(payload: &Payload) -> &[u8] {
 pub fn export(path: &Path, file: u32, text: bool, out: &mut dyn Write) -> Result<(), Problem> {
     let file = File::new(file)?;
     let store = image_file::mount(path, &image_file::look(path)?)?;
-    for node in store.record().nodes().filter(|node| node.at.file() == file) {
+    let nodes: Vec<_> = store.record().nodes().filter(|node| node.at.file() == file).collect();
+    for node in &nodes {
         let payload = store.read(node.at)?;
         let spelt = if text { as_text(trimmed(&payload)) } else { as_digits(&payload) };
         writeln!(out, "{}\t{spelt}", node.at.number())?;
     }
+    say(format!("{} of {file}", counted(nodes.len(), "node")));
     Ok(())
 }
 
@@ -95,6 +97,8 @@ fn parsed(file: File, text: bool, lines: &[u8]) -> Result<Vec<(Offset, Payload)>
         return Ok(nodes);
     }
     for (number, line) in lines.split(|&byte| byte == b'\n').enumerate() {
+        // An editor may have ended the lines so. Export writes no such byte in a line.
+        let line = line.strip_suffix(b"\r").unwrap_or(line);
         let node = node_of(file, text, line).map_err(|problem| in_line(number + 1, problem))?;
         if nodes.iter().any(|(at, _)| *at == node.0) {
             let twice = Problem::System(format!("offset {} stands twice", node.0.number()));
@@ -125,9 +129,10 @@ fn node_of(file: File, text: bool, line: &[u8]) -> Result<(Offset, Payload), Pro
         digits.and_then(|text| text.parse().ok()).ok_or(wrong("the offset is no number"))?;
     let at = offset_in(file.number(), offset)?;
     let bytes = if text { from_text(&payload[1..]) } else { from_digits(&payload[1..]) };
+    let bytes = bytes.filter(|bytes| text || bytes.len() == PAYLOAD);
     let bytes = bytes.ok_or(wrong(match text {
         true => "a backslash stands before what it does not go with",
-        false => "the payload is not in pairs of hexadecimal digits",
+        false => "the payload is not 448 hexadecimal digits; is it text? then give --text",
     }))?;
     Ok((at, fitting(&bytes)?))
 }
@@ -200,7 +205,6 @@ fn from_text(text: &[u8]) -> Option<Vec<u8>> {
 #[cfg(test)]
 mod tests {
     use super::*;
-    use johvimaru::PAYLOAD;
 
     #[test]
     fn payloads_go_to_text_and_back() {
@@ -219,13 +223,21 @@ mod tests {
         let file = File::new(2).unwrap();
         for (text, lines, said) in [
             (false, "0 00", "line 1: there is no tab; nothing was written"),
-            (false, "0\t00\n\n", "line 2: there is no tab; nothing was written"),
+            (true, "0\ta\n\n", "line 2: there is no tab; nothing was written"),
             (false, "x\t00", "line 1: the offset is no number; nothing was written"),
             (false, "+1\t00", "line 1: the offset is no number; nothing was written"),
-            (false, "0\t0", "line 1: the payload is not in pairs of hexadecimal digits; nothing"),
-            (false, "0\t0g", "line 1: the payload is not in pairs of hexadecimal digits; nothing"),
-            (false, "0\t00\n0\t01", "line 2: offset 0 stands twice; nothing was written"),
-            (false, "24\t00", "refused 5: line 1: file 2 has 24 offsets, 0 to 23, and no 24"),
+            (
+                false,
+                "0\t0",
+                "line 1: the payload is not 448 hexadecimal digits; is it text? then give --text",
+            ),
+            (
+                false,
+                "0\t0g",
+                "line 1: the payload is not 448 hexadecimal digits; is it text? then give --text",
+            ),
+            (true, "0\ta\n0\tb", "line 2: offset 0 stands twice; nothing was written"),
+            (true, "24\ta", "refused 5: line 1: file 2 has 24 offsets, 0 to 23, and no 24"),
             (true, "0\ta\\b", "line 1: a backslash stands before what it does not go with"),
             (true, "0\ta\\x4", "line 1: a backslash stands before what it does not go with"),
             (true, "0\ta\\", "line 1: a backslash stands before what it does not go with"),
@@ -237,6 +249,9 @@ mod tests {
         let problem = parsed(file, true, long.as_bytes()).unwrap_err().to_string();
         assert!(problem.starts_with("refused 6: line 1: a payload has at most 224"), "{problem}");
         assert_eq!(parsed(file, true, b"").unwrap(), []);
-        assert_eq!(parsed(file, true, b"3\tx\n").unwrap()[0].0, Offset::new(2, 3).unwrap());
+        for lines in [&b"3\tx\n"[..], b"3\tx\r\n", b"3\tx"] {
+            let expected = (Offset::new(2, 3).unwrap(), johvimaru::payload(b"x").unwrap());
+            assert_eq!(parsed(file, true, lines).unwrap(), [expected]);
+        }
     }
 }

@@ -9,7 +9,7 @@ mod words;
 
 use crate::args::MapOptions;
 use crate::changes::Changes;
-use crate::image_file::at;
+use crate::image_file::{at, name};
 use crate::seen::SeenFile;
 use crate::Problem;
 use cells::{Cells, Marks};
@@ -70,18 +70,20 @@ pub fn run(path: &Path, options: &MapOptions, out: &mut dyn Write) -> Result<(),
     });
     let shown: Vec<Shown> = shown.collect();
     match &options.svg {
-        Some(svg) => put(svg, &svg::svg(&Drawing::of(&shown)), &files)?,
+        Some(svg) => put(svg, &svg::svg(&Drawing::of(&shown)))?,
         None => out.write_all(text(&shown).as_bytes())?,
     }
     files.iter().try_for_each(|(_, file)| file.refused())
 }
 
-/// Writes the SVG file, over no image that is drawn.
-fn put(path: &Path, text: &str, drawn: &[(&str, SeenFile)]) -> Result<(), Problem> {
-    let real = |path: &Path| fs::canonicalize(path).ok();
-    let is = |out| drawn.iter().any(|(_, file)| real(file.path).as_ref() == Some(&out));
-    if real(path).is_some_and(is) {
-        return Err(Problem::System(format!("{} is the image itself", path.display())));
+/// Writes the SVG file, over nothing but another picture.
+fn put(path: &Path, text: &str) -> Result<(), Problem> {
+    match fs::read(path) {
+        Ok(old) if !old.starts_with(b"<svg ") => {
+            let words = "is there already and is no picture; name another file";
+            return Err(Problem::System(format!("{} {words}", name(path))));
+        }
+        _ => {}
     }
     fs::write(path, text).map_err(|error| at(path, error))
 }

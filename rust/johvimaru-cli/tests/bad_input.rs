@@ -154,10 +154,6 @@ fn files_that_are_no_images() {
             match (line, number) {
                 ("list", _) => assert_eq!(ran.printed, format!("{number:6}\n")),
                 ("map", 13) => assert!(ran.printed.contains("mount refuses it, 13"), "{ran:?}"),
-                ("handover", 13) => {
-                    let verdict = "THE RECORDER MUST NOT BE HANDED OVER: recorder.img: refused 13";
-                    assert!(ran.printed.contains(verdict), "{ran:?}");
-                }
                 _ => assert_eq!(ran.printed, "", "{line}"),
             }
             assert!(folder.image() == bytes, "{line}: the file was changed");
@@ -209,7 +205,7 @@ fn a_file_that_is_not_there() {
     {
         let ran = folder.run(line);
         let said = "johvimaru: recorder.img is not there; \
-                    `johvimaru format --image recorder.img` makes one\n";
+                    check the name, or name the image file by --image\n";
         assert_eq!((ran.status, &ran.errors[..], &ran.printed[..]), (3, said, ""), "{line}");
     }
     for line in ["write 14 0 x", "write 0 32 x", "format --blocks 7"] {
@@ -256,4 +252,16 @@ fn standard_output_that_takes_nothing() {
     let errors = String::from_utf8_lossy(&output.stderr);
     assert_eq!(output.status.code(), Some(3), "{errors}");
     assert!(errors.starts_with("johvimaru: ") && !errors.contains("panicked"), "{errors}");
+}
+
+/// Where standard error takes nothing, the status tells.
+#[test]
+fn standard_error_that_takes_nothing() {
+    let folder = Folder::new("full-errors");
+    for (line, status) in [("forget", 2), ("check", 3), ("write 0 0 x", 0), ("read 1 1", 1)] {
+        let full = fs::OpenOptions::new().write(true).open("/dev/full").unwrap();
+        let words: Vec<&str> = line.split(' ').collect();
+        let output = folder.command(&words).stderr(full).output().unwrap();
+        assert_eq!(output.status.code(), Some(status), "{line}");
+    }
 }

@@ -139,7 +139,8 @@ fn what_list_and_check_say_as_json() {
         "  \"next_sequence\": 2,",
         "  \"commit_block\": 2,",
         "  \"pages_left\": 63,",
-        "  \"would_erase\": []",
+        "  \"would_erase\": [],",
+        "  \"spoilt_pages\": []",
     ] {
         assert!(checked.lines().any(|printed| printed == line), "{line}\n{checked}");
     }
@@ -272,7 +273,9 @@ fn a_mount_that_is_cut_and_mounted_again() {
     let cut = Store::mount_cut(image, Cut { n: 0, k: 5 }).unwrap();
     assert!(folder.image() == cut.image());
     assert_eq!(folder.done("mount"), "mount: erased block 3, no part of the store\n");
-    assert_eq!(folder.done("mount --cut 0,5"), "mounted: nothing to erase\n");
+    let late =
+        "mounted: nothing to erase\nthe call was done before the cut: it has 0 whole steps\n";
+    assert_eq!(folder.done("mount --cut 0,5"), late);
 }
 
 /// A call mounts first, and what that erases is erased even if the call is then refused. Where the arguments alone

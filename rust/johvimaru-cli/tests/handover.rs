@@ -57,8 +57,9 @@ fn every_state_is_cleared() {
         folder.put("recorder.img", &before);
         let old = keys(&Store::mount(before).unwrap());
         let report = folder.done("handover");
-        let verdict = "The recorder may be handed over: no file is on it, and no old key.\n";
-        assert!(report.ends_with(verdict), "case {case}: {report}");
+        let verdict = "The recorder may be handed over with this image on its chip: recorder.img, ";
+        assert!(report.lines().last().unwrap().starts_with(verdict), "case {case}: {report}");
+        assert!(report.ends_with(" blocks; no file is on it, and no old key.\n"), "case {case}");
         let after = folder.image();
         assert!(old.iter().all(|key| !holds(&after, key)), "case {case}");
         let full = after.chunks(BLOCK).filter(|block| block.iter().any(|&byte| byte != 0xff));
@@ -79,9 +80,16 @@ fn kept_files_stay() {
         let before = image(&mut numbers);
         folder.put("recorder.img", &before);
         let old = Store::mount(before).unwrap();
-        folder.done("handover --keep 3,0,3");
+        let has_nodes =
+            |file: &u32| old.record().nodes().any(|node| node.at.file().number() == *file);
+        let keep: Vec<u32> = [3, 0, 3].into_iter().filter(has_nodes).collect();
+        let words: Vec<String> = keep.iter().map(u32::to_string).collect();
+        folder.done(&match &words[..] {
+            [] => "handover".into(),
+            words => format!("handover --keep {}", words.join(",")),
+        });
         let new = Store::mount(folder.image()).unwrap();
-        let is_kept = |at: Offset| [0, 3].contains(&at.file().number());
+        let is_kept = |at: Offset| keep.contains(&at.file().number());
         for at in Offset::all() {
             let expected = if is_kept(at) { old.read(at).ok() } else { None };
             assert_eq!(new.read(at).ok(), expected, "case {case}: {at}");
@@ -97,6 +105,10 @@ fn kept_files_stay() {
     assert!(kept_nodes > 20, "{kept_nodes} nodes were kept");
 }
 
+/// What is said of the recorder whose report is looked at.
+const VERDICT: &str = "The recorder may be handed over with this image on its chip: recorder.img, \
+                       8 blocks; file 3 is kept on it, and no old key but theirs.";
+
 #[test]
 fn the_report_as_text() {
     let folder = Folder::new("handover-text");
@@ -107,7 +119,7 @@ fn the_report_as_text() {
     folder.done("wipe 0 0 --cut 20,100");
     assert_eq!(
         folder.done("handover --keep 3 --report out.txt"),
-        "report: out.txt\nThe recorder may be handed over, with file 3 on it.\n"
+        format!("report: out.txt\n{VERDICT}\n")
     );
     let report = String::from_utf8(folder.bytes("out.txt")).unwrap();
     let mut lines: Vec<&str> = report.lines().collect();
@@ -126,7 +138,7 @@ Before
 
 Done
   mount: erased block 2, no part of the store
-  committed: no file had a node to wipe
+  committed: every file that has a node is kept
 
 After
   (hash)
@@ -145,8 +157,9 @@ What a reader of the chip can still learn
   file 3: the content of 1 node, whose keys are on the chip
   3 headers beside live nodes: file, offset and sequence of what was removed, no content
 
-The recorder may be handed over, with file 3 on it.";
-    assert_eq!(lines[2..].join("\n"), expected);
+Recorder ______________  Handed over by ______________  Taken over by ______________
+";
+    assert_eq!(lines[2..].join("\n"), format!("{expected}\n{VERDICT}"));
 }
 
 /// The hashes are those that anybody reckons of the file.
@@ -192,46 +205,88 @@ fn an_image_that_cannot_be_mounted() {
     let key = image[30..30 + KEY].to_vec();
     image[2 * BLOCK] = b'X';
     folder.put("recorder.img", &image);
-    for line in ["handover", "handover --keep 0 --force"] {
+    for line in ["handover", "handover --keep 0 --force", "handover --report out.txt"] {
         let ran = folder.run(line);
-        assert_eq!(ran.status, 1, "{line}");
-        let verdict = ran.printed.lines().last().unwrap();
-        assert!(verdict.starts_with("THE RECORDER MUST NOT BE HANDED OVER: "), "{}", ran.printed);
+        assert_eq!((ran.status, &ran.printed[..]), (1, ""), "{line}");
         assert!(ran.errors.contains("refused 13"), "{}", ran.errors);
+        assert!(ran.errors.ends_with("; `johvimaru help mount` says what to do\n"));
         assert!(folder.image() == image, "{line}");
     }
     folder.done("handover --force");
     assert!(!holds(&folder.image(), &key));
     assert_eq!(folder.run("check").status, 0);
+    assert_eq!(folder.names(), ["recorder.img"]);
+}
+
+/// With --force too, only what has pages of a recorder on it is formatted.
+#[test]
+fn what_is_no_recorder() {
+    let folder = Folder::new("handover-other");
+    for bytes in [vec![0xff; 8 * BLOCK], vec![0; 8 * BLOCK], vec![b'x'; 32 * BLOCK]] {
+        folder.put("recorder.img", &bytes);
+        assert_eq!(folder.run("handover --force").status, 1);
+        assert!(folder.image() == bytes);
+    }
     folder.put("recorder.img", b"a letter");
     assert_eq!(folder.run("handover --force").status, 1);
     assert_eq!(folder.image(), b"a letter");
 }
 
-/// Where the epochs are spent the recorder cannot be cleared by wipes, and the command says so.
+/// A file that is to be kept and has no node was mistyped: nothing is changed.
+#[test]
+fn a_file_without_a_node_cannot_be_kept() {
+    let folder = Folder::new("handover-nothing-kept");
+    folder.done("format --blocks 8");
+    folder.done("write 3 0 x");
+    let before = folder.image();
+    for line in ["handover --keep 4", "handover --keep 3,4 --force --report out.txt"] {
+        let ran = folder.run(line);
+        let said = "johvimaru: refused 8: file 4 has no node to keep; nothing was changed\n";
+        assert_eq!((ran.status, &ran.errors[..]), (1, said), "{line}");
+        assert!(folder.image() == before, "{line}");
+    }
+    assert_eq!(folder.names(), ["recorder.img"]);
+}
+
+/// An image whose next epoch is this one.
+fn with_epoch(epoch: u32) -> Vec<u8> {
+    let mut store = Store::format(vec![0; 8 * BLOCK], noise(1)).unwrap();
+    for file in [0, 1, 3] {
+        store.write(at(file, 0), &payload(b"x").unwrap()).unwrap();
+    }
+    let mut image = store.into_image();
+    for page in image.chunks_mut(256).filter(|page| matches!(page[0], b'K' | b'C')) {
+        page[1..9].copy_from_slice(format!("{:8}", epoch - 1).as_bytes());
+    }
+    assert_eq!(Store::mount(image.clone()).unwrap().record().next_epoch(), epoch);
+    image
+}
+
+/// Where the epochs do not last for all wipes nothing is wiped, and the command says what to do.
 #[test]
 fn epochs_that_are_spent() {
     let folder = Folder::new("handover-spent");
-    let mut store = Store::format(vec![0; 8 * BLOCK], noise(1)).unwrap();
-    store.write(at(0, 0), &payload(b"x").unwrap()).unwrap();
-    let mut image = store.into_image();
-    for page in image.chunks_mut(256).take(48) {
-        if matches!(page[0], b'K' | b'C') {
-            page[1..9].copy_from_slice(b"99999999");
-        }
+    for (epoch, keep, needed) in
+        [(100_000_000, "", 6), (99_999_995, "", 6), (99_999_997, " --keep 0", 4)]
+    {
+        let image = with_epoch(epoch);
+        folder.put("recorder.img", &image);
+        let ran = folder.run(&format!("handover{keep}"));
+        let said = format!(
+            "johvimaru: refused 11: this takes {needed} epochs, and {} are left; nothing was \
+             changed; export what is needed, then `handover --force` formats the image\n",
+            100_000_000 - epoch
+        );
+        assert_eq!((ran.status, ran.errors), (1, said));
+        assert!(folder.image() == image);
     }
-    folder.put("recorder.img", &image);
-    assert_eq!(Store::mount(image.clone()).unwrap().record().next_epoch(), 100_000_000);
-    let ran = folder.run("handover");
-    assert_eq!(ran.status, 1);
-    assert!(ran.errors.starts_with("johvimaru: refused 11: "), "{}", ran.errors);
-    assert!(ran.printed.contains("THE RECORDER MUST NOT BE HANDED OVER: refused 11: "));
-    assert!(ran.printed.contains("file 0 still has 1 node"), "{}", ran.printed);
-    assert!(folder.image() == image);
     folder.done("handover --force");
     assert!(folder
         .done("check")
         .starts_with("recorder.img: 8 blocks, 32768 bytes\nlive nodes: 0\n"));
+    folder.put("recorder.img", &with_epoch(99_999_994));
+    folder.done("handover");
+    assert!(folder.done("check").contains("\nnext sequence 4, next epoch 100000000\n"));
 }
 
 /// Keys that are alike by value are told as left: the search goes by bytes.
@@ -252,12 +307,87 @@ fn a_key_that_is_found_again_is_told() {
     folder.put("recorder.img", &image);
     let ran = folder.run("handover --keep 1");
     assert_eq!(ran.status, 4, "{}", ran.printed);
-    assert!(ran.printed.contains("  position 224: STILL THERE\n"), "{}", ran.printed);
-    assert!(ran.printed.contains("MUST NOT BE HANDED OVER: 1 old key still on the image."));
+    assert!(ran.printed.contains("  position 224: STILL THERE, page 49\n"), "{}", ran.printed);
+    let verdict = "THE RECORDER MUST NOT BE HANDED OVER: recorder.img, 8 blocks: 1 old key still";
+    assert!(ran.printed.contains(verdict), "{}", ran.printed);
     assert!(folder.done("handover").contains("positions 0-447: no copy at any byte"));
 }
 
-/// The report goes to a new file only, and is not left behind empty.
+/// A page of keys that is damaged and stands beside a kept node is told each time, since no call looks at it.
+#[test]
+fn a_damaged_page_beside_a_kept_node() {
+    let folder = Folder::new("handover-damaged");
+    folder.done("format --blocks 8");
+    folder.done("write 3 0 kept");
+    folder.done("write 0 0 secret");
+    let image = folder.image();
+    for (header, what) in [(b'J', "damaged"), (b'K', "whole")] {
+        let mut image = image.clone();
+        image.copy_within(0..256, 60 * 256);
+        image[60 * 256] = header;
+        folder.put("recorder.img", &image);
+        for run in 0..2 {
+            let ran = folder.run("handover --keep 3");
+            assert_eq!(ran.status, 4, "{what}, {run}: {}", ran.printed);
+            let fault = "no node is on page 60, and something is";
+            assert!(ran.printed.contains(fault), "{what}, {run}: {}", ran.printed);
+        }
+        folder.done("handover");
+    }
+}
+
+/// What a cut erase of a dead block leaves is no damage, where a kept node comes onto that block.
+#[test]
+fn a_cut_erase_beside_a_kept_node() {
+    let mut store = Store::format(vec![0; 8 * BLOCK], noise(1)).unwrap();
+    for offset in 0..10 {
+        store.write(at(0, offset), &payload(b"old").unwrap()).unwrap();
+    }
+    store.cut_off(at(0, 0)).unwrap();
+    let cut = Cut { n: 45, k: 600 };
+    let mut store = store.commit_cut(noise(2), cut).unwrap().mounted().unwrap();
+    store.write(at(3, 0), &payload(b"kept").unwrap()).unwrap();
+    let node = store.record().node(at(3, 0)).unwrap();
+    assert_eq!((node.page, Form::all(store.image()).nth(50)), (59, Some(Form::Spoilt)));
+    let folder = Folder::new("handover-erased");
+    folder.put("recorder.img", store.image());
+    let ran = folder.run("check");
+    assert_eq!(ran.status, 4);
+    assert!(
+        ran.printed.ends_with("spoilt, by a cut erase or by damage: page 50\n"),
+        "{}",
+        ran.printed
+    );
+    folder.done("handover --keep 3");
+    assert_eq!(folder.done("read 3 0"), "kept\n");
+}
+
+/// The report is there before anything is changed, and says that the handover is not finished until it is.
+#[test]
+fn a_report_of_a_handover_that_failed() {
+    let folder = Folder::new("handover-stopped");
+    folder.done("format --blocks 64");
+    for file in 0..14 {
+        folder.done(&format!("write {file} 0 x"));
+    }
+    // Files may not grow beyond the first block, so that the first step fails.
+    let binary = env!("CARGO_BIN_EXE_johvimaru");
+    let script = format!("trap '' XFSZ; ulimit -f 8; exec {binary} handover --report out.txt");
+    let mut shell = std::process::Command::new("sh");
+    let output = shell.args(["-c", &script]).current_dir(&folder.path).output().unwrap();
+    let errors = String::from_utf8_lossy(&output.stderr);
+    assert_eq!((output.status.code(), &output.stdout[..]), (Some(3), &b""[..]), "{errors}");
+    let said = "johvimaru: THE RECORDER MUST NOT BE HANDED OVER: it was not cleared: ";
+    assert!(errors.starts_with(said), "{errors}");
+    let report = String::from_utf8(folder.bytes("out.txt")).unwrap();
+    assert!(report.contains("\n  file 0: 1 node\n"), "{report}");
+    let verdict = "THE RECORDER MUST NOT BE HANDED OVER: recorder.img, 64 blocks: \
+                   the handover was not finished; make it again.\n";
+    assert!(report.ends_with(verdict), "{report}");
+    folder.done("handover --report again.txt");
+}
+
+/// The report goes to a new file only, and where it cannot be written nothing is changed.
 #[test]
 fn where_a_report_goes() {
     let folder = Folder::new("handover-report");
@@ -272,7 +402,12 @@ fn where_a_report_goes() {
         assert!(folder.image() == before && folder.bytes("old.txt") == b"an older report");
     }
     assert_eq!(folder.run("handover --report nowhere/x.txt").status, 3);
+    let ran = folder.run("handover --report /dev/full");
+    assert_eq!((ran.status, &ran.printed[..]), (3, ""));
     assert_eq!(folder.run("handover --keep 14 --report x.txt").status, 1);
     assert_eq!(folder.run("handover --image none.img --report x.txt").status, 3);
     assert_eq!(folder.names(), ["old.txt", "recorder.img"]);
+    let full = std::fs::OpenOptions::new().write(true).open("/dev/full").unwrap();
+    let output = folder.command(&["handover"]).stdout(full).output().unwrap();
+    assert_eq!(output.status.code(), Some(3), "the report is lost");
 }

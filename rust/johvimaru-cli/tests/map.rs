@@ -300,7 +300,8 @@ fn an_image_that_mount_refuses() {
     image[2 * BLOCK] = b'X';
     folder.put("recorder.img", &image);
     let ran = folder.run("map");
-    let told = "johvimaru: recorder.img: refused 13: there is no whole commit block on the image\n";
+    let told = "johvimaru: recorder.img: refused 13: there is no whole commit block on the image; \
+                `johvimaru help mount` says what to do\n";
     assert_eq!((ran.status, &ran.errors[..]), (1, told));
     assert!(ran.printed.contains("   3  n n n n / t ? . ."), "{}", ran.printed);
     assert!(ran.printed.contains("mount refuses it, 13; drawn by form"), "{}", ran.printed);
@@ -529,11 +530,17 @@ fn files_that_cannot_be_used() {
     assert!(ran.errors.starts_with("johvimaru: nowhere/out.svg: "), "{}", ran.errors);
     let before = folder.bytes("a.img");
     symlink("a.img", folder.path.join("link.svg")).unwrap();
-    let ran = folder.run("map --image a.img --svg link.svg");
-    let told = "johvimaru: link.svg is the image itself\n";
-    assert_eq!((ran.status, &ran.errors[..]), (3, told));
-    assert!(folder.bytes("a.img") == before);
-    assert_eq!(folder.names(), ["a.img", "link.svg"]);
+    fs::hard_link(folder.path.join("a.img"), folder.path.join("name.svg")).unwrap();
+    for name in ["link.svg", "name.svg"] {
+        let ran = folder.run(&format!("map --image a.img --svg {name}"));
+        let words = "is there already and is no picture; name another file";
+        assert_eq!((ran.status, ran.errors), (3, format!("johvimaru: {name} {words}\n")));
+        assert!(folder.bytes("a.img") == before);
+    }
+    for _ in 0..2 {
+        folder.done("map --image a.img --svg new.svg");
+    }
+    assert_eq!(folder.names(), ["a.img", "link.svg", "name.svg", "new.svg"]);
 }
 
 /// The README's picture is what its script makes.

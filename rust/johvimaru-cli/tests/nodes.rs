@@ -21,7 +21,11 @@ fn an_export_line_by_line() {
     let seven: String = b"seven".iter().map(|byte| format!("{byte:02x}")).collect();
     let line = format!("7\t{seven}{}\n", "20".repeat(219));
     assert_eq!(folder.done("export 0").split_inclusive('\n').nth(1), Some(&line[..]));
-    assert_eq!(folder.done("export 13"), "");
+    let ran = folder.run("export 13");
+    assert_eq!(
+        (ran.status, &ran.printed[..], &ran.errors[..]),
+        (0, "", "johvimaru: 0 nodes of file 13\n")
+    );
 }
 
 /// What was exported and is imported on another recorder reads the same, byte for byte, in both forms.
@@ -56,7 +60,12 @@ fn an_import_is_tested_before_it_begins() {
     let before = folder.image();
     for (line, input, status, said) in [
         ("import 0 --text", "0\ta\n1 b\n", 3, "line 2: there is no tab; nothing was written"),
-        ("import 0", "0\tzz\n", 3, "line 1: the payload is not in pairs of hexadecimal digits"),
+        (
+            "import 0",
+            "0\tbeef\n",
+            3,
+            "line 1: the payload is not 448 hexadecimal digits; is it text?",
+        ),
         (
             "import 0 --text",
             "0\ta\n32\tb\n",

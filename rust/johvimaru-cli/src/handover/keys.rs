@@ -20,6 +20,8 @@ pub struct Found {
     pub position: Option<usize>,
     /// At how many bytes of the other image it begins.
     pub copies: usize,
+    /// The first of them.
+    pub first: Option<usize>,
 }
 
 /// A search for the keys of an image.
@@ -37,14 +39,19 @@ impl Search {
 
     /// Looks for the keys at every byte of an image.
     pub fn through(self, image: &[u8]) -> Vec<Found> {
-        let mut copies: HashMap<Bytes, usize> = HashMap::new();
-        copies.extend(self.keys.iter().map(|(_, bytes)| (*bytes, 0)));
-        for window in image.windows(KEY) {
-            if let Some(count) = copies.get_mut(window) {
+        let mut copies: HashMap<Bytes, (usize, Option<usize>)> = HashMap::new();
+        copies.extend(self.keys.iter().map(|(_, bytes)| (*bytes, (0, None))));
+        for (at, window) in image.windows(KEY).enumerate() {
+            if let Some((count, first)) = copies.get_mut(window) {
                 *count += 1;
+                first.get_or_insert(at);
             }
         }
-        self.keys.iter().map(|(key, bytes)| Found { copies: copies[bytes], ..*key }).collect()
+        let found = |(key, bytes): &(Found, Bytes)| {
+            let (copies, first) = copies[bytes];
+            Found { copies, first, ..*key }
+        };
+        self.keys.iter().map(found).collect()
     }
 }
 
@@ -91,7 +98,7 @@ fn slots(image: &[u8], page: usize, form: Form) -> impl Iterator<Item = (Found, 
             _ => None,
         };
         let bytes = at(image, PAGE * page + HEADER + KEY * slot);
-        (Found { page, slot, position, copies: 0 }, bytes)
+        (Found { page, slot, position, copies: 0, first: None }, bytes)
     })
 }
 

@@ -3,62 +3,97 @@
 use super::keys::Found;
 use super::{changed, search};
 use crate::changes::listed;
-use crate::image_file::{blocks_in_words, counted};
+use crate::image_file::{self, blocks_in_words, counted, numbers_in_words};
 use crate::json::Json;
 use crate::seen::Seen;
-use johvimaru::{File, Record, BLOCK, PAGES_IN_BLOCK};
+use crate::Problem;
+use johvimaru::{File, Record, BLOCK, PAGE, PAGES_IN_BLOCK};
 use std::time::{SystemTime, UNIX_EPOCH};
+
+/// Where those sign who hand over and take over.
+const SIGNATURES: &str = "\
+Recorder ______________  Handed over by ______________  Taken over by ______________";
 
 /// What a handover found, did and left.
 pub struct Report {
     image: String,
     made: String,
     keep: Vec<File>,
-    done: Vec<String>,
     before: Seen,
-    after: Seen,
-    /// The keys that were there before and are of no kept node.
-    keys: Vec<Found>,
-    /// How many keys are of kept nodes.
-    kept_keys: usize,
+    /// What was done, in words.
+    pub done: Vec<String>,
+    /// The image after it, and what is left of old keys; none before it is finished.
+    after: Option<After>,
     /// What must not be, in words.
     pub faults: Vec<String>,
 }
 
+/// What a finished handover left.
+struct After {
+    seen: Seen,
+    /// The keys that were there before and are of no kept node.
+    keys: Vec<Found>,
+    /// How many keys are of kept nodes.
+    kept_keys: usize,
+}
+
 impl Report {
-    /// Looks at the image before and after.
-    pub fn new(
-        image: String,
-        keep: &[File],
-        done: Vec<String>,
-        before: Seen,
-        after: Seen,
-    ) -> Report {
-        let (keys, kept_keys) = search(&before, &after, keep);
-        let faults = faults(&before, &after, keep, &keys);
-        let (made, keep) = (now(), keep.to_vec());
-        Report { image, made, keep, done, before, after, keys, kept_keys, faults }
+    /// A handover that is not finished.
+    pub fn begun(image: String, keep: &[File], before: Seen) -> Report {
+        let faults = vec!["the handover was not finished; make it again".into()];
+        Report {
+            image,
+            made: now(),
+            keep: keep.to_vec(),
+            before,
+            done: vec![],
+            after: None,
+            faults,
+        }
+    }
+
+    /// Looks at the image after it. The name may lead to another file by then, or a call may have been refused.
+    pub fn finish(&mut self, seen: Seen, is_named: bool, refused: Option<&Problem>) {
+        let (keys, kept_keys) = search(&self.before, &seen, &self.keep);
+        self.faults = faults(&self.before, &seen, &self.keep, &keys);
+        if !is_named {
+            self.faults.insert(0, "the name leads to another file now".into());
+        }
+        if let Some(problem) = refused {
+            self.faults.insert(0, problem.to_string());
+        }
+        self.after = Some(After { seen, keys, kept_keys });
     }
 
     /// Whether the recorder may be handed over.
     pub fn verdict(&self) -> String {
-        let kept = self.after.files();
-        match (&self.faults[..], &kept[..]) {
-            ([], []) => "The recorder may be handed over: no file is on it, and no old key.".into(),
-            ([], _) => {
-                let names: Vec<String> = kept.iter().map(|(file, _)| file.to_string()).collect();
-                format!("The recorder may be handed over, with {} on it.", names.join(", "))
-            }
-            (faults, _) => {
-                format!("THE RECORDER MUST NOT BE HANDED OVER: {}.", faults.join("; "))
-            }
+        let image = format!("{}, {} blocks", self.image, self.before.image.len() / BLOCK);
+        if !self.faults.is_empty() {
+            let faults = self.faults.join("; ");
+            return format!("THE RECORDER MUST NOT BE HANDED OVER: {image}: {faults}.");
+        }
+        let files = self.after.as_ref().map_or(Vec::new(), |after| after.seen.files());
+        let names: Vec<String> = files.iter().map(|(file, _)| file.to_string()).collect();
+        let what = match &names[..] {
+            [] => "no file is on it, and no old key".into(),
+            names => format!("{} is kept on it, and no old key but theirs", names.join(", ")),
+        };
+        format!("The recorder may be handed over with this image on its chip: {image}; {what}.")
+    }
+
+    /// The report in one of its forms.
+    pub fn spelt(&self, json: bool) -> String {
+        if json {
+            format!("{}\n", self.json())
+        } else {
+            self.text()
         }
     }
 
     // ---- As text
 
     /// The report as lines.
-    pub fn text(&self) -> String {
+    fn text(&self) -> String {
         let mut lines = vec![
             format!("Handover of {}, {}", self.image, self.made),
             format!("by johvimaru {}", env!("CARGO_PKG_VERSION")),
@@ -70,12 +105,15 @@ impl Report {
         if self.done.is_empty() {
             lines.push("  nothing".into());
         }
-        lines.push("\nAfter".into());
-        lines.extend(self.side(&self.after));
-        lines.push("\nOld keys".into());
-        lines.extend(self.old_keys());
-        lines.push("\nWhat a reader of the chip can still learn".into());
-        lines.extend(self.learned());
+        if let Some(after) = &self.after {
+            lines.push("\nAfter".into());
+            lines.extend(self.side(&after.seen));
+            lines.push("\nOld keys".into());
+            lines.extend(after.old_keys());
+            lines.push("\nWhat a reader of the chip can still learn".into());
+            lines.extend(after.learned().iter().map(|line| format!("  {line}")));
+            lines.push(format!("\n{SIGNATURES}"));
+        }
         lines.push(format!("\n{}\n", self.verdict()));
         lines.join("\n")
     }
@@ -101,9 +139,38 @@ impl Report {
         if !side.strays().is_empty() {
             lines.push(format!("  left by a cut call: {}", blocks_in_words(&side.strays())));
         }
+        let spoilt = image_file::spoilt(&side.image);
+        if !spoilt.is_empty() {
+            lines.push(format!("  spoilt: {}", numbers_in_words("page", &spoilt)));
+        }
         lines
     }
 
+    // ---- As JSON
+
+    /// The report as JSON.
+    fn json(&self) -> Json {
+        let after = self.after.as_ref();
+        let keys = |after: &After| Json::List(after.keys.iter().map(key_json).collect());
+        Json::Object(vec![
+            ("image", self.image.as_str().into()),
+            ("made", self.made.as_str().into()),
+            ("version", env!("CARGO_PKG_VERSION").into()),
+            ("kept", Json::numbers(self.keep.iter().map(|file| file.number() as usize))),
+            ("before", side_json(&self.before)),
+            ("done", texts(&self.done)),
+            ("after", after.map_or(Json::Null, |after| side_json(&after.seen))),
+            ("keys_of_kept_nodes", after.map_or(Json::Null, |after| after.kept_keys.into())),
+            ("old_keys", after.map_or(Json::Null, keys)),
+            ("can_be_learned", after.map_or(Json::Null, |after| texts(&after.learned()))),
+            ("faults", texts(&self.faults)),
+            ("may_be_handed_over", self.faults.is_empty().into()),
+            ("verdict", self.verdict().into()),
+        ])
+    }
+}
+
+impl After {
     fn old_keys(&self) -> Vec<String> {
         let total = counted(self.keys.len() + self.kept_keys, "key");
         let mut lines = vec![format!("  on the image before: {total}")];
@@ -118,14 +185,14 @@ impl Report {
             positions
         };
         let (gone, left) = (in_slots(false), in_slots(true));
-        for (positions, what) in [(gone, "no copy at any byte"), (left, "STILL THERE")] {
+        for (positions, what) in [(gone, "no copy at any byte".into()), (left, self.where_left())] {
             if !positions.is_empty() {
                 lines.push(format!("  {}: {what}", listed("position", &positions)));
             }
         }
         let torn = self.keys.iter().filter(|key| key.position.is_none());
         let (gone, left): (Vec<&Found>, Vec<&Found>) = torn.partition(|key| key.copies == 0);
-        for (keys, what) in [(gone, "no copy at any byte"), (left, "STILL THERE")] {
+        for (keys, what) in [(gone, "no copy at any byte".into()), (left, self.where_left())] {
             if !keys.is_empty() {
                 lines.push(format!("  on pages without a header, {}: {what}", keys.len()));
             }
@@ -133,50 +200,38 @@ impl Report {
         lines
     }
 
+    /// The pages on which old keys are.
+    fn where_left(&self) -> String {
+        let mut pages: Vec<usize> =
+            self.keys.iter().filter_map(|key| Some(key.first? / PAGE)).collect();
+        pages.sort_unstable();
+        pages.dedup();
+        format!("STILL THERE, {}", listed("page", &pages))
+    }
+
     /// What the image tells whoever reads it.
     fn learned(&self) -> Vec<String> {
-        let Ok(record) = self.after.record() else {
-            return vec!["  all that is on it: it is not cleared".into()];
+        let Ok(record) = self.seen.record() else {
+            return vec!["all that is on it: it is not cleared".into()];
         };
         let mut lines = numbers_tell(record);
-        for (file, nodes) in self.after.files() {
+        for (file, nodes) in self.seen.files() {
             let nodes = counted(nodes, "node");
-            lines.push(format!("  {file}: the content of {nodes}, whose keys are on the chip"));
+            lines.push(format!("{file}: the content of {nodes}, whose keys are on the chip"));
         }
-        let dead = self.after.dead_headers();
+        let dead = self.seen.dead_headers();
         if dead > 0 {
             lines.push(format!(
-                "  {} beside live nodes: file, offset and sequence of what was removed, no content",
+                "{} beside live nodes: file, offset and sequence of what was removed, no content",
                 counted(dead, "header")
             ));
         }
         lines
     }
-
-    // ---- As JSON
-
-    /// The report as JSON.
-    pub fn json(&self) -> Json {
-        Json::Object(vec![
-            ("image", self.image.as_str().into()),
-            ("made", self.made.as_str().into()),
-            ("version", env!("CARGO_PKG_VERSION").into()),
-            ("kept", Json::numbers(self.keep.iter().map(|file| file.number() as usize))),
-            ("before", side_json(&self.before)),
-            ("done", texts(&self.done)),
-            ("after", side_json(&self.after)),
-            ("keys_of_kept_nodes", self.kept_keys.into()),
-            ("old_keys", Json::List(self.keys.iter().map(key_json).collect())),
-            ("can_be_learned", texts(&self.learned())),
-            ("faults", texts(&self.faults)),
-            ("may_be_handed_over", self.faults.is_empty().into()),
-            ("verdict", self.verdict().into()),
-        ])
-    }
 }
 
 fn texts(lines: &[String]) -> Json {
-    Json::List(lines.iter().map(|line| line.trim().into()).collect())
+    Json::List(lines.iter().map(|line| line.as_str().into()).collect())
 }
 
 fn side_json(side: &Seen) -> Json {
@@ -194,6 +249,7 @@ fn side_json(side: &Seen) -> Json {
         ("next_sequence", number(Record::next_sequence)),
         ("next_epoch", number(Record::next_epoch)),
         ("left_by_a_cut_call", Json::numbers(side.strays())),
+        ("spoilt_pages", Json::numbers(image_file::spoilt(&side.image))),
     ])
 }
 
@@ -227,6 +283,11 @@ fn faults(before: &Seen, after: &Seen, keep: &[File], keys: &[Found]) -> Vec<Str
     if !blocks.is_empty() {
         faults.push(format!("{} not erased", blocks_in_words(&blocks)));
     }
+    let pages = after.pages_in_question();
+    if !pages.is_empty() {
+        faults
+            .push(format!("no node is on {}, and something is", numbers_in_words("page", &pages)));
+    }
     let left = keys.iter().filter(|key| key.copies > 0).count();
     if left > 0 {
         faults.push(format!("{} still on the image", counted(left, "old key")));
@@ -240,15 +301,15 @@ fn numbers_tell(record: &Record) -> Vec<String> {
     let [keys_0, keys_1] = record.key_blocks();
     vec![
         format!(
-            "  next sequence {sequence}: {} since the format, written or cut off",
+            "next sequence {sequence}: {} since the format, written or cut off",
             counted(sequence as usize - 1, "page")
         ),
         format!(
-            "  next epoch {epoch}: {} since the format, one for a commit, two for a wipe",
+            "next epoch {epoch}: {} since the format, one for a commit, two for a wipe",
             counted((epoch as usize).saturating_sub(2), "epoch")
         ),
         format!(
-            "  keys in blocks {keys_0} and {keys_1}, commit in {}: something of how blocks were used",
+            "keys in blocks {keys_0} and {keys_1}, commit in {}: something of how blocks were used",
             record.commit_block()
         ),
     ]

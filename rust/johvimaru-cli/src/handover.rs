@@ -22,20 +22,34 @@ use std::path::Path;
 /// The first number that is no epoch.
 const EPOCHS_END: u32 = 100_000_000;
 
-/// Hands a recorder over, and reports. Where anything is left, that is a problem.
+/// Hands a recorder over, and reports. Where anything is left, or nothing could be done, that is said loudly.
 pub fn run(path: &Path, options: &Handover, out: &mut dyn Write) -> Result<(), Problem> {
     let keep = kept_files(&options.keep)?;
+    let result = hand_over(path, &keep, options, out);
+    match &result {
+        // The report has said so.
+        Ok(()) | Err(Problem::Leftovers(_) | Problem::Refused(_)) => {}
+        Err(problem) => out.write_all(report::not_done(problem, options.json).as_bytes())?,
+    }
+    result
+}
+
+fn hand_over(
+    path: &Path,
+    keep: &[File],
+    options: &Handover,
+    out: &mut dyn Write,
+) -> Result<(), Problem> {
     let file = ImageFile::open(path)?;
     let before = Seen::of(file.bytes()?);
-    let way = Way::of(&file, &before, &keep, options.force)?;
+    let way = Way::of(&file, &before, keep, options.force)?;
     // A report that says "not finished" is on the disk before anything is changed.
     let paper = Paper::new(options)?;
-    let mut report = Report::begun(name(path), &keep, before);
+    let mut report = Report::begun(name(path), keep, before);
     paper.write(&report)?;
-    let ended = way.go(&file, &keep, &mut report.done);
+    let ended = way.go(&file, keep, &mut report.done);
     if let Err(Problem::System(words)) = ended {
-        let words = format!("THE RECORDER MUST NOT BE HANDED OVER: it was not cleared: {words}");
-        return Err(Problem::System(words));
+        return Err(Problem::System(format!("not finished: {words}")));
     }
     report.finish(Seen::of(file.bytes()?), file.has_its_name()?, ended.as_ref().err());
     paper.write(&report)?;

@@ -154,6 +154,10 @@ fn files_that_are_no_images() {
             match (line, number) {
                 ("list", _) => assert_eq!(ran.printed, format!("{number:6}\n")),
                 ("map", 13) => assert!(ran.printed.contains("mount refuses it, 13"), "{ran:?}"),
+                ("handover", _) => {
+                    let loud = format!("THE RECORDER MUST NOT BE HANDED OVER: {}", &said[11..]);
+                    assert!(ran.printed.starts_with(&loud), "{ran:?}");
+                }
                 _ => assert_eq!(ran.printed, "", "{line}"),
             }
             assert!(folder.image() == bytes, "{line}: the file was changed");
@@ -206,7 +210,8 @@ fn a_file_that_is_not_there() {
         let ran = folder.run(line);
         let said = "johvimaru: recorder.img is not there; \
                     check the name, or name the image file by --image\n";
-        assert_eq!((ran.status, &ran.errors[..], &ran.printed[..]), (3, said, ""), "{line}");
+        assert_eq!((ran.status, &ran.errors[..]), (3, said), "{line}");
+        assert_eq!(ran.printed.is_empty(), *line != "handover", "{line}");
     }
     for line in ["write 14 0 x", "write 0 32 x", "format --blocks 7"] {
         assert_eq!(folder.run(line).status, 1, "{line}");
@@ -230,11 +235,11 @@ fn what_is_no_file() {
         assert_eq!(ran.status, 3, "{line}");
         assert_eq!(ran.errors, "johvimaru: recorder.img is no file\n", "{line}");
         let ran = folder.run(&format!("{line} --image nowhere/x.img"));
-        assert_eq!((ran.status, ran.printed), (3, String::new()), "{line}");
+        assert_eq!(ran.status, 3, "{line}");
         let said = ["No such file", "is not there"].iter().any(|said| ran.errors.contains(said));
         assert!(said, "{line}: {}", ran.errors);
         let ran = folder.run(&format!("{line} --image /dev/null"));
-        assert_eq!((ran.status, ran.printed), (3, String::new()), "{line}");
+        assert_eq!(ran.status, 3, "{line}");
         assert_eq!(ran.errors, "johvimaru: /dev/null is no file\n", "{line}");
     }
 }

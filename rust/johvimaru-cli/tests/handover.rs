@@ -207,11 +207,14 @@ fn an_image_that_cannot_be_mounted() {
     folder.put("recorder.img", &image);
     for line in ["handover", "handover --keep 0 --force", "handover --report out.txt"] {
         let ran = folder.run(line);
-        assert_eq!((ran.status, &ran.printed[..]), (1, ""), "{line}");
+        let loud = "THE RECORDER MUST NOT BE HANDED OVER: recorder.img: refused 13: ";
+        assert!(ran.status == 1 && ran.printed.starts_with(loud), "{line}: {}", ran.printed);
         assert!(ran.errors.contains("refused 13"), "{}", ran.errors);
         assert!(ran.errors.ends_with("; `johvimaru help mount` says what to do\n"));
         assert!(folder.image() == image, "{line}");
     }
+    let said = folder.run("handover --json").printed;
+    assert!(said.starts_with("{\n  \"may_be_handed_over\": false,\n  \"verdict\": \"THE RECORDER"));
     folder.done("handover --force");
     assert!(!holds(&folder.image(), &key));
     assert_eq!(folder.run("check").status, 0);
@@ -376,9 +379,10 @@ fn a_report_of_a_handover_that_failed() {
     let mut shell = std::process::Command::new("sh");
     let output = shell.args(["-c", &script]).current_dir(&folder.path).output().unwrap();
     let errors = String::from_utf8_lossy(&output.stderr);
-    assert_eq!((output.status.code(), &output.stdout[..]), (Some(3), &b""[..]), "{errors}");
-    let said = "johvimaru: THE RECORDER MUST NOT BE HANDED OVER: it was not cleared: ";
-    assert!(errors.starts_with(said), "{errors}");
+    let printed = String::from_utf8_lossy(&output.stdout);
+    assert_eq!(output.status.code(), Some(3), "{errors}");
+    let said = "THE RECORDER MUST NOT BE HANDED OVER: not finished: the image file: ";
+    assert!(printed.starts_with(said), "{printed}{errors}");
     let report = String::from_utf8(folder.bytes("out.txt")).unwrap();
     assert!(report.contains("\n  file 0: 1 node\n"), "{report}");
     let verdict = "THE RECORDER MUST NOT BE HANDED OVER: recorder.img, 64 blocks: \
@@ -403,7 +407,8 @@ fn where_a_report_goes() {
     }
     assert_eq!(folder.run("handover --report nowhere/x.txt").status, 3);
     let ran = folder.run("handover --report /dev/full");
-    assert_eq!((ran.status, &ran.printed[..]), (3, ""));
+    assert_eq!(ran.status, 3);
+    assert!(ran.printed.starts_with("THE RECORDER MUST NOT BE HANDED OVER: "), "{}", ran.printed);
     assert_eq!(folder.run("handover --keep 14 --report x.txt").status, 1);
     assert_eq!(folder.run("handover --image none.img --report x.txt").status, 3);
     assert_eq!(folder.names(), ["old.txt", "recorder.img"]);

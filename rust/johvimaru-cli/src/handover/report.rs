@@ -230,6 +230,18 @@ impl After {
     }
 }
 
+/// What is said where there is no report.
+pub fn not_done(problem: &Problem, json: bool) -> String {
+    let verdict = format!("THE RECORDER MUST NOT BE HANDED OVER: {problem}");
+    match json {
+        false => verdict + "\n",
+        true => {
+            let fields = vec![("may_be_handed_over", false.into()), ("verdict", verdict.into())];
+            format!("{}\n", Json::Object(fields))
+        }
+    }
+}
+
 fn texts(lines: &[String]) -> Json {
     Json::List(lines.iter().map(|line| line.as_str().into()).collect())
 }

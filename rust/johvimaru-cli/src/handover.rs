@@ -98,7 +98,8 @@ impl Paper<'_> {
     fn write(&self, report: &Report) -> Result<(), Problem> {
         let (Some(path), Some(file)) = (self.path, &self.file) else { return Ok(()) };
         let text = report.spelt(self.json);
-        let written = file.set_len(0).and_then(|()| file.write_all_at(text.as_bytes(), 0));
+        let written = file.write_all_at(text.as_bytes(), 0);
+        let written = written.and_then(|()| file.set_len(text.len() as u64));
         written.and_then(|()| file.sync_all()).map_err(|error| {
             let words = "the report could not be written; make the handover again with another one";
             Problem::System(format!("{}: {error}: {words}", name(path)))

@@ -190,7 +190,7 @@ fn many_at_once() {
 fn a_wait_for_another_command() {
     let folder = Folder::new("wait");
     folder.done("format --blocks 8");
-    for (line, held) in [("check", 1_600), ("write 0 0 x", 1_600), ("check", 200)] {
+    for (line, held) in [("check", 3_000), ("write 0 0 x", 3_000), ("check", 200)] {
         let file = std::fs::File::open(folder.path.join("recorder.img")).unwrap();
         file.lock().unwrap();
         let words: Vec<&str> = line.split_whitespace().collect();

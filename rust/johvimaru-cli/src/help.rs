@@ -141,7 +141,8 @@ names. Only format makes it, and write, where there is none. Each call but
 format mounts it first, as a recorder does when its power comes on. The file
 is changed in place, step by step, each step on the disk before the next: a
 command that is stopped leaves what a power failure leaves, and the next call
-mounts it. read, export, list, check, map and diff change nothing.
+mounts it; a format that was stopped is made again, with --force. read, export,
+list, check, map and diff change nothing.
 
 Files are 0 to 13. Files 0 and 1 have 32 offsets, 2 and 3 have 24, 4 to 7 have
 16, 8 to 13 have 8.

@@ -60,10 +60,17 @@ struct Repository {
     top: PathBuf,
 }
 
+impl Drop for Repository {
+    fn drop(&mut self) {
+        let _ = fs::remove_dir_all(&self.top);
+    }
+}
+
 impl Repository {
-    /// A new one without `rt`, in the place of one that an earlier run has left.
+    /// A new one without `rt`, among the temporary files: below this repository `rt` would look for its crates.
     fn new(name: &str) -> Repository {
-        let top = Path::new(env!("CARGO_TARGET_TMPDIR")).join("archive").join(name);
+        let folder = format!("johvimaru-archive-{}-{name}", std::process::id());
+        let top = std::env::temp_dir().join(folder);
         let _ = fs::remove_dir_all(&top);
         let repository = Repository { top };
         let crates = "base:\nstore: base\nguarantee: store base\nrecorder: store\n";

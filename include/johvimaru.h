@@ -19,11 +19,25 @@
  * and JOHVIMARU_STACK_SIZE bytes of stack. Calls on different buffers may run at the same time, and so
  * may two reads of one image and record into different outputs.
  *
- * What stays secret: the library clears nothing behind it. Keys and payloads that a call used lie on
- * the stack, below the caller's frame, until something overwrites them; a device that must not keep
- * them there overwrites JOHVIMARU_STACK_SIZE bytes of that stack. The cipher is not constant-time: it
- * looks up tables by bytes of the key, so its time tells of the key whoever shares the processor's
- * cache with it. Nobody else's code may run there while keys are in use.
+ * johvimaru_version and johvimaru_reply_text are not in it. They are in johvimaru.c beside this header,
+ * plain C that nothing else here needs and that is no part of what is proved: whoever calls them compiles
+ * it too. tools/install.sh puts both together into libjohvimaru.a, with a file for pkg-config.
+ *
+ * What stays secret: the library clears nothing behind it. As measured on x86-64, keys and payloads on the
+ * stack and in vector registers by tests/c/secrets.c, the rest by hand:
+ *
+ *   - After a write or a read the key, its round keys and the last 16 bytes of its key stream lie on the
+ *     stack, below the caller's frame; after a read the last 16 bytes of the payload are in a vector
+ *     register, and some of that key stream in a general one.
+ *   - After a format, a commit or a wipe vector registers hold keys, and the stack holds none.
+ *   - After a mount or a cut-off neither holds a key.
+ *   - No call puts a payload on the stack. What saves registers there while a call runs may do so: an
+ *     interrupt, a signal, a dynamic linker that looks for memcpy at its first call.
+ *
+ * A device that must not keep any of this overwrites JOHVIMARU_STACK_SIZE bytes of that stack and the
+ * registers after the call. The cipher is not constant-time: it looks up tables by bytes of the
+ * key, so its time tells of the key whoever shares the processor's cache with it. Nobody else's code
+ * may run there while keys are in use.
  *
  * What a call costs: the time of a format grows with the bytes of the image, that of a mount, a write,
  * a cut-off, a commit or a wipe with its pages, and that of a read does not grow with it. Most of a
@@ -149,7 +163,7 @@
 extern "C" {
 #endif
 
-/* The version of this header: another one has other calls or constants. */
+/* The version of the library's calls and constants: those of another one are others. */
 #define JOHVIMARU_VERSION 1
 
 /* ---- Sizes, of a type in which an image's bytes can be counted whatever an int holds */
@@ -217,7 +231,7 @@ extern "C" {
 #define JOHVIMARU_REFUSED_RECORD 7
 /* There is no node there. */
 #define JOHVIMARU_NOTHING_THERE 8
-/* No key is free. */
+/* No key is free; a commit replaces the deleted ones. */
 #define JOHVIMARU_NO_FREE_KEY 9
 /* There is no page to take, or no empty block. */
 #define JOHVIMARU_NO_ROOM 10
@@ -491,6 +505,17 @@ uint32_t johvimaru_wipe_cut(uint8_t *image, size_t image_length,
                             const uint8_t *noise, size_t noise_length,
                             uint32_t file, uint32_t offset,
                             uint64_t n, size_t k);
+
+/* ---- Words, of johvimaru.c */
+
+/* JOHVIMARU_VERSION of the header that johvimaru.c was compiled with. */
+unsigned johvimaru_version(void);
+
+/*
+ * A reply as a sentence, for a log or a message: the first one that stands above at the number, without
+ * its capital and its full stop. It is never null: a number that no call replies has a sentence too.
+ */
+const char *johvimaru_reply_text(uint32_t reply);
 
 #ifdef __cplusplus
 }

@@ -13,8 +13,15 @@ const BY_SYSTEM: &str = "floor_mount.c";
 const FLOOR_HEADERS: [&str; 4] = ["floor.h", "floor_calls.h", "floor_look.h", "floor_text.h"];
 
 fn main() {
+    recorder();
     harness();
     floor();
+}
+
+/// Names the archive that the crate `johvimaru` is linked with, for the programs in C.
+fn recorder() {
+    let archive = std::env::var("DEP_RECORDER_ARCHIVE").expect("its build script names it");
+    println!("cargo::rustc-env=RECORDER_ARCHIVE={archive}");
 }
 
 fn harness() {

@@ -12,24 +12,22 @@ trap 'rm -rf "$folder"' EXIT
 cd "$folder"
 
 # The first firm's draughts in files 0 and 1, its track in file 2.
-"$johvimaru" --image before.img format --blocks 8
+"$johvimaru" --image wipe-cut.img format --blocks 16
 for offset in 0 1 2 3 4 5; do
-    "$johvimaru" --image before.img write 0 $offset "draught $offset"
-    "$johvimaru" --image before.img write 2 $offset "track $offset"
+    "$johvimaru" --image wipe-cut.img write 0 $offset "draught $offset"
+    "$johvimaru" --image wipe-cut.img write 2 $offset "track $offset"
 done
-"$johvimaru" --image before.img write 1 0 "draught mid"
-"$johvimaru" --image before.img write 0 0 "draught 0, read again"
-"$johvimaru" --image before.img write 13 7 "crew"
-"$johvimaru" --image before.img cut-off 2 4
+"$johvimaru" --image wipe-cut.img write 1 0 "draught mid"
+"$johvimaru" --image wipe-cut.img write 0 0 "draught 0, read again"
+"$johvimaru" --image wipe-cut.img write 13 7 "crew"
+"$johvimaru" --image wipe-cut.img cut-off 2 4
 # The power fails in a write, and in the wipe of the draughts.
-"$johvimaru" --image before.img write 2 4 "track 4" --cut 0,100
-"$johvimaru" --image before.img wipe 0 0 --cut 22,12
+"$johvimaru" --image wipe-cut.img write 2 4 "track 4" --cut 0,100
+"$johvimaru" --image wipe-cut.img wipe 0 0 --cut 22,12
 
-# All is wiped to the end, and the next firm writes.
-cp before.img after.img
-for file in 0 1 2 13; do
-    "$johvimaru" --image after.img wipe $file 0
-done
-"$johvimaru" --image after.img write 0 0 "draught of the next firm"
+# The recorder is handed over, and the next firm writes.
+cp wipe-cut.img handed-over.img
+"$johvimaru" --image handed-over.img handover
+"$johvimaru" --image handed-over.img write 0 0 "draught of the next firm"
 
-"$johvimaru" map --before before.img --after after.img --svg "$out"
+"$johvimaru" map --before wipe-cut.img --after handed-over.img --svg "$out"

@@ -260,7 +260,7 @@ fn forms_of_pages() {
 fn plain_form(form: johvimaru::Form) -> model::pages::Form {
     use johvimaru::{Form, Header};
     let header = |header| match header {
-        Header::Node { sequence, at, key } => {
+        Header::Node { sequence, at, key, .. } => {
             let (file, offset) = (at.file().number() as usize, at.number() as usize);
             model::pages::Header::Node { sequence, file, offset, key }
         }
@@ -269,7 +269,7 @@ fn plain_form(form: johvimaru::Form) -> model::pages::Form {
             model::pages::Header::CutOff { sequence, file, offset }
         }
         Header::Keys { epoch, block, page } => model::pages::Header::Keys { epoch, block, page },
-        Header::Commit { epoch, part, covered } => {
+        Header::Commit { epoch, part, covered, .. } => {
             model::pages::Header::Commit { epoch, part, covered }
         }
     };

@@ -1,4 +1,4 @@
-//! The C header: a program that uses it, as C and as C++, and its constants.
+//! The C header: programs that use it, as C and as C++, its constants, and the words of johvimaru.c.
 
 use johvimaru::raw::{DONE, POWER_CUT};
 use johvimaru::Refusal;
@@ -7,6 +7,7 @@ use johvimaru_tests::model::image::{BLOCK, SIZES};
 use johvimaru_tests::model::keys::NOISE;
 use johvimaru_tests::model::pages::{PAGE, PAYLOAD};
 use johvimaru_tests::model::record::{LETTERS, MAP, NONE, SCRATCH};
+use std::collections::HashSet;
 use std::path::{Path, PathBuf};
 use std::process::Command;
 
@@ -24,7 +25,7 @@ fn run(name: &str, compiler: &str, words: &[&str]) -> String {
         .arg(path("include"))
         .arg(path("tests/c").join(name).with_extension("c"))
         .args(["-x", "none"])
-        .arg(path("target/staticlib/librecorder.a"))
+        .arg(env!("RECORDER_ARCHIVE"))
         .arg("-o")
         .arg(&program)
         .output()
@@ -41,14 +42,15 @@ fn example_text() -> String {
     std::fs::read_to_string(path("tests/c/example.txt")).expect("the text is there")
 }
 
-#[test]
-fn the_example_in_c() {
-    assert_eq!(run("example", "cc", &["-std=c11", "-x", "c"]), example_text());
-}
+/// A compiler of each language, and the words that name the language.
+const LANGUAGES: [(&str, [&str; 3]); 2] =
+    [("cc", ["-std=c11", "-x", "c"]), ("c++", ["-std=c++17", "-x", "c++"])];
 
 #[test]
-fn the_example_in_cpp() {
-    assert_eq!(run("example", "c++", &["-std=c++17", "-x", "c++"]), example_text());
+fn the_example_in_both_languages() {
+    for (compiler, words) in LANGUAGES {
+        assert_eq!(run("example", compiler, &words), example_text(), "{compiler}");
+    }
 }
 
 /// The steps of each call, as the header says that they are learnt, leave a chip as the image.
@@ -57,8 +59,7 @@ fn the_steps_on_a_chip() {
     let text = "format: reply 0, steps 50\nwrite: reply 0, steps 1\nwrite: reply 0, steps 1\n\
                 read: reply 0, the payload\ncommit: reply 0, steps 45\ncut-off: reply 0, steps 1\n\
                 write: reply 0, steps 1\nwipe: reply 0, steps 57\n";
-    for (compiler, words) in [("cc", ["-std=c11", "-x", "c"]), ("c++", ["-std=c++17", "-x", "c++"])]
-    {
+    for (compiler, words) in LANGUAGES {
         assert_eq!(run("chip", compiler, &words), text, "{compiler}");
     }
 }
@@ -66,6 +67,26 @@ fn the_steps_on_a_chip() {
 #[test]
 fn the_stack_that_calls_take() {
     assert_eq!(run("stack", "cc", &["-std=c11", "-x", "c"]), "");
+}
+
+/// What the header says that calls leave behind, and no more.
+#[test]
+fn the_secrets_that_calls_leave() {
+    let text = "format, stack:, vectors: key\n\
+                write, stack: key, vectors:\n\
+                read, stack: key, vectors: payload\n\
+                mount, stack:, vectors:\n\
+                commit, stack:, vectors: key\n\
+                mount, stack:, vectors:\n\
+                cut-off, stack:, vectors:\n\
+                write, stack: key, vectors:\n\
+                wipe, stack:, vectors: key\n";
+    assert_eq!(run("secrets", "cc", &["-std=c11", "-Wl,-z,now", "-x", "c"]), text);
+}
+
+/// The header.
+fn header() -> String {
+    std::fs::read_to_string(path("include/johvimaru.h")).expect("the header is there")
 }
 
 /// The text that the header defines for a name.
@@ -88,9 +109,31 @@ fn defined_wide(header: &str, name: &str, suffix: &str) -> usize {
     number.unwrap_or_else(|| panic!("{name} is {value:?}"))
 }
 
+/// The replies by their names in the header.
+fn replies() -> [(&'static str, u32); 16] {
+    [
+        ("DONE", DONE),
+        ("REFUSED_IMAGE", Refusal::ImageSize.number()),
+        ("REFUSED_LENGTHS", Refusal::BufferLength.number()),
+        ("REFUSED_NOISE", Refusal::NoiseLength.number()),
+        ("REFUSED_FILE", Refusal::NoSuchFile.number()),
+        ("REFUSED_OFFSET", Refusal::OffsetOutside.number()),
+        ("REFUSED_PAYLOAD", Refusal::PayloadLength.number()),
+        ("REFUSED_RECORD", Refusal::RecordUnfit.number()),
+        ("NOTHING_THERE", Refusal::NothingThere.number()),
+        ("NO_FREE_KEY", Refusal::NoFreeKey.number()),
+        ("NO_ROOM", Refusal::NoRoom.number()),
+        ("NUMBERS_SPENT", Refusal::NumbersSpent.number()),
+        ("NO_KEY_BLOCK", Refusal::NoKeyBlock.number()),
+        ("NO_COMMIT", Refusal::NoCommit.number()),
+        ("ENTRY_UNFIT", Refusal::EntryUnfit.number()),
+        ("POWER_CUT", POWER_CUT),
+    ]
+}
+
 #[test]
 fn the_constants() {
-    let header = std::fs::read_to_string(path("include/johvimaru.h")).expect("the header is there");
+    let header = header();
     let sizes = [
         ("PAGE_SIZE", PAGE),
         ("BLOCK_SIZE", BLOCK),
@@ -113,30 +156,42 @@ fn the_constants() {
     assert_eq!(text_of(&header, "FILE_COUNTS"), format!("{{{counts}}}"));
     let indices = ["NEXT_SEQUENCE", "NEXT_EPOCH", "KEYS_0", "KEYS_1", "COMMIT"];
     assert_eq!(indices.map(|name| defined(&header, name)), [0, 1, 2, 3, 4]);
-    let replies = [
-        ("DONE", DONE),
-        ("REFUSED_IMAGE", Refusal::ImageSize.number()),
-        ("REFUSED_LENGTHS", Refusal::BufferLength.number()),
-        ("REFUSED_NOISE", Refusal::NoiseLength.number()),
-        ("REFUSED_FILE", Refusal::NoSuchFile.number()),
-        ("REFUSED_OFFSET", Refusal::OffsetOutside.number()),
-        ("REFUSED_PAYLOAD", Refusal::PayloadLength.number()),
-        ("REFUSED_RECORD", Refusal::RecordUnfit.number()),
-        ("NOTHING_THERE", Refusal::NothingThere.number()),
-        ("NO_FREE_KEY", Refusal::NoFreeKey.number()),
-        ("NO_ROOM", Refusal::NoRoom.number()),
-        ("NUMBERS_SPENT", Refusal::NumbersSpent.number()),
-        ("NO_KEY_BLOCK", Refusal::NoKeyBlock.number()),
-        ("NO_COMMIT", Refusal::NoCommit.number()),
-        ("ENTRY_UNFIT", Refusal::EntryUnfit.number()),
-        ("POWER_CUT", POWER_CUT),
-    ];
-    for (name, reply) in replies {
+    for (name, reply) in replies() {
         assert_eq!(defined(&header, name), reply, "{name}");
     }
     // The others are the guard against a second inclusion, the version, none, the counts and the size of
     // the stack.
-    let all = sizes.len() + indices.len() + replies.len() + 5;
+    let all = sizes.len() + indices.len() + replies().len() + 5;
     let defines = header.lines().filter(|line| line.starts_with("#define JOHVIMARU_")).count();
     assert_eq!(defines, all, "a constant of the header is not looked at here");
+}
+
+/// The first sentence that the header has above a name, as a log takes it.
+fn sentence<'a>(header: &'a str, name: &str) -> &'a str {
+    let define = format!("#define JOHVIMARU_{name} ");
+    let at = header.lines().position(|line| line.starts_with(&define)).expect("it is defined");
+    let comment = header.lines().nth(at - 1).expect("it has a comment");
+    let sentences = comment.strip_prefix("/* ").and_then(|text| text.strip_suffix(". */"));
+    sentences.expect("the comment is one line").split(". ").next().expect("it has a sentence")
+}
+
+/// The words of replies are those of the header, and other numbers have others.
+#[test]
+fn the_words_of_replies() {
+    let header = header();
+    let mut text = format!("version {}\n", defined(&header, "VERSION"));
+    for (name, reply) in replies() {
+        let sentence = sentence(&header, name);
+        text += &format!("{reply} {}{}\n", sentence[..1].to_lowercase(), &sentence[1..]);
+    }
+    for other in [15, 254, 256, u32::MAX] {
+        text += &format!("{other} no reply has this number\n");
+    }
+    let words = path("include/johvimaru.c").display().to_string();
+    for (compiler, [standard, x, language]) in LANGUAGES {
+        let printed = run("replies", compiler, &[standard, x, language, &words]);
+        assert_eq!(printed, text, "{compiler}");
+    }
+    let sentences: HashSet<&str> = replies().map(|(name, _)| sentence(&header, name)).into();
+    assert_eq!(sentences.len(), replies().len(), "two replies have one sentence");
 }

@@ -35,11 +35,11 @@ finished true r e = absurd (omega (arith, ap numberOf e))
 finished false r e = (refl, e)
 
 module _ (m : Machine) (e : Event) (done : leftAt m e .reply ≡ Done) where
-  finished-on : T (step m e .on)
+  pub finished-on : T (step m e .on)
   unfolding step left
   finished-on = rw (finished (ltb (e .n) (length (outcomeAt m e .steps))) (outcomeAt m e .reply) done .0) tt
 
-  finished-book : step m e .book ≡ entered (m .calls) (e .call) (replied Done) (m .book)
+  pub finished-book : step m e .book ≡ entered (m .calls) (e .call) (replied Done) (m .book)
   unfolding step left
   finished-book = let f = finished (ltb (e .n) (length (outcomeAt m e .steps))) (outcomeAt m e .reply) done in rw (f .0, f .1)
 

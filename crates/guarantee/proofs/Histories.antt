@@ -12,14 +12,10 @@ use Rattle.guarantee.specs.Call.{Call, mount, write, read, cutOff, commi
 use Rattle.guarantee.specs.Book.{entered}
 use Rattle.guarantee.specs.Machine.{Machine, start, step, Allowed, fateOf, outcomeAt, leftAt}
 use Rattle.guarantee.specs.Statement.{AtRest, AtCall, Always}
+pub use Rattle.guarantee.specs.History.{endOf, History}
 use Rattle.guarantee.proofs.Finish.{Standing, call-standing, start-standing, guarantee}
 
 -- ---- lists and where they lead
--- the machine after the calls of a list
-abbrev pub endOf : Machine → List Event → Machine
-endOf m [] = m
-endOf m (e ∷ es) = endOf (step m e) es
-
 -- a call may come next: any while the power is on, else a mount; and a mount with buffers of the right lengths
 abbrev pub Permitted : Machine → Event → Type 0
 Permitted m e = T (m .on || isMount (e .call)) × T (lentRight (e .call))
@@ -31,19 +27,6 @@ while-on m on b = go (m .on) on
     go true t = tt
     go false t = absurd t
 
--- how a machine came about: a format with right arguments, and an allowed list of calls after it
-pub record History (m : Machine) : Type 0 where
-  pub image : List ℕ
-  pub map : List ℕ
-  pub letters : List ℕ
-  pub noise : List ℕ
-  pub size : T (sizeRight image)
-  pub lent : T (buffersRight map letters)
-  pub long : length noise ≡ noiseSize
-  pub events : List Event
-  pub allowed : Allowed (start image map letters noise) events
-  pub here : endOf (start image map letters noise) events ≡ m
-
 -- every allowed list after a format is one
 pub history : (img map letters noise : List ℕ) → T (sizeRight img) → T (buffersRight map letters) → length noise ≡ noiseSize → (es : List Event)
     → Allowed (start img map letters noise) es → History (endOf (start img map letters noise) es)
@@ -51,7 +34,7 @@ history img map letters noise size lent long es a =
     record { image = img; map = map; letters = letters; noise = noise; size = size; lent = lent; long = long; events = es; allowed = a; here = refl }
 
 -- ---- one call more
-end-then : (m : Machine) (es : List Event) (e : Event) → endOf m (es ++ (e ∷ [])) ≡ step (endOf m es) e
+pub end-then : (m : Machine) (es : List Event) (e : Event) → endOf m (es ++ (e ∷ [])) ≡ step (endOf m es) e
 end-then m [] e = refl
 end-then m (f ∷ es) e = end-then (step m f) es e
 

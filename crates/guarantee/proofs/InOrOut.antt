@@ -52,7 +52,7 @@ freed-files : (b : Book) → bookFreed b .content ≡ b .content
 unfolding bookFreed
 freed-files b = refl
 
-committed-files : (c i : ℕ) (fate : Fate) (b : Book) → bookCommitted c i fate b .content ≡ b .content
+pub committed-files : (c i : ℕ) (fate : Fate) (b : Book) → bookCommitted c i fate b .content ≡ b .content
 unfolding bookCommitted
 committed-files c i fate b =
     only-files (madeWhole fate (commitDone i)) bookFreed freed-files _

@@ -96,7 +96,7 @@ module _ (img : List ℕ) (r : Record) (noise : List ℕ) (neat : Neat img (r .n
       (staged-neat img (commitStages noise begun) (stages-neatly noise img begun (begin-neatly img (cleaned r) neat)) (subst (λ (o : Outcome). AllLegal img (o .steps)) e (commit-legal img r noise))))
       (λ q. let e = commit-refused img r noise q in (ap (λ (o : Outcome). o .steps) e, ap (λ (o : Outcome). o .after) e))
 
-  first-neatly : (file offset : ℕ) → Neatly img (removedFirst img r file offset)
+  pub first-neatly : (file offset : ℕ) → Neatly img (removedFirst img r file offset)
   unfolding removedFirst
   first-neatly file offset = commit-neatly img (begin img (removed r file offset)) (begin-neatly img (removed r file offset) (rw (removed-numbers r file offset) neat))
 
@@ -170,7 +170,7 @@ along-neat : (m : Machine) → History m → NeatOn m → (es : List Event) → 
 along-neat m h neat [] a = neat
 along-neat m h neat (e ∷ es) a = along-neat (step m e) (next m h e (a .0, a .1)) (step-neat m h neat e (a .0, a .1)) es (a .2)
 
-neat-end : (m : Machine) → History m → NeatOn m
+pub neat-end : (m : Machine) → History m → NeatOn m
 neat-end m h =
     subst NeatOn (h .here)
     (along-neat _ (history (h .image) (h .map) (h .letters) (h .noise) (h .size) (h .lent) (h .long) [] tt) (start-neat (h .image) (h .map) (h .letters) (h .noise) (h .size) (h .lent) (h .long)) (h .events) (h .allowed))

@@ -2,7 +2,7 @@
 use Prim.Native.Nat.{ℕ, _-_, _/_, _%_, _<_}
 use native.Mathlib.Omega.{arith}
 use native.Mathlib.Decide.{ℕ-discrete}
-use mathlib.Core.Path.{_≡_, refl, sym, ap, _∙_}
+use mathlib.Core.Path.{_≡_, refl, sym, ap, subst, _∙_}
 use mathlib.Core.Logic.{_⊎_, inl, inr}
 use mathlib.Core.Bool.{Bool, true, false, cond, not, _&&_, _||_}
 use mathlib.Core.List.{List, [], _∷_, _++_, map}
@@ -12,8 +12,9 @@ use borrow.Author.Tests.{ne-eqb, eqb-false}
 use Rattle.base.specs.Each.{Each}
 use Rattle.base.specs.Search.{whichFrom}
 use Rattle.base.proofs.Choice.{true-false}
-use Rattle.base.proofs.Searches.{any-intro, any-agree}
+use Rattle.base.proofs.Searches.{any-intro, any-agree, any-all-fail}
 use Rattle.base.proofs.Eachs.{each-map}
+use Rattle.page.specs.Plan.{places}
 use Rattle.page.specs.Entry.{parts}
 use Rattle.image.specs.Size.{pagesInBlock, blocks}
 use Rattle.image.specs.Look.{blockAt, blockEmpty, formAt, lowestEmpty}
@@ -27,7 +28,7 @@ use Rattle.image.proofs.Forms.{form-same}
 use Rattle.image.proofs.Plays.{playAll-append, playAll-cons, playAll-nil}
 use Rattle.image.proofs.Step.{blockOf, whole-length, block-whole-other, page-of-same}
 use Rattle.store.specs.Kind.{pageIn, headed, isChosen, isData, hasEvents}
-use Rattle.store.specs.Record.{Record, withNumbers}
+use Rattle.store.specs.Record.{Record, withNumbers, pageOf, live}
 use Rattle.store.specs.Mount.{isStray, mountNumbers, mountSteps}
 use Rattle.store.specs.Write.{keysBlock}
 use Rattle.store.specs.Commit.{replaceKeys, replaceCommit, withKeys, withCommit, Stage, begin, onward, keysReplaced, commitReplaced, isDead, deadErased, commitStages}
@@ -105,24 +106,35 @@ program-neat img r r' g page legal event same neat =
         any-intro (λ i. headed (formAt (whole (program g page) img) (pageIn b i))) pagesInBlock 0 (g % pagesInBlock) (omega arith) (omega arith) (rw at event)
 
 -- ---- blocks erased in a row: those that p picks
-sweep-neat : (p : ℕ → Bool) (img : List ℕ) (r : Numbers) → AllLegal img (map erase (whichFrom p (blocks img) 0))
-    → ((b : ℕ) → b < blocks img → p b ≡ false → isChosen r b ≡ false → hasEvents img b ≡ false → blockEmpty img b ≡ true)
-    → Neat (playAll (map erase (whichFrom p (blocks img) 0)) img) r
-sweep-neat p img r legal rest b h c e = go (p b) refl
-  where
-    within : b < blocks img
-    within = let same = legal-length (map erase (whichFrom p (blocks img) 0)) img legal in rw same at h
+abbrev swept : (ℕ → Bool) → List ℕ → List ℕ
+swept p img = playAll (map erase (whichFrom p (blocks img) 0)) img
 
-    go : (t : Bool) → p b ≡ t → blockEmpty (playAll (map erase (whichFrom p (blocks img) 0)) img) b ≡ true
-    go true q =
-        sweep-empties (whichFrom p (blocks img) 0) img b (which-each (λ (d : ℕ). d < blocks img) p (blocks img) 0 (λ d a l z. omega arith))
-        (inl (which-in p (blocks img) 0 b (omega arith) (omega (arith, within)) q))
-    go false q =
-        let other = legal-other (map erase (whichFrom p (blocks img) 0)) img b legal
-        (each-map (λ (d : ℕ). d ≡ b → ⊥) (λ (s : Step). blockOf s ≡ b → ⊥) erase (λ d f. f) (whichFrom p (blocks img) 0)
-        (which-each (λ (d : ℕ). d ≡ b → ⊥) p (blocks img) 0 (λ d a l z y. true-false (rw y at z) q))) in
-        block-empty-same img (playAll (map erase (whichFrom p (blocks img) 0)) img) b other
-        ∙ rest b within q c (sym (events-same img (playAll (map erase (whichFrom p (blocks img) 0)) img) b other) ∙ e)
+-- a block is empty then, or p did not pick it and it is as it was
+abbrev Swept : (ℕ → Bool) → List ℕ → ℕ → Type 0
+Swept p img b = (blockEmpty (swept p img) b ≡ true) ⊎ ((p b ≡ false) × (blockAt (swept p img) b ≡ blockAt img b))
+
+module _ (p : ℕ → Bool) (img : List ℕ) (legal : AllLegal img (map erase (whichFrom p (blocks img) 0))) where
+  abbrev picked : List ℕ
+  picked = whichFrom p (blocks img) 0
+
+  swept-within : (b : ℕ) → b < blocks (swept p img) → b < blocks img
+  swept-within b h = let same = legal-length (map erase picked) img legal in rw same at h
+
+  swept-block : (b : ℕ) → b < blocks img → Swept p img b
+  swept-block b h = go (p b) refl
+    where
+      go : (t : Bool) → p b ≡ t → (blockEmpty (swept p img) b ≡ true) ⊎ ((t ≡ false) × (blockAt (swept p img) b ≡ blockAt img b))
+      go true q = inl (sweep-empties picked img b (which-each (λ (d : ℕ). d < blocks img) p (blocks img) 0 (λ d a l z. omega arith)) (inl (which-in p (blocks img) 0 b (omega arith) (omega (arith, h)) q)))
+      go false q =
+          let apart = which-each (λ (d : ℕ). d ≡ b → ⊥) p (blocks img) 0 (λ d a l z y. true-false (rw y at z) q) in
+          inr (refl, legal-other (map erase picked) img b legal (each-map (λ (d : ℕ). d ≡ b → ⊥) (λ (s : Step). blockOf s ≡ b → ⊥) erase (λ d f. f) picked apart))
+
+  sweep-neat : (r : Numbers) → ((b : ℕ) → b < blocks img → p b ≡ false → isChosen r b ≡ false → hasEvents img b ≡ false → blockEmpty img b ≡ true) → Neat (swept p img) r
+  sweep-neat r rest b h c e = go (swept-block b (swept-within b h))
+    where
+      go : Swept p img b → blockEmpty (swept p img) b ≡ true
+      go (inl z) = z
+      go (inr z) = block-empty-same img (swept p img) b (z .1) ∙ rest b (swept-within b h) (z .0) c (sym (events-same img (swept p img) b (z .1)) ∙ e)
 
 -- mount
 stray-none : (img : List ℕ) (r : Numbers) (b : ℕ) → isStray img r b ≡ false → isChosen r b ≡ false → hasEvents img b ≡ false → blockEmpty img b ≡ true
@@ -135,7 +147,7 @@ stray-none img r b s c e = go (blockEmpty img b) (rw (c, e) at s)
 
 pub mount-neat : (img : List ℕ) → AllLegal img (mountSteps img) → Neat (playAll (mountSteps img) img) (mountNumbers img)
 unfolding mountSteps
-mount-neat img legal = sweep-neat (isStray img (mountNumbers img)) img (mountNumbers img) legal (λ b h s. stray-none img (mountNumbers img) b s)
+mount-neat img legal = sweep-neat (isStray img (mountNumbers img)) img legal (mountNumbers img) (λ b h s. stray-none img (mountNumbers img) b s)
 
 -- ---- a row of pages into block nb, then block old erased, where nb is chosen from then on in the place of old
 replace-neat : (img : List ℕ) (row : List Step) (nb old : ℕ) (r r' : Numbers) → AllLegal img (row ++ (erase old ∷ [])) → ((b : ℕ) → (b ≡ nb → ⊥) → Each (λ (s : Step). blockOf s ≡ b → ⊥) row)
@@ -195,8 +207,44 @@ commit-neatly img s before =
 dead-neatly : (img : List ℕ) (s : Stage) → Neatly img s → Neatly img (deadErased s)
 unfolding deadErased
 dead-neatly img s before =
-    onward-neatly img s _ (s .after) before (λ neat legal. sweep-neat (isDead (s .image) (s .after)) (s .image) (s .after .numbers) legal (λ b h d. neat b h))
+    onward-neatly img s _ (s .after) before (λ neat legal. sweep-neat (isDead (s .image) (s .after)) (s .image) legal (s .after .numbers) (λ b h d. neat b h))
 
 pub stages-neatly : (noise : List ℕ) (img : List ℕ) (s : Stage) → Neatly img s → Neatly img (commitStages noise s)
 unfolding commitStages
 stages-neatly noise img s before = dead-neatly img _ (commit-neatly img _ (keys-neatly noise 1 img _ (keys-neatly noise 0 img s before)))
+
+-- ---- a commit with nothing live leaves all blocks empty but the chosen
+-- without live places a data block is dead
+bare-dead : (img : List ℕ) (r : Record) → ((x : ℕ) → x < places → live (r .map) x ≡ false) → (b : ℕ) → isDead img r b ≡ false → isChosen (r .numbers) b ≡ false → hasEvents img b ≡ false
+unfolding isDead isData
+bare-dead img r none b d c =
+    let no-live = any-all-fail (λ x. live (r .map) x && eqb (pageOf (r .map) x / pagesInBlock) b) places 0 (λ x a l. rw (none x (omega arith))) in
+    go (hasEvents img b) (rw (no-live, c) at d)
+  where
+    go : (t : Bool) → (t && true) && true ≡ false → t ≡ false
+    go true z = z
+    go false z = refl
+
+dead-bare : (img : List ℕ) (s : Stage) → Neatly img s → AllLegal img (deadErased s .steps) → ((x : ℕ) → x < places → live (s .after .map) x ≡ false)
+    → (b : ℕ) → b < blocks (deadErased s .image) → isChosen (s .after .numbers) b ≡ false → blockEmpty (deadErased s .image) b ≡ true
+unfolding deadErased
+dead-bare img s before legal none b inside c = go (swept-block dead (s .image) last b within)
+  where
+    dead : ℕ → Bool
+    dead = isDead (s .image) (s .after)
+
+    last : AllLegal (s .image) (map erase (whichFrom dead (blocks (s .image)) 0))
+    last = subst (λ (i : List ℕ). AllLegal i (map erase (whichFrom dead (blocks (s .image)) 0))) (sym (before .0)) (legal-rest (s .steps) _ img legal)
+
+    within : b < blocks (s .image)
+    within = swept-within dead (s .image) last b inside
+
+    go : Swept dead (s .image) b → blockEmpty (swept dead (s .image)) b ≡ true
+    go (inl z) = z
+    go (inr z) = block-empty-same (s .image) _ b (z .1) ∙ before .1 (legal-first (s .steps) _ img legal) b within c (bare-dead (s .image) (s .after) none b (z .0) c)
+
+pub stages-bare : (noise : List ℕ) (img : List ℕ) (s : Stage) → Neatly img s → AllLegal img (commitStages noise s .steps) → ((x : ℕ) → x < places → live (s .after .map) x ≡ false)
+    → (b : ℕ) → b < blocks (commitStages noise s .image) → isChosen (commitStages noise s .after .numbers) b ≡ false → blockEmpty (commitStages noise s .image) b ≡ true
+unfolding commitStages deadErased keysReplaced commitReplaced
+stages-bare noise img s before =
+    dead-bare img (commitReplaced (keysReplaced noise 1 (keysReplaced noise 0 s))) (commit-neatly img _ (keys-neatly noise 1 img _ (keys-neatly noise 0 img s before)))

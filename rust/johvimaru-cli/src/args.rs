@@ -1,11 +1,13 @@
 //! What the command is asked, from its words.
 
+mod words;
+
 use crate::help::Topic;
 use johvimaru::Cut;
 use std::ffi::{OsStr, OsString};
-use std::fmt;
-use std::os::unix::ffi::{OsStrExt, OsStringExt};
+use std::os::unix::ffi::OsStrExt;
 use std::path::PathBuf;
+use words::{number, wrong, Shape, Usage, Words, HELP, IMAGE_OPTION, MAN};
 
 /// The image file where none is named.
 pub const IMAGE: &str = "recorder.img";
@@ -24,7 +26,22 @@ pub struct Request {
 pub enum Command {
     /// Print a help text.
     Help(Topic),
-    /// Make a call that changes the flash, and cut it where that is asked.
+    /// Print all help texts as a man page.
+    Man,
+    /// Print the version.
+    Version,
+    /// Make an empty store.
+    Format {
+        /// How many blocks.
+        blocks: Option<usize>,
+        /// Also over a file that holds something.
+        force: bool,
+        /// Where the power fails.
+        cut: Option<Cut>,
+    },
+    /// Mount, and nothing more; and where the power fails.
+    Mount(Option<Cut>),
+    /// Mount and make a call, and cut it where that is asked.
     Call(Call, Option<Cut>),
     /// Read a payload.
     Read {
@@ -35,28 +52,44 @@ pub enum Command {
         /// Print the 224 bytes as they are.
         raw: bool,
     },
-    /// Print document 01's listing.
-    List,
-    /// Say what is there.
-    Check,
+    /// Print the nodes of a file, a line each.
+    Export {
+        /// The file.
+        file: u32,
+        /// Payloads as text.
+        text: bool,
+    },
+    /// Write the nodes of such lines.
+    Import {
+        /// The file.
+        file: u32,
+        /// Payloads are text.
+        text: bool,
+    },
+    /// Clear the recorder for another owner.
+    Handover(Handover),
+    /// Print document 01's listing, as JSON where that is asked.
+    List(bool),
+    /// Say what is there, as JSON where that is asked.
+    Check(bool),
     /// Draw the picture.
     Map(MapOptions),
     /// Play a handover.
     Demo,
+    /// Say what has changed between two images.
+    Diff {
+        /// The older image file.
+        old: PathBuf,
+        /// The newer one.
+        new: PathBuf,
+        /// As JSON.
+        json: bool,
+    },
 }
 
-/// A call that changes the flash.
+/// A call that changes the flash and comes after a mount.
 #[derive(Debug, PartialEq, Eq)]
 pub enum Call {
-    /// Format.
-    Format {
-        /// How many blocks.
-        blocks: Option<usize>,
-        /// Also over a file that is no image.
-        force: bool,
-    },
-    /// Mount, and nothing more.
-    Mount,
     /// Write.
     Write {
         /// The file.
@@ -84,6 +117,19 @@ pub enum Call {
     },
 }
 
+/// How a recorder is handed over.
+#[derive(Debug, Default, PartialEq, Eq)]
+pub struct Handover {
+    /// The files that stay.
+    pub keep: Vec<u32>,
+    /// The file that the report is written to; none is standard output.
+    pub report: Option<PathBuf>,
+    /// The report as JSON.
+    pub json: bool,
+    /// Format an image that cannot be mounted.
+    pub force: bool,
+}
+
 /// What picture is drawn, and where it goes.
 #[derive(Debug, Default, PartialEq, Eq)]
 pub struct MapOptions {
@@ -91,149 +137,6 @@ pub struct MapOptions {
     pub svg: Option<PathBuf>,
     /// The images before and after, instead of the image file.
     pub before_after: Option<(PathBuf, PathBuf)>,
-}
-
-/// What is wrong with the words, in a sentence.
-#[derive(Debug, PartialEq, Eq)]
-pub struct Usage(String);
-
-impl fmt::Display for Usage {
-    fn fmt(&self, f: &mut fmt::Formatter) -> fmt::Result {
-        write!(f, "{}\n`johvimaru --help` says what there is.", self.0)
-    }
-}
-
-fn wrong<T>(words: impl Into<String>) -> Result<T, Usage> {
-    Err(Usage(words.into()))
-}
-
-/// What a subcommand takes.
-struct Shape {
-    topic: Topic,
-    /// The names of its words, and how many of them are needed.
-    words: &'static [&'static str],
-    needed: usize,
-    /// Its options with a value, and those without.
-    values: &'static [&'static str],
-    flags: &'static [&'static str],
-}
-
-/// The options of every subcommand.
-const IMAGE_OPTION: &str = "--image";
-const HELP: &str = "--help";
-
-impl Shape {
-    fn of(topic: Topic) -> Shape {
-        let at: &[&str] = &["FILE", "OFFSET"];
-        let (words, needed, values, flags): (&[&str], usize, &[&str], &[&str]) = match topic {
-            Topic::Johvimaru | Topic::List | Topic::Check | Topic::Demo => (&[], 0, &[], &[]),
-            Topic::Format => (&[], 0, &["--blocks", "--cut"], &["--force"]),
-            Topic::Mount | Topic::Commit => (&[], 0, &["--cut"], &[]),
-            Topic::Write => (&["FILE", "OFFSET", "TEXT"], 2, &["--cut"], &[]),
-            Topic::Read => (at, 2, &[], &["--raw"]),
-            Topic::CutOff | Topic::Wipe => (at, 2, &["--cut"], &[]),
-            Topic::Map => (&[], 0, &["--svg", "--before", "--after"], &[]),
-        };
-        Shape { topic, words, needed, values, flags }
-    }
-}
-
-/// The words of a subcommand, sorted by what they are.
-#[derive(Default)]
-struct Words {
-    plain: Vec<OsString>,
-    values: Vec<(&'static str, OsString)>,
-    flags: Vec<&'static str>,
-}
-
-impl Words {
-    /// Sorts the words after the subcommand.
-    fn sort(shape: &Shape, words: &[OsString]) -> Result<Words, Usage> {
-        let mut sorted = Words::default();
-        let mut rest = words.iter();
-        while let Some(word) = rest.next() {
-            let bytes = word.as_bytes();
-            if bytes == b"--" {
-                sorted.plain.extend(rest.by_ref().cloned());
-            } else if bytes.len() > 1 && bytes[0] == b'-' {
-                sorted.option(shape, word, &mut rest)?;
-            } else {
-                sorted.plain.push(word.clone());
-            }
-        }
-        Ok(sorted)
-    }
-
-    /// Takes an option, and its value from the same word or from the next.
-    fn option<'a>(
-        &mut self,
-        shape: &Shape,
-        word: &OsStr,
-        rest: &mut impl Iterator<Item = &'a OsString>,
-    ) -> Result<(), Usage> {
-        let text = word.to_string_lossy();
-        let (name, joined) = match word.as_bytes().iter().position(|&byte| byte == b'=') {
-            Some(at) => (&word.as_bytes()[..at], Some(&word.as_bytes()[at + 1..])),
-            None => (word.as_bytes(), None),
-        };
-        let name = if name == b"-h" { HELP.as_bytes() } else { name };
-        let named = |names: &[&'static str]| names.iter().copied().find(|n| n.as_bytes() == name);
-        if let Some(name) = named(shape.values).or_else(|| named(&[IMAGE_OPTION])) {
-            let value = match joined {
-                Some(value) => OsString::from_vec(value.to_vec()),
-                None => rest.next().cloned().ok_or(Usage(format!("{name} needs a value")))?,
-            };
-            if self.value(name).is_some() {
-                return wrong(format!("{name} is given twice"));
-            }
-            self.values.push((name, value));
-        } else if let Some(name) = named(shape.flags).or_else(|| named(&[HELP])) {
-            if joined.is_some() {
-                return wrong(format!("{name} takes no value"));
-            }
-            self.flags.push(name);
-        } else {
-            return wrong(format!("{} has no option {text}", shape.topic.name()));
-        }
-        Ok(())
-    }
-
-    fn value(&self, name: &str) -> Option<&OsString> {
-        self.values.iter().find(|(of, _)| *of == name).map(|(_, value)| value)
-    }
-
-    fn path(&self, name: &str) -> Option<PathBuf> {
-        self.value(name).map(PathBuf::from)
-    }
-
-    fn has(&self, flag: &str) -> bool {
-        self.flags.contains(&flag)
-    }
-
-    /// The number that stands at a place among the plain words.
-    fn number(&self, shape: &Shape, at: usize) -> Result<u32, Usage> {
-        number(shape.words[at], &self.plain[at])
-    }
-
-    /// The cut that is asked for.
-    fn cut(&self) -> Result<Option<Cut>, Usage> {
-        let Some(value) = self.value("--cut") else { return Ok(None) };
-        let text = value.to_string_lossy();
-        let Some((n, k)) = text.split_once(',') else {
-            return wrong(format!("--cut takes two numbers n,k and not {text}"));
-        };
-        let (n, k) = (number("n of --cut", OsStr::new(n))?, number("k of --cut", OsStr::new(k))?);
-        Ok(Some(Cut { n: n.into(), k: k as usize }))
-    }
-}
-
-/// A number of decimal digits. One that is too large for the library's type is its largest.
-fn number(name: &str, word: &OsStr) -> Result<u32, Usage> {
-    let text = word.to_string_lossy();
-    if text.is_empty() || !text.bytes().all(|byte| byte.is_ascii_digit()) {
-        return wrong(format!("{name} is a number in decimal digits and not {text:?}"));
-    }
-    Ok(text.parse().unwrap_or(u32::MAX))
 }
 
 /// Takes the words of the command, without its own name.
@@ -245,7 +148,10 @@ pub fn parse(words: &[OsString]) -> Result<Request, Usage> {
     if image.as_os_str().is_empty() {
         return wrong("--image needs the name of a file");
     }
-    if words.has(HELP) || topic == Topic::Johvimaru {
+    if topic == Topic::Johvimaru {
+        return Ok(Request { image, command: help(&words)? });
+    }
+    if words.has(HELP) {
         return Ok(Request { image, command: Command::Help(topic) });
     }
     if words.plain.len() < shape.needed {
@@ -253,7 +159,9 @@ pub fn parse(words: &[OsString]) -> Result<Request, Usage> {
         return wrong(format!("{} needs {missing}", topic.name()));
     }
     if let Some(word) = words.plain.get(shape.words.len()) {
-        return wrong(format!("{} takes no {:?}", topic.name(), word.to_string_lossy()));
+        let (name, word) = (topic.name(), word.to_string_lossy());
+        let hint = if shape.words.is_empty() { "; the image file is named by --image" } else { "" };
+        return wrong(format!("{name} takes no {word:?}{hint}"));
     }
     Ok(Request { image, command: command(&shape, &words)? })
 }
@@ -265,44 +173,50 @@ fn subcommand(words: &[OsString]) -> Result<(Topic, Vec<OsString>), Usage> {
         match word.as_bytes() {
             b"--image" => at += 2,
             b"--help" | b"-h" => return Ok((Topic::Johvimaru, Vec::new())),
+            b"--version" | b"-V" => return Ok((Topic::Version, Vec::new())),
             bytes if bytes.starts_with(b"--image=") => at += 1,
             bytes => {
-                let name = String::from_utf8_lossy(bytes);
-                let Some(topic) = Topic::of(&name) else {
-                    return wrong(format!("there is no {name:?}"));
-                };
+                let topic = named(&String::from_utf8_lossy(bytes))?;
                 let rest = words[..at].iter().chain(&words[at + 1..]).cloned().collect();
-                return help_of(topic, rest);
+                return Ok((topic, rest));
             }
         }
     }
     wrong("what is to be done is missing")
 }
 
-/// `help` takes the name of a subcommand.
-fn help_of(topic: Topic, rest: Vec<OsString>) -> Result<(Topic, Vec<OsString>), Usage> {
-    if topic != Topic::Johvimaru {
-        return Ok((topic, rest));
-    }
-    match &rest[..] {
-        [] => Ok((topic, rest)),
-        [name] => match Topic::of(&name.to_string_lossy()) {
-            Some(topic) => Ok((topic, vec![HELP.into()])),
-            None => wrong(format!("there is no {:?}", name.to_string_lossy())),
-        },
+/// The subcommand of a name.
+fn named(name: &str) -> Result<Topic, Usage> {
+    Topic::of(name).ok_or_else(|| Usage(format!("there is no {name:?}")))
+}
+
+/// `help`, with the name of a subcommand or without.
+fn help(words: &Words) -> Result<Command, Usage> {
+    match &words.plain[..] {
+        [] if words.has(MAN) => Ok(Command::Man),
+        [] => Ok(Command::Help(Topic::Johvimaru)),
+        [name] if !words.has(MAN) => named(&name.to_string_lossy()).map(Command::Help),
         _ => wrong("help takes one name"),
     }
 }
 
 /// The command of sorted words, of which there are enough and not too many.
 fn command(shape: &Shape, words: &Words) -> Result<Command, Usage> {
+    let file = || words.number(shape, 0);
     let at = || Ok((words.number(shape, 0)?, words.number(shape, 1)?));
+    let (text, json, force) = (words.has("--text"), words.has("--json"), words.has("--force"));
     let call = match shape.topic {
-        Topic::Johvimaru => return Ok(Command::Help(Topic::Johvimaru)),
-        Topic::List => return Ok(Command::List),
-        Topic::Check => return Ok(Command::Check),
+        Topic::Johvimaru => return help(words),
+        Topic::Version => return Ok(Command::Version),
+        Topic::List => return Ok(Command::List(json)),
+        Topic::Check => return Ok(Command::Check(json)),
         Topic::Demo => return Ok(Command::Demo),
         Topic::Map => return Ok(Command::Map(map_options(words)?)),
+        Topic::Export => return Ok(Command::Export { file: file()?, text }),
+        Topic::Import => return Ok(Command::Import { file: file()?, text }),
+        Topic::Handover => return Ok(Command::Handover(handover(words)?)),
+        Topic::Mount => return Ok(Command::Mount(words.cut()?)),
+        Topic::Diff => return diff(words),
         Topic::Read => {
             let (file, offset) = at()?;
             return Ok(Command::Read { file, offset, raw: words.has("--raw") });
@@ -310,9 +224,8 @@ fn command(shape: &Shape, words: &Words) -> Result<Command, Usage> {
         Topic::Format => {
             let blocks = words.value("--blocks").map(|value| number("--blocks", value));
             let blocks = blocks.transpose()?.map(|number| number as usize);
-            Call::Format { blocks, force: words.has("--force") }
+            return Ok(Command::Format { blocks, force, cut: words.cut()? });
         }
-        Topic::Mount => Call::Mount,
         Topic::Write => {
             let (file, offset) = at()?;
             let text = words.plain.get(2).map(|text| text.as_bytes().to_vec());
@@ -323,6 +236,22 @@ fn command(shape: &Shape, words: &Words) -> Result<Command, Usage> {
         Topic::Wipe => at().map(|(file, offset)| Call::Wipe { file, offset })?,
     };
     Ok(Command::Call(call, words.cut()?))
+}
+
+fn handover(words: &Words) -> Result<Handover, Usage> {
+    let keep = match words.value("--keep") {
+        None => Vec::new(),
+        Some(files) => {
+            let files = files.to_string_lossy();
+            let numbers = files.split(',').map(|file| number("a file of --keep", OsStr::new(file)));
+            numbers.collect::<Result<_, _>>()?
+        }
+    };
+    let report = words.path("--report");
+    if report.as_ref().is_some_and(|path| path.as_os_str().is_empty()) {
+        return wrong("--report needs the name of a file");
+    }
+    Ok(Handover { keep, report, json: words.has("--json"), force: words.has("--force") })
 }
 
 fn map_options(words: &Words) -> Result<MapOptions, Usage> {
@@ -339,6 +268,14 @@ fn map_options(words: &Words) -> Result<MapOptions, Usage> {
         return wrong("--svg takes the name of a file that ends in .svg");
     }
     Ok(MapOptions { svg, before_after })
+}
+
+fn diff(words: &Words) -> Result<Command, Usage> {
+    if words.value(IMAGE_OPTION).is_some() {
+        return wrong("diff takes OLD and NEW, and no --image");
+    }
+    let [old, new] = [0, 1].map(|at| PathBuf::from(&words.plain[at]));
+    Ok(Command::Diff { old, new, json: words.has("--json") })
 }
 
 #[cfg(test)]
@@ -372,11 +309,12 @@ mod tests {
         let from_input = Command::Call(Call::Write { file: 2, offset: 5, text: None }, None);
         assert_eq!(command_of("write 2 5 -"), from_input);
         assert_eq!(command_of("write 2 5"), from_input);
-        let format = |blocks, force| Command::Call(Call::Format { blocks, force }, None);
+        let format = |blocks, force| Command::Format { blocks, force, cut: None };
         assert_eq!(command_of("format"), format(None, false));
         assert_eq!(command_of("format --blocks 8 --force"), format(Some(8), true));
         assert_eq!(command_of("commit"), Command::Call(Call::Commit, None));
-        assert_eq!(command_of("mount"), Command::Call(Call::Mount, None));
+        assert_eq!(command_of("mount"), Command::Mount(None));
+        assert_eq!(command_of("mount --cut 0,30"), Command::Mount(cut));
         let wipe = Call::Wipe { file: 0, offset: 1 };
         assert_eq!(command_of("wipe 0 1"), Command::Call(wipe, None));
         let cut_off = Call::CutOff { file: 0, offset: 1 };
@@ -387,13 +325,32 @@ mod tests {
     fn calls_that_only_look() {
         assert_eq!(command_of("read 1 2"), Command::Read { file: 1, offset: 2, raw: false });
         assert_eq!(command_of("read 1 2 --raw"), Command::Read { file: 1, offset: 2, raw: true });
-        assert_eq!(command_of("list"), Command::List);
-        assert_eq!(command_of("check"), Command::Check);
+        assert_eq!(command_of("list"), Command::List(false));
+        assert_eq!(command_of("check --json"), Command::Check(true));
+        assert_eq!(command_of("export 3 --text"), Command::Export { file: 3, text: true });
+        assert_eq!(command_of("import 3"), Command::Import { file: 3, text: false });
         assert_eq!(command_of("demo"), Command::Demo);
         assert_eq!(command_of("map"), Command::Map(MapOptions::default()));
         let before_after = Some(("a".into(), "b".into()));
         let options = MapOptions { svg: Some("o.svg".into()), before_after };
         assert_eq!(command_of("map --before a --after b --svg o.svg"), Command::Map(options));
+    }
+
+    #[test]
+    fn a_handover_with_its_words() {
+        assert_eq!(command_of("handover"), Command::Handover(Handover::default()));
+        let line = "handover --keep 3,13 --report out.txt --json --force";
+        let (keep, report) = (vec![3, 13], Some("out.txt".into()));
+        let handover = Handover { keep, report, json: true, force: true };
+        assert_eq!(command_of(line), Command::Handover(handover));
+        assert_eq!(
+            usage("handover 0"),
+            "handover takes no \"0\"; the image file is named by --image"
+        );
+        let text = "a file of --keep is a number in decimal digits and not ";
+        assert_eq!(usage("handover --keep 1,x"), format!("{text}\"x\""));
+        assert_eq!(usage("handover --keep="), format!("{text}\"\""));
+        assert_eq!(usage("handover --report="), "--report needs the name of a file");
     }
 
     #[test]
@@ -413,6 +370,10 @@ mod tests {
         }
         for line in ["write --help", "write -h", "help write", "write 1 --help"] {
             assert_eq!(command_of(line), Command::Help(Topic::Write), "{line}");
+        }
+        assert_eq!(command_of("help --man"), Command::Man);
+        for line in ["--version", "-V", "version"] {
+            assert_eq!(command_of(line), Command::Version, "{line}");
         }
     }
 
@@ -441,11 +402,21 @@ mod tests {
         assert_eq!(usage("write"), "write needs FILE");
         assert_eq!(usage("write 1"), "write needs OFFSET");
         assert_eq!(usage("write 1 2 x y"), "write takes no \"y\"");
-        assert_eq!(usage("list all"), "list takes no \"all\"");
+        assert_eq!(usage("list all"), "list takes no \"all\"; the image file is named by --image");
         assert_eq!(usage("read 1 2 --cut 0,0"), "read has no option --cut");
         assert_eq!(usage("commit --cut"), "--cut needs a value");
         assert_eq!(usage("commit --cut 1,2 --cut 1,2"), "--cut is given twice");
         assert_eq!(usage("format --force=yes"), "--force takes no value");
         assert_eq!(usage("map --before a"), "map takes --before and --after together");
+    }
+
+    #[test]
+    fn two_images_to_compare() {
+        let diff = |json| Command::Diff { old: "a".into(), new: "b".into(), json };
+        assert_eq!(command_of("diff a b"), diff(false));
+        assert_eq!(command_of("diff --json a b"), diff(true));
+        assert_eq!(usage("diff a"), "diff needs NEW");
+        assert_eq!(usage("diff a b c"), "diff takes no \"c\"");
+        assert_eq!(usage("diff a b --image c"), "diff takes OLD and NEW, and no --image");
     }
 }

@@ -1,17 +1,17 @@
-//! The calls on an image file. Each mounts first.
+//! The calls that change the flash, on an image file. Each but format mounts first.
 
 use crate::args::Call;
-use crate::image_file::{self, blocks_in_words, ImageFile, BLOCKS};
-use crate::Problem;
+use crate::image_file::{self, blocks_in_words, counted, name, ImageFile, BLOCKS};
+use crate::{say, Problem};
 use johvimaru::{
-    payload, Cut, CutChip, CutError, Driver, Failure, FileChip, Noise, Offset, Payload, Record,
-    Refusal, BLOCK, MAX_BLOCKS, MIN_BLOCKS,
+    payload, Chip, Cut, CutChip, CutError, Driver, Failure, FileChip, MemoryChip, Noise, Offset,
+    Payload, Record, Refusal, Store, BLOCK, MAX_BLOCKS, MIN_BLOCKS, PAYLOAD,
 };
 use std::io::{self, Read, Write};
 use std::path::Path;
 
 /// A recorder whose chip is a file, and whose power can be cut.
-type Device = Driver<CutChip<FileChip>>;
+pub type Device = Driver<CutChip<FileChip>>;
 
 /// How a call ended.
 #[derive(Clone, Copy, PartialEq, Eq)]
@@ -20,158 +20,214 @@ enum End {
     Cut,
 }
 
-/// Makes a call, and says what it has done.
+/// Makes a call after a mount, and says what it has done.
 pub fn run(path: &Path, call: Call, cut: Option<Cut>, out: &mut dyn Write) -> Result<(), Problem> {
-    // Standard input is read to its end before the image file is touched.
-    let input = match &call {
-        Call::Write { text: None, .. } => standard_input()?,
-        _ => Vec::new(),
+    // What the arguments alone decide is tested before the file is touched.
+    let ready = Ready::of(call)?;
+    let file = match ready {
+        Ready::Write(..) => open_or_make(path)?,
+        _ => ImageFile::open(path)?,
     };
-    let file = ImageFile::begin(path)?;
-    match call {
-        Call::Format { blocks, force } => format(&file, blocks, force, cut, out),
-        Call::Mount => mount(&file, cut, out),
-        call => after_mount(&file, call, &input, cut, out),
+    let mut device = mounted(&file, out)?;
+    let old = device.record().cloned();
+    match make(&mut device, cut, |device| ready.make(device))? {
+        End::Cut => say_cut(&device, out),
+        End::Done => {
+            say_done(&ready, old.as_ref(), &device, out)?;
+            say_late_cut(&device, cut, out)
+        }
     }
-}
-
-/// As many bytes as make it plain whether a payload is too long.
-fn standard_input() -> Result<Vec<u8>, Problem> {
-    let mut bytes = Vec::new();
-    io::stdin().lock().take(johvimaru::PAYLOAD as u64 + 1).read_to_end(&mut bytes)?;
-    Ok(bytes)
 }
 
 // ---- Format
 
-fn format(
-    file: &ImageFile,
+/// Formats an image file, which is made where it is not there.
+pub fn format(
+    path: &Path,
     blocks: Option<usize>,
     force: bool,
     cut: Option<Cut>,
     out: &mut dyn Write,
 ) -> Result<(), Problem> {
-    let before = image_to_format(file, force)?;
-    let old_blocks = before.as_ref().map(|image| image.len() / BLOCK);
-    let blocks = blocks.or(old_blocks).unwrap_or(BLOCKS);
-    if !(MIN_BLOCKS..=MAX_BLOCKS).contains(&blocks) {
+    if blocks.is_some_and(|blocks| !(MIN_BLOCKS..=MAX_BLOCKS).contains(&blocks)) {
         return Err(Refusal::ImageSize.into());
     }
-    let image = match before {
-        Some(image) if image.len() == BLOCK * blocks => image,
-        _ => vec![0xff; BLOCK * blocks],
+    let Some(file) = ImageFile::find(path)? else {
+        return format_new(path, blocks.unwrap_or(BLOCKS), cut, out);
     };
-    let mut device = device(file, &image)?;
-    let end = call(&mut device, cut, |device| device.format(Noise::from_system()?).map_err(told))?;
-    file.keep(device.chip().inner())?;
-    match end {
-        End::Done => writeln!(out, "formatted: {blocks} blocks, all keys new")?,
-        End::Cut => say_cut(&device, out)?,
+    if !force && !file.is_empty()? {
+        let what = what_stands(&file)?;
+        let words = format!("{what}; `format --force` makes an empty store of it");
+        return Err(Problem::System(words));
     }
-    Ok(())
+    let old = file.blocks()?;
+    let blocks = blocks.or(old).unwrap_or(BLOCKS);
+    if old != Some(blocks) {
+        file.clear(blocks)?;
+    }
+    let mut device = device(&file)?;
+    let end = make(&mut device, cut, |device| device.format(Noise::from_system()?).map_err(told))?;
+    say_formatted(end, blocks, &device, cut, out)
 }
 
-/// The image that is formatted, if there is one that may be.
-fn image_to_format(file: &ImageFile, force: bool) -> Result<Option<Vec<u8>>, Problem> {
-    let image = match file.bytes() {
-        Err(Problem::RefusedFile(..)) if force => return Ok(None),
-        image => image?,
-    };
-    if let Some(image) = &image {
-        let empty = image.iter().all(|&byte| byte == 0xff);
-        if !force && !empty {
-            image_file::mount(&file.named, image).map_err(|problem| {
-                Problem::Other(format!("{problem}; `format --force` replaces it all the same"))
-            })?;
+/// What stands in a file, in words.
+fn what_stands(file: &ImageFile) -> Result<String, Problem> {
+    match file.bytes().and_then(|bytes| image_file::mount(&file.named, &bytes)) {
+        Ok(store) => {
+            let nodes = counted(store.record().nodes().count(), "live node");
+            let last = store.record().next_sequence() - 1;
+            Ok(format!("{} holds a store with {nodes}, last sequence {last}", name(&file.named)))
+        }
+        Err(problem @ Problem::System(_)) => Err(problem),
+        Err(problem) => Ok(problem.to_string()),
+    }
+}
+
+/// Formats a file that is not there: the file comes into its folder as the call leaves it.
+fn format_new(
+    path: &Path,
+    blocks: usize,
+    cut: Option<Cut>,
+    out: &mut dyn Write,
+) -> Result<(), Problem> {
+    let chip = MemoryChip::new(vec![0xff; BLOCK * blocks]);
+    let mut device = Driver::new(CutChip::new(chip));
+    let format = |device: &mut Driver<_>| device.format(Noise::from_system()?).map_err(told);
+    let end = make(&mut device, cut, format)?;
+    if !image_file::make(path, device.chip().inner().bytes())? {
+        return Err(Problem::System(format!(
+            "{} was made by another command meanwhile; nothing was done",
+            name(path)
+        )));
+    }
+    say_formatted(end, blocks, &device, cut, out)
+}
+
+fn say_formatted<C: Chip>(
+    end: End,
+    blocks: usize,
+    device: &Driver<CutChip<C>>,
+    cut: Option<Cut>,
+    out: &mut dyn Write,
+) -> Result<(), Problem> {
+    match end {
+        End::Cut => say_cut(device, out),
+        End::Done => {
+            writeln!(out, "formatted: {blocks} blocks, all keys new")?;
+            say_late_cut(device, cut, out)
         }
     }
-    Ok(image)
 }
 
-// ---- Mount, and the calls after it
+/// The file, which is made as an empty store where it is not there.
+fn open_or_make(path: &Path) -> Result<ImageFile, Problem> {
+    if let Some(file) = ImageFile::find(path)? {
+        return Ok(file);
+    }
+    let empty = vec![0xff; BLOCK * BLOCKS];
+    let store = Store::format(empty, Noise::from_system()?).map_err(Refusal::from)?;
+    if image_file::make(path, store.image())? {
+        say(format!("{} was not there; made, {BLOCKS} blocks", name(path)));
+    }
+    ImageFile::open(path)
+}
 
-fn mount(file: &ImageFile, cut: Option<Cut>, out: &mut dyn Write) -> Result<(), Problem> {
-    let before = file.bytes_or_new()?;
-    let mut device = device(file, &before)?;
+// ---- Mount, and what the calls after it need
+
+/// Mounts, and nothing more.
+pub fn mount(path: &Path, cut: Option<Cut>, out: &mut dyn Write) -> Result<(), Problem> {
+    let file = ImageFile::open(path)?;
+    let before = file.bytes()?;
+    let mut device = device(&file)?;
     match mount_device(&mut device, &file.named, cut)? {
         End::Done => {
             if image_file::erased(&before, device.mirror()).is_empty() {
                 writeln!(out, "mounted: nothing to erase")?;
             }
             say_erased(&before, &device, out)?;
-        }
-        End::Cut => say_cut(&device, out)?,
-    }
-    keep_if_changed(file, &device, &before)
-}
-
-/// Mounts, and makes one of the other calls.
-fn after_mount(
-    file: &ImageFile,
-    what: Call,
-    input: &[u8],
-    cut: Option<Cut>,
-    out: &mut dyn Write,
-) -> Result<(), Problem> {
-    let before = file.bytes_or_new()?;
-    let mut device = device(file, &before)?;
-    mount_device(&mut device, &file.named, None)?;
-    say_erased(&before, &device, out)?;
-    let old = device.record().cloned();
-    let ended = call(&mut device, cut, |device| make(device, &what, input));
-    // What the mount has erased is erased, even where the call is refused. Where the file beside failed,
-    // the image file stays as it was.
-    if matches!(ended, Ok(_) | Err(Problem::Refused(_))) {
-        keep_if_changed(file, &device, &before)?;
-    }
-    match ended? {
-        End::Cut => say_cut(&device, out),
-        End::Done => {
-            say_done(&what, old.as_ref(), &device, out)?;
             say_late_cut(&device, cut, out)
         }
+        End::Cut => say_cut(&device, out),
     }
 }
 
-/// Reads a payload and prints it.
-pub fn read(
-    path: &Path,
-    file: u32,
-    offset: u32,
-    raw: bool,
-    out: &mut dyn Write,
-) -> Result<(), Problem> {
-    let image = ImageFile::begin(path)?;
-    let before = image.bytes_or_new()?;
-    let store = image_file::mount(path, &before)?;
-    if store.image() != before {
-        image.replace(store.image())?;
-    }
-    let payload = store.read(Offset::new(file, offset)?)?;
-    out.write_all(&if raw { payload.to_vec() } else { trimmed(&payload) })?;
-    Ok(())
+/// A device that is mounted, on a file. What the mount has erased is told.
+pub fn mounted(file: &ImageFile, out: &mut dyn Write) -> Result<Device, Problem> {
+    let before = file.bytes()?;
+    let mut device = device(file)?;
+    mount_device(&mut device, &file.named, None)?;
+    say_erased(&before, &device, out)?;
+    Ok(device)
 }
 
-/// A payload without the spaces at its end, as lines.
-fn trimmed(payload: &Payload) -> Vec<u8> {
-    let length = payload.iter().rposition(|&byte| byte != b' ').map_or(0, |last| last + 1);
-    let mut text = payload[..length].to_vec();
-    if text.last() != Some(&b'\n') {
-        text.push(b'\n');
+/// A call that comes after a mount, its arguments tested as far as they can be without an image.
+enum Ready {
+    Write(Offset, Box<Payload>),
+    CutOff(Offset),
+    Commit,
+    Wipe(Offset),
+}
+
+impl Ready {
+    fn of(call: Call) -> Result<Ready, Problem> {
+        Ok(match call {
+            Call::Write { file, offset, text } => {
+                let at = offset_in(file, offset)?;
+                let bytes = text.map_or_else(standard_input, Ok)?;
+                Ready::Write(at, Box::new(fitting(&bytes)?))
+            }
+            Call::CutOff { file, offset } => Ready::CutOff(offset_in(file, offset)?),
+            Call::Wipe { file, offset } => Ready::Wipe(offset_in(file, offset)?),
+            Call::Commit => Ready::Commit,
+        })
     }
-    text
+
+    fn make(&self, device: &mut Device) -> Result<(), Problem> {
+        match self {
+            Ready::Write(at, payload) => device.write(*at, payload),
+            Ready::CutOff(from) => device.cut_off(*from),
+            Ready::Commit => device.commit(Noise::from_system()?),
+            Ready::Wipe(from) => device.wipe(*from, Noise::from_system()?),
+        }
+        .map_err(told)
+    }
+}
+
+/// As many bytes as make it plain whether a payload is too long.
+fn standard_input() -> Result<Vec<u8>, Problem> {
+    let mut bytes = Vec::new();
+    io::stdin().lock().take(PAYLOAD as u64 + 1).read_to_end(&mut bytes)?;
+    Ok(bytes)
+}
+
+/// The offset of these numbers. A refusal says how many the file has.
+pub fn offset_in(file: u32, offset: u32) -> Result<Offset, Problem> {
+    let file = johvimaru::File::new(file)?;
+    file.offset(offset).map_err(|refusal| {
+        let count = file.count();
+        let words = format!("{file} has {count} offsets, 0 to {}, and no {offset}", count - 1);
+        Problem::Explained(refusal, words)
+    })
+}
+
+/// The payload of these bytes. A refusal says how many there may be.
+pub fn fitting(bytes: &[u8]) -> Result<Payload, Problem> {
+    payload(bytes).map_err(|refusal| {
+        let words = format!("a payload has at most {PAYLOAD} bytes, and this text has more");
+        Problem::Explained(refusal, words)
+    })
 }
 
 // ---- The device
 
-/// A device on a copy of the image, in the file beside.
-fn device(file: &ImageFile, image: &[u8]) -> Result<Device, Problem> {
-    Ok(Driver::new(CutChip::new(file.chip(image)?)))
+/// A device on a file, not yet mounted.
+pub fn device(file: &ImageFile) -> Result<Device, Problem> {
+    Ok(Driver::new(CutChip::new(file.chip()?)))
 }
 
 /// Mounts the device. A refusal is one of the file.
 fn mount_device(device: &mut Device, path: &Path, cut: Option<Cut>) -> Result<End, Problem> {
-    let end = call(device, cut, |device| device.mount().map_err(told));
+    let end = make(device, cut, |device| device.mount().map_err(told));
     end.map_err(|problem| match problem {
         Problem::Refused(refusal) => image_file::refused(path, refusal),
         other => other,
@@ -179,53 +235,28 @@ fn mount_device(device: &mut Device, path: &Path, cut: Option<Cut>) -> Result<En
 }
 
 /// Makes a call, with the power cut where that is asked.
-fn call(
-    device: &mut Device,
+fn make<C: Chip>(
+    device: &mut Driver<CutChip<C>>,
     cut: Option<Cut>,
-    make: impl FnOnce(&mut Device) -> Result<(), Problem>,
+    call: impl FnOnce(&mut Driver<CutChip<C>>) -> Result<(), Problem>,
 ) -> Result<End, Problem> {
     match cut {
         Some(cut) => device.chip_mut().cut_at(cut),
         None => device.chip_mut().power_on(),
     }
-    match make(device) {
+    match call(device) {
         Ok(()) => Ok(End::Done),
         Err(_) if device.chip().is_off() => Ok(End::Cut),
         Err(problem) => Err(problem),
     }
 }
 
-/// Makes a call that comes after a mount.
-fn make(device: &mut Device, what: &Call, input: &[u8]) -> Result<(), Problem> {
-    match what {
-        Call::Write { file, offset, text } => {
-            let at = Offset::new(*file, *offset)?;
-            let payload = payload(text.as_deref().unwrap_or(input))?;
-            device.write(at, &payload).map_err(told)
-        }
-        Call::CutOff { file, offset } => device.cut_off(Offset::new(*file, *offset)?).map_err(told),
-        Call::Commit => device.commit(Noise::from_system()?).map_err(told),
-        Call::Wipe { file, offset } => {
-            let from = Offset::new(*file, *offset)?;
-            device.wipe(from, Noise::from_system()?).map_err(told)
-        }
-        Call::Format { .. } | Call::Mount => Ok(()),
-    }
-}
-
 /// A failure of the device as the command tells it.
-fn told(failure: Failure<CutError<io::Error>>) -> Problem {
+pub fn told<E: std::fmt::Display>(failure: Failure<CutError<E>>) -> Problem {
     match failure {
         Failure::Refused(refusal) => Problem::Refused(refusal),
-        other => Problem::Other(other.to_string()),
-    }
-}
-
-/// Puts the file beside in place of the image file, where it is another.
-fn keep_if_changed(file: &ImageFile, device: &Device, before: &[u8]) -> Result<(), Problem> {
-    match file.beside()? == before {
-        true => Ok(()),
-        false => file.keep(device.chip().inner()),
+        Failure::Chip(CutError::Chip(error)) => Problem::System(format!("the image file: {error}")),
+        other => Problem::System(other.to_string()),
     }
 }
 
@@ -239,14 +270,18 @@ fn say_erased(before: &[u8], device: &Device, out: &mut dyn Write) -> Result<(),
     Ok(())
 }
 
-fn say_cut(device: &Device, out: &mut dyn Write) -> Result<(), Problem> {
+fn say_cut<C: Chip>(device: &Driver<CutChip<C>>, out: &mut dyn Write) -> Result<(), Problem> {
     let (steps, bytes) = (device.chip().steps(), device.chip().cut_bytes());
     writeln!(out, "the power failed after {} and {bytes} bytes of one more", whole_steps(steps))?;
     Ok(())
 }
 
 /// Says of a call that was done that the cut came too late for it.
-fn say_late_cut(device: &Device, cut: Option<Cut>, out: &mut dyn Write) -> Result<(), Problem> {
+fn say_late_cut<C: Chip>(
+    device: &Driver<CutChip<C>>,
+    cut: Option<Cut>,
+    out: &mut dyn Write,
+) -> Result<(), Problem> {
     if cut.is_some() {
         let steps = whole_steps(device.chip().steps());
         writeln!(out, "the call was done before the cut: it has {steps}")?;
@@ -259,30 +294,31 @@ fn whole_steps(steps: u64) -> String {
 }
 
 fn say_done(
-    what: &Call,
+    ready: &Ready,
     old: Option<&Record>,
     device: &Device,
     out: &mut dyn Write,
 ) -> Result<(), Problem> {
     let (Some(old), Some(new)) = (old, device.record()) else { return Ok(()) };
     let gone = old.nodes().filter(|node| new.node(node.at).is_none()).count();
-    let nodes = format!("{gone} node{}", if gone == 1 { "" } else { "s" });
-    match *what {
-        Call::Write { file, offset, .. } => {
-            if let Some(node) = new.node(Offset::new(file, offset)?) {
-                writeln!(out, "written: {}, page {}, key {}", node.at, node.page, node.key)?;
+    let removed = |from: &Offset| {
+        format!("{} of {} from offset {} on", counted(gone, "node"), from.file(), from.number())
+    };
+    match ready {
+        Ready::Write(at, _) => {
+            if let Some(node) = new.node(*at) {
+                writeln!(out, "written: {at}, page {}, key {}", node.page, node.key)?;
             }
         }
-        Call::CutOff { file, offset } => {
-            writeln!(out, "removed: {nodes} of file {file} from offset {offset} on")?;
+        Ready::CutOff(from) => {
+            writeln!(out, "removed: {}", removed(from))?;
             writeln!(out, "their keys are deleted, and on the image until a commit")?;
         }
-        Call::Wipe { file, offset } => {
-            writeln!(out, "wiped: {nodes} of file {file} from offset {offset} on")?;
+        Ready::Wipe(from) => {
+            writeln!(out, "wiped: {}", removed(from))?;
             writeln!(out, "each key that no node has is a new one")?;
         }
-        Call::Commit => writeln!(out, "committed: each key that no node has is a new one")?,
-        Call::Format { .. } | Call::Mount => {}
+        Ready::Commit => writeln!(out, "committed: each key that no node has is a new one")?,
     }
     Ok(())
 }

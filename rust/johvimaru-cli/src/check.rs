@@ -1,22 +1,70 @@
 //! What is on an image, in words.
 
-use crate::image_file::{self, blocks_in_words};
+use crate::image_file::{self, blocks_in_words, counted, numbers_in_words};
+use crate::json::Json;
+use crate::listing;
 use crate::Problem;
-use johvimaru::{File, Form, Header, Record, BLOCK, PAGES_IN_BLOCK};
+use johvimaru::{File, Form, Header, Record, Store, BLOCK, PAGES_IN_BLOCK};
 use std::io::Write;
 use std::path::Path;
 
-/// Mounts a copy of an image file, and says what is there.
-pub fn run(path: &Path, out: &mut dyn Write) -> Result<(), Problem> {
+/// Mounts a copy of an image file, and says what is there. What is left of deleted nodes or of cut calls is a
+/// problem.
+pub fn run(path: &Path, json: bool, out: &mut dyn Write) -> Result<(), Problem> {
     let image = image_file::look(path)?;
-    let store = image_file::mount(path, &image)?;
-    let blocks = image.len() / BLOCK;
-    writeln!(out, "{}: {blocks} blocks, {} bytes", path.display(), image.len())?;
-    out.write_all(contents(store.record()).as_bytes())?;
-    let left = pages_left(store.image());
-    writeln!(out, "pages that writes and cut-offs can still take: {left}")?;
-    out.write_all(would_erase(&image, store.image()).as_bytes())?;
-    Ok(())
+    let store = match image_file::mount(path, &image) {
+        Err(Problem::RefusedFile(file, refusal)) if json => {
+            writeln!(out, "{}", listing::refused(refusal))?;
+            return Err(Problem::RefusedFile(file, refusal));
+        }
+        store => store?,
+    };
+    let strays = image_file::erased(&image, store.image());
+    let spoilt = image_file::spoilt(store.image());
+    if json {
+        writeln!(out, "{}", as_json(path, &store, &strays, &spoilt))?;
+    } else {
+        let blocks = image.len() / BLOCK;
+        writeln!(out, "{}: {blocks} blocks, {} bytes", image_file::name(path), image.len())?;
+        out.write_all(contents(store.record()).as_bytes())?;
+        let left = pages_left(store.image());
+        writeln!(out, "pages that writes and cut-offs can still take: {left}")?;
+        out.write_all(would_erase(&strays).as_bytes())?;
+        if !spoilt.is_empty() {
+            let pages = numbers_in_words("page", &spoilt);
+            writeln!(out, "spoilt, by a cut erase or by damage: {pages}")?;
+        }
+    }
+    leftovers(store.record().counts().deleted, &strays, &spoilt)
+}
+
+/// Tells of deleted keys, of blocks that are no part of the store, and of pages that no call reads.
+fn leftovers(deleted: usize, strays: &[usize], spoilt: &[usize]) -> Result<(), Problem> {
+    let keys = (deleted > 0).then(|| counted(deleted, "deleted key"));
+    let blocks = (!strays.is_empty()).then(|| format!("{} of a cut call", blocks_in_words(strays)));
+    let pages = (!spoilt.is_empty()).then(|| counted(spoilt.len(), "spoilt page"));
+    let left: Vec<String> = keys.into_iter().chain(blocks).chain(pages).collect();
+    match left.is_empty() {
+        true => Ok(()),
+        false => Err(Problem::Leftovers(format!("left over: {}", left.join(", ")))),
+    }
+}
+
+fn as_json(path: &Path, store: &Store<Vec<u8>>, strays: &[usize], spoilt: &[usize]) -> Json {
+    let record = store.record();
+    Json::Object(vec![
+        ("image", path.display().to_string().into()),
+        ("blocks", (store.image().len() / BLOCK).into()),
+        ("nodes", Json::List(record.nodes().map(listing::node).collect())),
+        ("keys", listing::keys(record.counts())),
+        ("next_sequence", record.next_sequence().into()),
+        ("next_epoch", record.next_epoch().into()),
+        ("key_blocks", Json::numbers(record.key_blocks())),
+        ("commit_block", record.commit_block().into()),
+        ("pages_left", pages_left(store.image()).into()),
+        ("would_erase", Json::numbers(strays.iter().copied())),
+        ("spoilt_pages", Json::numbers(spoilt.iter().copied())),
+    ])
 }
 
 /// What a record says.
@@ -49,8 +97,8 @@ fn contents(record: &Record) -> String {
 }
 
 /// The blocks that a mount erases, in words.
-fn would_erase(before: &[u8], after: &[u8]) -> String {
-    match &image_file::erased(before, after)[..] {
+fn would_erase(strays: &[usize]) -> String {
+    match strays {
         [] => "a mount would erase nothing\n".into(),
         blocks => {
             format!("a mount would erase {}, no part of the store\n", blocks_in_words(blocks))
@@ -60,7 +108,7 @@ fn would_erase(before: &[u8], after: &[u8]) -> String {
 
 /// How many pages writes and cut-offs can take on a mounted image before there is no room: the empty
 /// ones at the end of each data block, and all of the empty blocks but one.
-fn pages_left(image: &[u8]) -> usize {
+pub fn pages_left(image: &[u8]) -> usize {
     let forms: Vec<Form> = Form::all(image).collect();
     let (mut in_data, mut empty) = (0, 0);
     for block in forms.chunks(PAGES_IN_BLOCK) {
@@ -80,7 +128,7 @@ fn pages_left(image: &[u8]) -> usize {
 #[cfg(test)]
 mod tests {
     use super::*;
-    use johvimaru::{Noise, Offset, Refusal, Store};
+    use johvimaru::{Noise, Offset, Refusal};
 
     /// The pages left are as many as writes are then taken.
     #[test]

@@ -1,6 +1,8 @@
 //! A handover, played on a chip in memory.
 
+use crate::calls::told;
 use crate::picture::{self, Shown};
+use crate::seen::Seen;
 use crate::Problem;
 use johvimaru::{
     payload, Cut, CutChip, CutError, Driver, Failure, File, MemoryChip, Misuse, Noise, Offset,
@@ -36,12 +38,6 @@ type Device = Driver<CutChip<MemoryChip>>;
 struct Noted {
     position: usize,
     bytes: [u8; KEY],
-}
-
-/// The image and record at one time, for the picture.
-struct Seen {
-    image: Vec<u8>,
-    record: Record,
 }
 
 /// Plays the handover.
@@ -168,7 +164,7 @@ impl Play<'_> {
         let found = noted.iter().filter(|key| contains(chip, &key.bytes)).count();
         let bytes = chip.len();
         if found > 0 {
-            return Err(Problem::Other(format!("{found} old keys are still on the chip")));
+            return Err(Problem::System(format!("{found} old keys are still on the chip")));
         }
         self.say(&format!("none of the {} keys begins at any of the {bytes} bytes", noted.len()))
     }
@@ -182,13 +178,10 @@ impl Play<'_> {
     }
 
     fn pictures(&mut self, before: &Seen, after: &Seen) -> Result<(), Problem> {
-        let shown = [("before the wipe", before), ("after it", after)].map(|(title, seen)| Shown {
-            title,
-            image: &seen.image,
-            record: Ok(&seen.record),
-        });
+        let shown = [("before the wipe", before), ("after it", after)]
+            .map(|(title, seen)| Shown { title: title.into(), seen });
         writeln!(self.out)?;
-        self.out.write_all(picture::text(&shown, picture::colours()).as_bytes())?;
+        self.out.write_all(picture::text(&shown).as_bytes())?;
         Ok(())
     }
 
@@ -217,7 +210,7 @@ impl Play<'_> {
     }
 
     fn seen(&self) -> Seen {
-        Seen { image: self.device.mirror().to_vec(), record: self.record() }
+        Seen::of(self.device.mirror().to_vec())
     }
 
     /// The power comes on, and the device mounts.
@@ -231,7 +224,7 @@ impl Play<'_> {
         match result {
             Err(Failure::Chip(CutError::PowerCut)) => Ok(()),
             Err(other) => Err(told(other)),
-            Ok(()) => Err(Problem::Other("the call ended before the cut".into())),
+            Ok(()) => Err(Problem::System("the call ended before the cut".into())),
         }
     }
 
@@ -263,11 +256,4 @@ impl Play<'_> {
 /// Whether some bytes stand anywhere in an image.
 fn contains(image: &[u8], bytes: &[u8]) -> bool {
     image.windows(bytes.len()).any(|window| window == bytes)
-}
-
-fn told(failure: Failure<CutError<Misuse>>) -> Problem {
-    match failure {
-        Failure::Refused(refusal) => Problem::Refused(refusal),
-        other => Problem::Other(other.to_string()),
-    }
 }

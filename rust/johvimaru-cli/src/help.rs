@@ -19,6 +19,12 @@ pub enum Topic {
     Commit,
     /// `wipe`.
     Wipe,
+    /// `handover`.
+    Handover,
+    /// `export`.
+    Export,
+    /// `import`.
+    Import,
     /// `list`.
     List,
     /// `check`.
@@ -27,11 +33,15 @@ pub enum Topic {
     Map,
     /// `demo`.
     Demo,
+    /// `diff`.
+    Diff,
+    /// `version`.
+    Version,
 }
 
 impl Topic {
     /// All topics.
-    pub const ALL: [Topic; 12] = [
+    pub const ALL: [Topic; 17] = [
         Topic::Johvimaru,
         Topic::Format,
         Topic::Mount,
@@ -40,10 +50,15 @@ impl Topic {
         Topic::CutOff,
         Topic::Commit,
         Topic::Wipe,
+        Topic::Handover,
+        Topic::Export,
+        Topic::Import,
         Topic::List,
         Topic::Check,
         Topic::Map,
         Topic::Demo,
+        Topic::Diff,
+        Topic::Version,
     ];
 
     /// Its name among the words of the command.
@@ -57,10 +72,15 @@ impl Topic {
             Topic::CutOff => "cut-off",
             Topic::Commit => "commit",
             Topic::Wipe => "wipe",
+            Topic::Handover => "handover",
+            Topic::Export => "export",
+            Topic::Import => "import",
             Topic::List => "list",
             Topic::Check => "check",
             Topic::Map => "map",
             Topic::Demo => "demo",
+            Topic::Diff => "diff",
+            Topic::Version => "version",
         }
     }
 
@@ -81,10 +101,15 @@ pub fn text(topic: Topic) -> &'static str {
         Topic::CutOff => CUT_OFF,
         Topic::Commit => COMMIT,
         Topic::Wipe => WIPE,
+        Topic::Handover => HANDOVER,
+        Topic::Export => EXPORT,
+        Topic::Import => IMPORT,
         Topic::List => LIST,
         Topic::Check => CHECK,
         Topic::Map => MAP,
         Topic::Demo => DEMO,
+        Topic::Diff => DIFF,
+        Topic::Version => VERSION,
     }
 }
 
@@ -100,26 +125,36 @@ johvimaru: a flash page store that forgets, on an image file
   cut-off FILE OFFSET          remove the nodes of a file from an offset on
   commit                       replace the keys that no node has
   wipe FILE OFFSET             cut off and commit: it cannot be read again
+  handover [--keep FILE,..]    clear all files for the next owner, with a report
+  export FILE                  print the nodes of a file, a line each
+  import FILE                  write the nodes of such lines
   list                         the nodes with their pages and keys, in columns
   check                        what is there, in words
   map                          a picture of blocks, pages and keys
+  diff OLD NEW                 what has changed between two images
   demo                         a handover with power cuts, from beginning to end
+  version                      the version of this command
   help WHAT                    more on one of these
 
 The image file is recorder.img in the working folder, or the one that --image
-names. It is made on first use, as an empty store of 32 blocks. Each call but
+names. Only format makes it, and write, where there is none. Each call but
 format mounts it first, as a recorder does when its power comes on. The file
-is replaced as a whole, so it is never half of one thing and half of another.
+is changed in place, step by step, each step on the disk before the next: a
+command that is stopped leaves what a power failure leaves, and the next call
+mounts it; a format that was stopped is made again, with --force. read, export,
+list, check, map and diff change nothing.
 
 Files are 0 to 13. Files 0 and 1 have 32 offsets, 2 and 3 have 24, 4 to 7 have
 16, 8 to 13 have 8.
 
---cut n,k goes with every call that changes the flash: the power fails after n
-whole steps and k bytes of one more. A step programs a page of 256 bytes or
-erases a block of 4,096.
+--cut n,k goes with format, mount, write, cut-off, commit and wipe: the power
+fails after n whole steps and k bytes of one more. A step programs a page of
+256 bytes or erases a block of 4,096.
 
-The exit status is 0; or 1 where a call is refused, with the refusal's number;
-or 2 where the words of the command are not understood.
+The exit status is 0 where it is done; 1 where a call is refused, with the
+refusal's number; 2 where the words of the command are not understood; 3 where
+the file, the lines of an import or the system do not allow it; 4 where check
+or handover finds that something is left.
 ";
 
 const FORMAT: &str = "\
@@ -129,8 +164,8 @@ Makes an empty store of N blocks, 8 to 256; all that was on the image is gone.
 Without --blocks an image that is there keeps its size, and a new one has 32.
 The keys come from the system's randomness.
 
-A file that is there and cannot be mounted is left alone, unless all its
-blocks are empty or --force is given.
+A file in which any byte is not FFh is left alone, and what stands in it is
+told, unless --force is given.
 
 It has a step for each block, which erases it, and 42 more.
 ";
@@ -141,6 +176,14 @@ johvimaru mount [--cut n,k] [--image FILE]
 Finds the record from what is on the image alone, and erases the blocks that
 cut calls have left. The other calls do this first, format does not. It has a
 step for each block that it erases.
+
+After a power failure a mount is never refused, whenever it was, unless the
+call that was cut is a format. So 12, 13 and 14 mean one of these:
+- it was never formatted, or a format was cut: `format --force`;
+- the image was read out badly, or another file: read it out again;
+- something else wrote to the chip, or it is worn: keep a copy and look at it
+  with `map`. Without its keys nothing can be read.
+To hand it over nevertheless, with nothing to save: `handover --force`.
 ";
 
 const WRITE: &str = "\
@@ -159,7 +202,8 @@ const READ: &str = "\
 johvimaru read FILE OFFSET [--raw] [--image FILE]
 
 Prints the payload without the spaces at its end, and ends the line. With
---raw the 224 bytes are printed as they are.
+--raw the 224 bytes are printed as they are. It mounts a copy, and leaves the
+image as it is.
 ";
 
 const CUT_OFF: &str = "\
@@ -186,21 +230,63 @@ step has ended it has removed nothing. Cut later it has removed the nodes, but
 some of their keys may still be there: wipe again.
 ";
 
+const HANDOVER: &str = "\
+johvimaru handover [--keep FILE,..] [--report OUT] [--json] [--force]
+                   [--image FILE]
+
+Clears a recorder for its next owner: wipes every file that has a node, but
+not the kept ones, or commits where none has. Then it reads the image anew and
+reports: what was there by file, what is left, the hashes of the image before
+and after, for each key that was there before whether a copy of it is left at
+any byte, and what a reader of the chip can still learn. No content is told.
+The last line says whether the recorder may be handed over; where it may not,
+the exit status is not 0.
+
+With --report the report goes to a file that is not yet there; until the
+handover is finished it says that it is not. With --json it is JSON. A file of
+--keep must have a node.
+
+An image that mount refuses, or whose epochs do not last for the wipes, is
+left as it is. With --force it is formatted, if any page of a recorder is on
+it, and nothing of it can be kept.
+
+A handover that was stopped is made again. Keep both reports then.
+";
+
+const EXPORT: &str = "\
+johvimaru export FILE [--text] [--image FILE]
+
+Prints a line for each node of a file: its offset, a tab, and its payload in
+448 hexadecimal digits. With --text the payload is printed as text, without the
+spaces at its end; a tab, an end of line, a backslash and what is no text are
+printed as \\t, \\n, \\r, \\\\ and \\x with two digits. The image is left as it is.
+";
+
+const IMPORT: &str = "\
+johvimaru import FILE [--text] [--image FILE]
+
+Writes the nodes of such lines, read from standard input, into a file. All
+lines are tested first, and whether there are keys and pages for all of them:
+where one is wrong nothing is written. Nodes at other offsets stay.
+";
+
 const LIST: &str = "\
-johvimaru list [--image FILE]
+johvimaru list [--json] [--image FILE]
 
 Prints a line for each node: file, offset, page and key position in 4, 4, 6
 and 6 columns. Then how many keys are used, free and deleted, 6 columns each.
 It mounts a copy, and leaves the file as it is. Where the mount is refused it
-prints the number in 6 columns.
+prints the number in 6 columns. With --json all of it is JSON.
 ";
 
 const CHECK: &str = "\
-johvimaru check [--image FILE]
+johvimaru check [--json] [--image FILE]
 
 Mounts a copy and says what is there: the nodes of each file, how many keys
 are used, free and deleted, the next numbers, the pages that writes can still
 take, and the blocks that a mount would erase. It leaves the file as it is.
+The exit status is 4 where keys are deleted, blocks would be erased, or pages
+are spoilt.
 ";
 
 const MAP: &str = "\
@@ -208,9 +294,14 @@ johvimaru map [--svg OUT.svg] [--image FILE]
 johvimaru map --before A --after B [--svg OUT.svg]
 
 Draws the image: a row for each block, a cell for each page by what it is, and
-the 448 key positions by letter. With --before and --after two images stand
-side by side. With --svg the picture goes into a file, else it is printed: in
-colours on a terminal, unless NO_COLOR is set.
+the 448 key positions by letter. With --before and --after two images are
+drawn, with marks at what has changed since: nodes that are gone, keys that
+are replaced, blocks that are erased.
+
+With --svg the picture goes into a file, in which each cell has a tooltip that
+says what it is. Else it is printed: in colours on a terminal, unless NO_COLOR
+is set, and no wider than the terminal's window, or where there is none than
+the variable COLUMNS says.
 
 It mounts a copy, and leaves the image as it is. One that mount refuses is
 drawn by the form of its pages; the exit status is then 1.
@@ -223,6 +314,27 @@ Plays a handover on an image in memory: one firm's draughts and track are
 written, one is overwritten, the power fails in a write and in a wipe, and
 after each step it says what has changed. At the end it looks for the old keys
 in every byte of the image, and draws it before and after.
+";
+
+const VERSION: &str = "\
+johvimaru version
+
+Prints the version of the command, as --version does.
+";
+
+const DIFF: &str = "\
+johvimaru diff OLD NEW [--json]
+
+Compares two image files of a recorder, an older and a newer one, and says
+what a reader of both sees: the nodes that are new or gone or have another
+payload, page or key; the keys that were replaced, and which of the old ones
+stand anywhere on the newer image; the blocks that were erased or written; and
+the next numbers and the places of keys and commit. No payload and no key is
+printed.
+
+It mounts copies, and leaves both files as they are. The exit status is 0
+whether they differ or not. Where a mount is refused it says what can be told
+without it, and the exit status is 1.
 ";
 
 #[cfg(test)]

@@ -1,26 +1,57 @@
 //! Document 01's listing.
 
 use crate::image_file;
+use crate::json::Json;
 use crate::Problem;
-use johvimaru::{Record, Store};
+use johvimaru::{KeyCounts, Node, Record, Refusal};
 use std::io::Write;
 use std::path::Path;
 
 /// Prints the listing of an image file. Where its mount is refused, the number is printed.
-pub fn run(path: &Path, out: &mut dyn Write) -> Result<(), Problem> {
-    let result = image_file::look(path).and_then(|image| {
-        Store::mount(image).map_err(|refused| image_file::refused(path, refused.refusal))
-    });
-    match result {
+pub fn run(path: &Path, json: bool, out: &mut dyn Write) -> Result<(), Problem> {
+    match image_file::look(path).and_then(|image| image_file::mount(path, &image)) {
+        Ok(store) if json => writeln!(out, "{}", as_json(store.record()))?,
         Ok(store) => out.write_all(text(store.record()).as_bytes())?,
         Err(problem) => {
             if let Problem::RefusedFile(_, refusal) = problem {
-                writeln!(out, "{:6}", refusal.number())?;
+                match json {
+                    true => writeln!(out, "{}", refused(refusal))?,
+                    false => writeln!(out, "{:6}", refusal.number())?,
+                }
             }
             return Err(problem);
         }
     }
     Ok(())
+}
+
+/// A refusal as JSON.
+pub fn refused(refusal: Refusal) -> Json {
+    Json::Object(vec![("refused", refusal.number().into())])
+}
+
+/// A node as JSON.
+pub fn node(node: Node) -> Json {
+    Json::Object(vec![
+        ("file", node.at.file().number().into()),
+        ("offset", node.at.number().into()),
+        ("page", node.page.into()),
+        ("key", node.key.into()),
+    ])
+}
+
+/// How many keys have each letter, as JSON.
+pub fn keys(counts: KeyCounts) -> Json {
+    Json::Object(vec![
+        ("used", counts.used.into()),
+        ("free", counts.free.into()),
+        ("deleted", counts.deleted.into()),
+    ])
+}
+
+fn as_json(record: &Record) -> Json {
+    let nodes = record.nodes().map(node).collect();
+    Json::Object(vec![("nodes", Json::List(nodes)), ("keys", keys(record.counts()))])
 }
 
 /// A line for each node, by place, then how many keys have each letter.
@@ -37,7 +68,7 @@ pub fn text(record: &Record) -> String {
 #[cfg(test)]
 mod tests {
     use super::*;
-    use johvimaru::{Noise, Offset, Refusal};
+    use johvimaru::{Noise, Offset, Store};
 
     #[test]
     fn the_case_of_document_01() -> Result<(), Refusal> {

@@ -9,7 +9,7 @@ use std::fs;
 use std::os::unix::ffi::OsStringExt;
 
 /// All calls on an image.
-const CALLS: [&str; 10] = [
+const CALLS: [&str; 13] = [
     "format",
     "mount",
     "write 0 0 x",
@@ -20,10 +20,13 @@ const CALLS: [&str; 10] = [
     "list",
     "check",
     "map",
+    "export 0",
+    "import 0",
+    "handover",
 ];
 
 /// Lines that are not understood.
-const WRONG: [&str; 44] = [
+const WRONG: [&str; 57] = [
     "",
     "forget",
     "--cut 1,2",
@@ -66,8 +69,21 @@ const WRONG: [&str; 44] = [
     "demo fast",
     "help forget",
     "help write read",
+    "help --man write",
     "-x",
     "--image",
+    "export",
+    "export x",
+    "export 0 1",
+    "import 0 --raw",
+    "import --text",
+    "handover 0",
+    "handover --keep",
+    "handover --keep x",
+    "handover --keep 1,",
+    "handover --report=",
+    "version 2",
+    "list --json=yes",
 ];
 
 #[test]
@@ -84,8 +100,8 @@ fn words_that_are_not_understood() {
 
 /// Words that the command knows.
 const KNOWN: &str =
-    "write read format list wipe commit 0 1 13 - -- --cut 0,0 --blocks 8 --image i.img \
-                     --raw --help = --cut=1,1";
+    "write read format list wipe commit handover export import check 0 1 13 - -- --cut 0,0 \
+     --blocks 8 --image i.img --raw --help = --cut=1,1 --keep --json --text --version";
 
 /// Any bytes may stand among the words: the command answers, and does not fall over.
 #[test]
@@ -105,7 +121,7 @@ fn random_words() {
             })
             .collect();
         let ran = folder.run_words(&words);
-        assert!((0..=2).contains(&ran.status), "case {case}, {words:?}: {}", ran.errors);
+        assert!((0..=4).contains(&ran.status), "case {case}, {words:?}: {}", ran.errors);
         assert!(!ran.errors.contains("panicked"), "case {case}, {words:?}: {}", ran.errors);
     }
 }
@@ -127,12 +143,21 @@ fn files_that_are_no_images() {
         for line in CALLS {
             folder.put("recorder.img", &bytes);
             let ran = folder.run(line);
+            if line == "format" && bytes.iter().all(|&byte| byte == 0xff) {
+                // A file without anything in it may be formatted, whatever its size.
+                assert_eq!(ran.status, 0, "{}", ran.errors);
+                continue;
+            }
             let said = format!("johvimaru: recorder.img: refused {number}: ");
             assert!(ran.errors.starts_with(&said), "{line}: {}", ran.errors);
-            assert_eq!(ran.status, 1, "{line}");
+            assert_eq!(ran.status, if line == "format" { 3 } else { 1 }, "{line}");
             match (line, number) {
                 ("list", _) => assert_eq!(ran.printed, format!("{number:6}\n")),
                 ("map", 13) => assert!(ran.printed.contains("mount refuses it, 13"), "{ran:?}"),
+                ("handover", _) => {
+                    let loud = format!("THE RECORDER MUST NOT BE HANDED OVER: {}", &said[11..]);
+                    assert!(ran.printed.starts_with(&loud), "{ran:?}");
+                }
                 _ => assert_eq!(ran.printed, "", "{line}"),
             }
             assert!(folder.image() == bytes, "{line}: the file was changed");
@@ -141,25 +166,64 @@ fn files_that_are_no_images() {
     }
 }
 
-/// Only with --force is a file formatted that cannot be mounted. An empty chip can be formatted.
+/// Only with --force is a file formatted that holds anything, and what it holds is told. An empty chip can be
+/// formatted.
 #[test]
 fn a_format_over_something_else() {
     let folder = Folder::new("over");
     folder.put("recorder.img", &[b'x'; 9 * BLOCK]);
     let ran = folder.run("format");
-    assert!(ran.errors.ends_with("; `format --force` replaces it all the same\n"), "{ran:?}");
+    assert_eq!(ran.status, 3);
+    assert!(ran.errors.ends_with("; `format --force` makes an empty store of it\n"), "{ran:?}");
     folder.done("format --force");
     assert_eq!(folder.image().len(), 9 * BLOCK);
+    folder.done("write 0 0 x");
+    folder.done("write 0 1 y");
+    let before = folder.image();
+    for line in ["format", "format --blocks 8", "format --cut 3,3"] {
+        let said = "johvimaru: recorder.img holds a store with 2 live nodes, last sequence 2; \
+                    `format --force` makes an empty store of it\n";
+        let ran = folder.run(line);
+        assert_eq!((ran.status, &ran.errors[..]), (3, said), "{line}");
+        assert!(folder.image() == before, "{line}");
+    }
     folder.put("recorder.img", b"too short");
+    assert_eq!(folder.run("format").status, 3);
     folder.done("format --force");
     assert_eq!(folder.image().len(), 32 * BLOCK);
     folder.put("recorder.img", &[0xff; 10 * BLOCK]);
     folder.done("format");
     assert_eq!(folder.image().len(), 10 * BLOCK);
-    folder.done("format --cut 20,9");
-    assert_eq!(folder.run("format").status, 1, "a format that was cut left no image");
+    folder.done("format --force --cut 20,9");
+    assert_eq!(folder.run("format").status, 3, "a format that was cut left no image");
     folder.done("format --force");
     folder.done("check");
+}
+
+/// Where there is no file, only format and write make one; all other calls leave nothing behind.
+#[test]
+fn a_file_that_is_not_there() {
+    let folder = Folder::new("not-there");
+    for line in
+        CALLS.iter().filter(|line| !line.starts_with("format") && !line.starts_with("write"))
+    {
+        let ran = folder.run(line);
+        let said = "johvimaru: recorder.img is not there; \
+                    check the name, or name the image file by --image\n";
+        assert_eq!((ran.status, &ran.errors[..]), (3, said), "{line}");
+        assert_eq!(ran.printed.is_empty(), *line != "handover", "{line}");
+    }
+    for line in ["write 14 0 x", "write 0 32 x", "format --blocks 7"] {
+        assert_eq!(folder.run(line).status, 1, "{line}");
+    }
+    assert_eq!(folder.names(), [""; 0], "nothing was made");
+    std::os::unix::fs::symlink("nowhere.img", folder.path.join("recorder.img")).unwrap();
+    for line in CALLS {
+        let ran = folder.run(line);
+        let said = "johvimaru: recorder.img is a link to nothing\n";
+        assert_eq!((ran.status, &ran.errors[..]), (3, said), "{line}");
+    }
+    assert!(folder.path.join("recorder.img").is_symlink());
 }
 
 #[test]
@@ -168,13 +232,14 @@ fn what_is_no_file() {
     fs::create_dir(folder.path.join("recorder.img")).unwrap();
     for line in CALLS {
         let ran = folder.run(line);
-        assert_eq!(ran.status, 1, "{line}");
+        assert_eq!(ran.status, 3, "{line}");
         assert_eq!(ran.errors, "johvimaru: recorder.img is no file\n", "{line}");
         let ran = folder.run(&format!("{line} --image nowhere/x.img"));
-        assert_eq!((ran.status, ran.printed), (1, String::new()), "{line}");
-        assert!(ran.errors.contains("No such file"), "{line}: {}", ran.errors);
+        assert_eq!(ran.status, 3, "{line}");
+        let said = ["No such file", "is not there"].iter().any(|said| ran.errors.contains(said));
+        assert!(said, "{line}: {}", ran.errors);
         let ran = folder.run(&format!("{line} --image /dev/null"));
-        assert_eq!((ran.status, ran.printed), (1, String::new()), "{line}");
+        assert_eq!(ran.status, 3, "{line}");
         assert_eq!(ran.errors, "johvimaru: /dev/null is no file\n", "{line}");
     }
 }
@@ -185,11 +250,23 @@ fn standard_output_that_takes_nothing() {
     let folder = Folder::new("full");
     let full = fs::OpenOptions::new().write(true).open("/dev/full").unwrap();
     let output = folder.command(&["write", "0", "0", "kept"]).stdout(full).output().unwrap();
-    assert_eq!(output.status.code(), Some(1));
+    assert_eq!(output.status.code(), Some(3));
     assert_eq!(folder.done("read 0 0"), "kept\n");
     let full = fs::OpenOptions::new().write(true).open("/dev/full").unwrap();
     let output = folder.command(&["help"]).stdout(full).output().unwrap();
     let errors = String::from_utf8_lossy(&output.stderr);
-    assert_eq!(output.status.code(), Some(1), "{errors}");
+    assert_eq!(output.status.code(), Some(3), "{errors}");
     assert!(errors.starts_with("johvimaru: ") && !errors.contains("panicked"), "{errors}");
+}
+
+/// Where standard error takes nothing, the status tells.
+#[test]
+fn standard_error_that_takes_nothing() {
+    let folder = Folder::new("full-errors");
+    for (line, status) in [("forget", 2), ("check", 3), ("write 0 0 x", 0), ("read 1 1", 1)] {
+        let full = fs::OpenOptions::new().write(true).open("/dev/full").unwrap();
+        let words: Vec<&str> = line.split(' ').collect();
+        let output = folder.command(&words).stderr(full).output().unwrap();
+        assert_eq!(output.status.code(), Some(status), "{line}");
+    }
 }

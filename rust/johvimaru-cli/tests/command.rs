@@ -45,8 +45,8 @@ fn a_day_of_calls() {
 }
 
 #[test]
-fn the_image_is_made_on_first_use() {
-    for line in ["write 0 0 x", "list", "check", "commit", "wipe 3 0", "mount", "format", "map"] {
+fn a_write_and_a_format_make_the_image() {
+    for line in ["write 0 0 x", "format"] {
         let folder = Folder::new("first");
         let ran = folder.run(line);
         assert_eq!(ran.status, 0, "{line}: {}", ran.errors);
@@ -54,10 +54,12 @@ fn the_image_is_made_on_first_use() {
         mounted(folder.image());
         let made = "johvimaru: recorder.img was not there; made, 32 blocks\n";
         assert_eq!(ran.errors, if line == "format" { "" } else { made }, "{line}");
+        assert_eq!(folder.names(), ["recorder.img"]);
     }
-    let folder = Folder::new("first");
-    let ran = folder.run("--image other.img read 0 0");
-    assert_eq!((ran.status, folder.names()), (1, vec!["other.img".to_string()]));
+    let folder = Folder::new("first-cut");
+    folder.done("format --blocks 8 --cut 9,100");
+    assert_eq!(folder.image().len(), 8 * BLOCK);
+    assert_eq!(folder.run("check").status, 1);
 }
 
 #[test]
@@ -96,20 +98,77 @@ key blocks 0 and 1 are in blocks 0 and 1, the commit in 4
 pages that writes and cut-offs can still take: 62
 a mount would erase block 2, no part of the store
 ";
-    assert_eq!(folder.done("check"), said);
+    let ran = folder.run("check");
+    assert_eq!((ran.status, &ran.printed[..]), (4, said));
+    assert_eq!(ran.errors, "johvimaru: left over: 1 deleted key, block 2 of a cut call\n");
     assert!(folder.image() == before, "check leaves the file as it is");
     assert_eq!(folder.done("mount"), "mount: erased block 2, no part of the store\n");
-    assert!(folder.done("check").ends_with("a mount would erase nothing\n"));
+    let ran = folder.run("check");
+    assert!(ran.printed.ends_with("a mount would erase nothing\n"));
+    assert_eq!((ran.status, &ran.errors[..]), (4, "johvimaru: left over: 1 deleted key\n"));
+    folder.done("commit");
+    assert_eq!(folder.run("check").status, 0);
+}
+
+#[test]
+fn what_list_and_check_say_as_json() {
+    let folder = Folder::new("json");
+    folder.done("format --blocks 8");
+    folder.done("write 13 7 x");
+    let listed = "{
+  \"nodes\": [
+    {
+      \"file\": 13,
+      \"offset\": 7,
+      \"page\": 48,
+      \"key\": 0
+    }
+  ],
+  \"keys\": {
+    \"used\": 1,
+    \"free\": 447,
+    \"deleted\": 0
+  }
+}
+";
+    assert_eq!(folder.done("list --json"), listed);
+    let checked = folder.done("check --json");
+    for line in [
+        "  \"image\": \"recorder.img\",",
+        "  \"blocks\": 8,",
+        "  \"next_sequence\": 2,",
+        "  \"commit_block\": 2,",
+        "  \"pages_left\": 63,",
+        "  \"would_erase\": [],",
+        "  \"spoilt_pages\": []",
+    ] {
+        assert!(checked.lines().any(|printed| printed == line), "{line}\n{checked}");
+    }
+    folder.put("recorder.img", &[0xff; 8 * BLOCK]);
+    for line in ["list --json", "check --json"] {
+        let ran = folder.run(line);
+        assert_eq!((ran.status, &ran.printed[..]), (1, "{\n  \"refused\": 13\n}\n"), "{line}");
+    }
+}
+
+#[test]
+fn the_version() {
+    let folder = Folder::new("version");
+    let said = format!("johvimaru {}\n", env!("CARGO_PKG_VERSION"));
+    for line in ["--version", "-V", "version"] {
+        assert_eq!(folder.done(line), said);
+    }
+    assert!(folder.done("help --man").starts_with(".TH JOHVIMARU 1 "));
 }
 
 #[test]
 fn other_images_and_their_sizes() {
     let folder = Folder::new("sizes");
     for blocks in [8, 9, 255, 256] {
-        folder.done(&format!("format --blocks {blocks} --image x.img"));
+        folder.done(&format!("format --force --blocks {blocks} --image x.img"));
         assert_eq!(folder.bytes("x.img").len(), blocks * BLOCK);
     }
-    folder.done("--image=x.img format");
+    folder.done("--image=x.img format --force");
     assert_eq!(folder.bytes("x.img").len(), 256 * BLOCK, "a format keeps the size");
     assert_eq!(folder.names(), ["x.img"]);
 }
@@ -130,8 +189,8 @@ fn help_for_each() {
     let folder = Folder::new("help");
     let all = folder.done("--help");
     for name in [
-        "format", "mount", "write", "read", "cut-off", "commit", "wipe", "list", "check", "map",
-        "demo",
+        "format", "mount", "write", "read", "cut-off", "commit", "wipe", "handover", "export",
+        "import", "list", "check", "map", "diff", "demo", "version",
     ] {
         assert!(all.contains(name), "{name}");
         let text = folder.done(&format!("{name} --help"));
@@ -166,7 +225,7 @@ fn cuts_in_every_call() {
         ("cut-off 0 0", |s, cut| s.cut_off_cut(at(0, 0), cut).unwrap()),
         ("commit", |s, cut| s.commit_cut(other_noise(), cut).unwrap()),
         ("wipe 2 0", |s, cut| s.wipe_cut(at(2, 0), other_noise(), cut).unwrap()),
-        ("format", |s, cut| Store::format_cut(s.into_image(), other_noise(), cut).unwrap()),
+        ("format --force", |s, cut| Store::format_cut(s.into_image(), other_noise(), cut).unwrap()),
     ];
     let folder = Folder::new("cuts");
     for (line, by_form) in calls {
@@ -214,18 +273,22 @@ fn a_mount_that_is_cut_and_mounted_again() {
     let cut = Store::mount_cut(image, Cut { n: 0, k: 5 }).unwrap();
     assert!(folder.image() == cut.image());
     assert_eq!(folder.done("mount"), "mount: erased block 3, no part of the store\n");
-    assert_eq!(folder.done("mount --cut 0,5"), "mounted: nothing to erase\n");
+    let late =
+        "mounted: nothing to erase\nthe call was done before the cut: it has 0 whole steps\n";
+    assert_eq!(folder.done("mount --cut 0,5"), late);
 }
 
-/// A call mounts first, and what that erases is erased even if the call is then refused.
+/// A call mounts first, and what that erases is erased even if the call is then refused. Where the arguments alone
+/// are wrong, nothing is touched.
 #[test]
 fn each_call_mounts_first() {
-    for line in ["read 5 0", "cut-off 5 0", "write 14 0 x", "wipe 0 32"] {
+    for (line, mounts) in [("cut-off 5 0", true), ("write 14 0 x", false), ("wipe 0 32", false)] {
         let folder = Folder::new("mounts");
         folder.done("format --blocks 8");
         folder.done("commit --cut 3,100");
-        let expected = mounted(folder.image()).into_image();
+        let before = folder.image();
         assert_eq!(folder.run(line).status, 1, "{line}");
+        let expected = if mounts { mounted(before).into_image() } else { before };
         assert!(folder.image() == expected, "{line}");
     }
 }
@@ -307,20 +370,19 @@ fn the_demo() {
     assert_eq!(folder.names(), [""; 0], "the demo leaves no file");
 }
 
-/// The session that the README shows is what the command prints.
+/// The session that docs/COMMAND.md shows is what the command prints.
 #[test]
-fn the_session_of_the_readme() {
+fn the_session_of_the_documents() {
     let top = Path::new(env!("CARGO_MANIFEST_DIR")).join("../..");
-    let readme = fs::read_to_string(top.join("README.md")).unwrap();
-    let (_, section) = readme.split_once("## The command\n").expect("the section is there");
+    let page = fs::read_to_string(top.join("docs/COMMAND.md")).unwrap();
     let first = "    $ johvimaru ";
-    let session: Vec<&str> = section
+    let session: Vec<&str> = page
         .lines()
         .skip_while(|line| !line.starts_with(first))
         .take_while(|line| line.starts_with("    "))
         .collect();
-    assert!(session.len() > 20, "the session is in the README");
-    let folder = Folder::new("readme");
+    assert!(session.len() > 20, "the session is there");
+    let folder = Folder::new("session");
     let mut printed = Vec::new();
     for call in session.iter().filter_map(|line| line.strip_prefix(first)) {
         let script = format!("{} {call} 2>&1", env!("CARGO_BIN_EXE_johvimaru"));
@@ -354,14 +416,22 @@ fn refusals_of_calls() {
         ("format --blocks 99999999999", Refusal::ImageSize),
     ] {
         let ran = folder.run(line);
-        let said = format!("johvimaru: refused {}: {refusal}\n", refusal.number());
-        assert_eq!((ran.status, ran.errors, ran.printed), (1, said, String::new()), "{line}");
+        let words = match refusal {
+            Refusal::OffsetOutside => " has ".to_string(),
+            _ => format!("{refusal}\n"),
+        };
+        let said = format!("johvimaru: refused {}: ", refusal.number());
+        assert!(ran.errors.starts_with(&said) && ran.errors.contains(&words), "{}", ran.errors);
+        assert_eq!((ran.status, ran.printed), (1, String::new()), "{line}");
         assert!(folder.image() == before, "{line}");
     }
+    let outside = "johvimaru: refused 5: file 13 has 8 offsets, 0 to 7, and no 8\n";
+    assert_eq!(folder.run("write 13 8 x").errors, outside);
+    let said = "johvimaru: refused 6: a payload has at most 224 bytes, and this text has more\n";
     let long = folder.run_words(&["write", "0", "0", &"x".repeat(225)]);
-    assert_eq!((long.status, &long.errors[..21]), (1, "johvimaru: refused 6:"));
+    assert_eq!((long.status, &long.errors[..]), (1, said));
     let long = folder.run_with("write 0 0 -", &[b'x'; 100_000]);
-    assert_eq!((long.status, &long.errors[..21]), (1, "johvimaru: refused 6:"));
+    assert_eq!((long.status, &long.errors[..]), (1, said));
     for write in 0..64 {
         folder.done(&format!("write 0 {} x", write % 32));
     }

@@ -1,14 +1,25 @@
 //! What a power cut leaves.
 
 use crate::{Cut, Refused, Store};
+use core::fmt;
 
-/// How a call in its form with n and k ended.
-#[derive(Clone, Debug)]
+/// How a call in its form with n and k ended. It comes with the feature `cut`.
+#[derive(Clone)]
 pub enum Outcome<I> {
     /// It has no more than n steps, and was done.
     Done(Store<I>),
     /// The power cut it.
     Cut(Unmounted<I>),
+}
+
+/// The image, which has the keys, is not shown.
+impl<I> fmt::Debug for Outcome<I> {
+    fn fmt(&self, f: &mut fmt::Formatter) -> fmt::Result {
+        match self {
+            Outcome::Done(store) => f.debug_tuple("Done").field(store).finish(),
+            Outcome::Cut(image) => f.debug_tuple("Cut").field(image).finish(),
+        }
+    }
 }
 
 impl<I: AsRef<[u8]> + AsMut<[u8]>> Outcome<I> {
@@ -34,10 +45,18 @@ impl<I: AsRef<[u8]> + AsMut<[u8]>> Outcome<I> {
     }
 }
 
-/// An image that a cut has left without a record. Nothing but a mount makes it a store again.
-#[derive(Clone, Debug)]
+/// An image that a cut has left without a record. Nothing but a mount makes it a store again. It comes with
+/// the feature `cut`.
+#[derive(Clone)]
 pub struct Unmounted<I> {
     image: I,
+}
+
+/// The image, which has the keys, is not shown.
+impl<I> fmt::Debug for Unmounted<I> {
+    fn fmt(&self, f: &mut fmt::Formatter) -> fmt::Result {
+        f.debug_struct("Unmounted").finish_non_exhaustive()
+    }
 }
 
 impl<I> Unmounted<I> {

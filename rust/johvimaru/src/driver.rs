@@ -5,17 +5,36 @@ use crate::{
     ffi, Chip, Cut, Noise, Offset, Payload, Record, Refusal, Step, Store, BLOCK, PAGE,
     PAGES_IN_BLOCK, PAYLOAD, PLACES,
 };
-use std::error::Error;
-use std::fmt;
+use alloc::vec;
+use alloc::vec::Vec;
+use core::error::Error;
+use core::fmt;
 
 /// Why a call on a chip was not done.
+///
+/// The text of a refusal is the refusal's own. The text of a chip's error is not repeated here: that error is
+/// the `source`.
+///
+/// ```
+/// use johvimaru::{Driver, Failure, MemoryChip, Misuse};
+/// use std::error::Error;
+///
+/// let failure: Failure<Misuse> = Driver::new(MemoryChip::new(vec![])).mount().unwrap_err();
+/// assert_eq!(failure.to_string(), "the image is not 8 to 256 full blocks of 4,096 bytes");
+/// assert!(failure.source().is_none());
+///
+/// let failure = Failure::Chip(Misuse::NotEmpty);
+/// assert_eq!(failure.to_string(), "the chip failed");
+/// let source = failure.source().map(ToString::to_string);
+/// assert_eq!(source.as_deref(), Some("a page is programmed that is not empty"));
+/// ```
 #[derive(Clone, Copy, Debug, PartialEq, Eq)]
 pub enum Failure<E> {
     /// It was refused, and the chip was told nothing.
     Refused(Refusal),
     /// There is no record: a mount or a format has to come first.
     NotMounted,
-    /// The chip failed in a step. A mount has to follow.
+    /// The chip failed in a step, or when it was read. A mount has to follow.
     Chip(E),
 }
 
@@ -29,17 +48,24 @@ impl<E> Failure<E> {
     }
 }
 
-impl<E: fmt::Display> fmt::Display for Failure<E> {
+impl<E> fmt::Display for Failure<E> {
     fn fmt(&self, f: &mut fmt::Formatter) -> fmt::Result {
         match self {
             Failure::Refused(refusal) => refusal.fmt(f),
             Failure::NotMounted => f.write_str("the chip has to be mounted first"),
-            Failure::Chip(error) => write!(f, "the chip failed: {error}"),
+            Failure::Chip(_) => f.write_str("the chip failed"),
         }
     }
 }
 
-impl<E: fmt::Debug + fmt::Display> Error for Failure<E> {}
+impl<E: Error + 'static> Error for Failure<E> {
+    fn source(&self) -> Option<&(dyn Error + 'static)> {
+        match self {
+            Failure::Chip(error) => Some(error),
+            Failure::Refused(_) | Failure::NotMounted => None,
+        }
+    }
+}
 
 impl<E> From<Refusal> for Failure<E> {
     fn from(refusal: Refusal) -> Failure<E> {
@@ -77,11 +103,21 @@ impl<E> From<Refusal> for Failure<E> {
 /// assert_eq!(driver.chip().bytes(), driver.mirror());
 /// # Ok::<(), Box<dyn std::error::Error>>(())
 /// ```
-#[derive(Clone, Debug)]
+#[derive(Clone)]
 pub struct Driver<C> {
     chip: C,
     mirror: Vec<u8>,
     record: Option<Record>,
+}
+
+/// Chip and mirror, which have the keys, are not shown.
+impl<C> fmt::Debug for Driver<C> {
+    fn fmt(&self, f: &mut fmt::Formatter) -> fmt::Result {
+        f.debug_struct("Driver")
+            .field("blocks", &(self.mirror.len() / BLOCK))
+            .field("record", &self.record)
+            .finish_non_exhaustive()
+    }
 }
 
 impl<C> Driver<C> {
@@ -222,7 +258,7 @@ impl<C: Chip> Driver<C> {
                 self.record = Some(Record(after));
                 break;
             }
-            std::mem::swap(&mut now, &mut next);
+            core::mem::swap(&mut now, &mut next);
         }
         Ok(())
     }

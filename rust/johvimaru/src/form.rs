@@ -17,8 +17,11 @@ const LAST: u32 = 99_999_999;
 /// store.write(Offset::new(2, 5)?, &[b'x'; 224])?;
 /// let forms: Vec<Form> = Form::all(store.image()).collect();
 /// assert_eq!(forms[0], Form::Whole(Header::Keys { epoch: 1, block: 0, page: 0 }));
-/// assert_eq!(forms[32], Form::Whole(Header::Commit { epoch: 1, part: 0, covered: 0 }));
-/// assert_eq!(forms[48], Form::Whole(Header::Node { sequence: 1, at: Offset::new(2, 5)?, key: 0 }));
+/// assert!(matches!(forms[32], Form::Whole(Header::Commit { epoch: 1, part: 0, covered: 0, .. })));
+/// let Form::Whole(Header::Node { sequence: 1, at, key: 0, .. }) = forms[48] else {
+///     panic!("the first node, under the first key");
+/// };
+/// assert_eq!(at, Offset::new(2, 5)?);
 /// assert_eq!(forms[49], Form::Empty);
 /// # Ok::<(), Box<dyn std::error::Error>>(())
 /// ```
@@ -60,9 +63,13 @@ impl Form {
 }
 
 /// A page's header, with the fields that its kind uses.
+///
+/// The kinds are the four of document 01. The headers of nodes and commits will get more fields, so `..` ends
+/// a pattern for them.
 #[derive(Clone, Copy, Debug, PartialEq, Eq, Hash)]
 pub enum Header {
     /// N, a node.
+    #[non_exhaustive]
     Node {
         /// From 1.
         sequence: u32,
@@ -88,6 +95,7 @@ pub enum Header {
         page: usize,
     },
     /// C, commit.
+    #[non_exhaustive]
     Commit {
         /// From 1.
         epoch: u32,
@@ -129,7 +137,7 @@ impl Header {
 
 /// The number in the columns of a field: decimal, after spaces, without leading zeros.
 fn number(columns: &[u8]) -> Option<u32> {
-    let text = std::str::from_utf8(columns).ok()?.trim_start_matches(' ');
+    let text = core::str::from_utf8(columns).ok()?.trim_start_matches(' ');
     let leading = text.len() > 1 && text.starts_with('0');
     match !leading && text.bytes().all(|byte| byte.is_ascii_digit()) {
         true => text.parse().ok(),

@@ -3,7 +3,7 @@
 //! The store keeps payloads of 224 bytes in 14 files of fixed size on the image of a flash chip. Each is
 //! enciphered under a key of its own. The keys stand on the same chip, and a payload is forgotten by
 //! replacing its key. What every call does, and what the image is after a power cut at any byte, is
-//! proved; this crate is the safe way to that library from Rust. It needs nothing but `std`.
+//! proved; this crate is the safe way to that library from Rust. It has no dependencies.
 //!
 //! ```
 //! use johvimaru::{payload, File, Noise, Refusal, Store};
@@ -38,20 +38,46 @@
 //! - [`Driver`] drives a [`Chip`]: each step of a call goes to the chip before the next, and the mirror is
 //!   brought along. [`FileChip`] is a chip in a file, [`CutChip`] one whose power fails where it is told.
 //! - With the feature `cut`, each call has a form that the power cuts after n steps and k bytes of one
-//!   more. It takes the store and leaves an `Unmounted` image, which only a mount makes a store again.
+//!   more. It takes the store and leaves an [`Unmounted`] image, which only a mount makes a store again.
 //! - [`Form`] says what stands on a page, for pictures and reports.
 //! - [`raw`] has the library's calls as they are, for tests of it.
 //!
+//! # Features
+//!
+//! - `std`, on by default: [`Noise::from_system`], [`Noise::from_reader`] and [`FileChip`]. Without it the
+//!   crate is `no_std`: it needs `core` and `alloc` only, and noise comes from [`Noise::new`].
+//! - `cut`, off by default: the calls in their form with n and k, for tests of a device.
+//!
+//! Neither needs the other. Errors implement `core::error::Error` with and without `std`.
+//!
 //! # What stays secret
 //!
-//! The library clears nothing behind it: keys and payloads that a call used lie on the stack and in the
-//! memory of copies until something overwrites them. The cipher is not constant-time.
+//! `{:?}` of a type of this crate shows no byte of a key or of a payload. A [`Payload`], a [`Page`] and an
+//! image are plain bytes, which are shown where they are printed themselves.
+//!
+//! The library clears nothing behind it: what a call used stays on the stack, below the caller's frame, and
+//! in registers until something overwrites it. Found were the key of the node on the stack after a write
+//! and a read, 16 bytes of the payload in a vector register after a read, and key bytes in vector registers
+//! after format, commit and wipe. No payload was found on the stack. The crate clears nothing either:
+//! noise, mirrors and copies go back to the allocator as they are, and a read gives its payload by value.
+//! The cipher is not constant-time.
 //!
 //! # The static library
 //!
-//! The build takes `librecorder.a` from the folder that the variable `JOHVIMARU_LIB_DIR` names, or from
-//! `target/staticlib` of the repository. If it is not there, `rt staticlib recorder` makes it, and
-//! without the program `rt` the build ends and says so. The library is for x86-64 with ELF objects.
+//! The build takes `librecorder.a` from the folder that the variable `JOHVIMARU_LIB_DIR` names. Where none is
+//! named it is the proved archive that the repository keeps, if it was built from the very sources at hand;
+//! else `rt staticlib recorder` proves and builds it, in some minutes, and without the program `rt` the build
+//! ends and says so. Cargo looks for changed sources by their times. The library is for x86-64 with ELF
+//! objects, uses SSE registers, and needs `memcpy` and `memset` and nothing else; for a target without an
+//! operating system name its folder by the variable.
+
+#![no_std]
+// The documents name what both features bring.
+#![cfg_attr(not(all(feature = "std", feature = "cut")), allow(rustdoc::broken_intra_doc_links))]
+
+extern crate alloc;
+#[cfg(feature = "std")]
+extern crate std;
 
 mod chip;
 #[cfg(feature = "cut")]
@@ -67,7 +93,9 @@ mod refusal;
 mod step;
 mod store;
 
-pub use chip::{Chip, CutChip, CutError, FileChip, MemoryChip, Misuse};
+#[cfg(feature = "std")]
+pub use chip::FileChip;
+pub use chip::{Chip, CutChip, CutError, MemoryChip, Misuse};
 #[cfg(feature = "cut")]
 pub use cut::{Outcome, Unmounted};
 pub use driver::{Driver, Failure};

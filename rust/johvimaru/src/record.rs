@@ -2,7 +2,8 @@
 
 use crate::raw::{self, NONE};
 use crate::{Offset, BLOCK, HEADER, KEY, PAGE, PLACES};
-use std::ops::Range;
+use core::fmt;
+use core::ops::Range;
 
 /// What stands for a key position in the record.
 #[derive(Clone, Copy, Debug, PartialEq, Eq, Hash)]
@@ -71,8 +72,22 @@ pub struct KeyCounts {
 /// assert_eq!((record.key_blocks(), record.commit_block()), ([0, 1], 2));
 /// # Ok::<(), Box<dyn std::error::Error>>(())
 /// ```
-#[derive(Clone, Debug, PartialEq, Eq)]
+#[derive(Clone, PartialEq, Eq)]
 pub struct Record(pub(crate) raw::Record);
+
+/// Counts: the nodes and letters themselves are too many to be read.
+impl fmt::Debug for Record {
+    fn fmt(&self, f: &mut fmt::Formatter) -> fmt::Result {
+        f.debug_struct("Record")
+            .field("nodes", &self.nodes().count())
+            .field("keys", &self.counts())
+            .field("next_sequence", &self.next_sequence())
+            .field("next_epoch", &self.next_epoch())
+            .field("key_blocks", &self.key_blocks())
+            .field("commit_block", &self.commit_block())
+            .finish()
+    }
+}
 
 impl Record {
     /// The live node at an offset, if there is one.

@@ -1,10 +1,11 @@
 //! Why a call is refused.
 
 use crate::raw;
-use std::error::Error;
-use std::fmt;
+use alloc::boxed::Box;
+use core::error::Error;
+use core::fmt;
 
-/// Why a call was refused, with document 01's numbers.
+/// Why a call was refused, with document 01's numbers. Later versions will have more of them.
 ///
 /// ```
 /// use johvimaru::{File, Refusal};
@@ -15,6 +16,7 @@ use std::fmt;
 /// assert_eq!(refusal.to_string(), "the file is above 13");
 /// ```
 #[derive(Clone, Copy, Debug, PartialEq, Eq, PartialOrd, Ord, Hash)]
+#[non_exhaustive]
 #[repr(u32)]
 pub enum Refusal {
     /// The image is not 8 to 256 full blocks.
@@ -33,9 +35,9 @@ pub enum Refusal {
     RecordUnfit = 7,
     /// There is no node there.
     NothingThere = 8,
-    /// No key is free: a commit replaces the deleted ones.
+    /// No key is free. A commit replaces the deleted ones.
     NoFreeKey = 9,
-    /// There is no page to take, or no empty block.
+    /// There is no page to take, or no empty block. A commit may bring room.
     NoRoom = 10,
     /// The sequences or epochs, which end at 99,999,999, do not last for the call.
     NumbersSpent = 11,
@@ -48,8 +50,7 @@ pub enum Refusal {
 }
 
 impl Refusal {
-    /// All refusals, by their numbers.
-    pub const ALL: [Refusal; 14] = [
+    const ALL: &[Refusal] = &[
         Refusal::ImageSize,
         Refusal::BufferLength,
         Refusal::NoiseLength,
@@ -66,7 +67,21 @@ impl Refusal {
         Refusal::EntryUnfit,
     ];
 
-    /// Document 01's number of it, 1 to 14.
+    /// All refusals, by their numbers.
+    ///
+    /// ```
+    /// use johvimaru::Refusal;
+    ///
+    /// for refusal in Refusal::all() {
+    ///     println!("{:3} {refusal}", refusal.number());
+    /// }
+    /// # assert_eq!(Refusal::all().next(), Some(Refusal::ImageSize));
+    /// ```
+    pub fn all() -> impl Iterator<Item = Refusal> {
+        Refusal::ALL.iter().copied()
+    }
+
+    /// Document 01's number of it, from 1 on.
     pub fn number(self) -> u32 {
         self as u32
     }
@@ -80,7 +95,7 @@ impl Refusal {
     /// assert_eq!(Refusal::of(0), None);
     /// ```
     pub fn of(number: u32) -> Option<Refusal> {
-        Refusal::ALL.into_iter().find(|refusal| refusal.number() == number)
+        Refusal::all().find(|refusal| refusal.number() == number)
     }
 
     /// What a reply of the library says of a call that no power cut can meet.
@@ -101,15 +116,15 @@ impl fmt::Display for Refusal {
     fn fmt(&self, f: &mut fmt::Formatter) -> fmt::Result {
         f.write_str(match self {
             Refusal::ImageSize => "the image is not 8 to 256 full blocks of 4,096 bytes",
-            Refusal::BufferLength => "a buffer of the record is of a wrong length",
+            Refusal::BufferLength => "map, letters or scratch are of a wrong length",
             Refusal::NoiseLength => "the noise is not 7,168 bytes",
             Refusal::NoSuchFile => "the file is above 13",
             Refusal::OffsetOutside => "the offset is not below the file's count of nodes",
-            Refusal::PayloadLength => "the payload is not 224 bytes",
+            Refusal::PayloadLength => "the payload, or the output for it, is not 224 bytes",
             Refusal::RecordUnfit => "the record does not fit the image",
             Refusal::NothingThere => "there is no node there",
             Refusal::NoFreeKey => "no key is free; a commit replaces the deleted ones",
-            Refusal::NoRoom => "there is no page to take or no empty block",
+            Refusal::NoRoom => "no page to take, or no empty block; a commit may bring room",
             Refusal::NumbersSpent => "the sequences or epochs do not last for the call",
             Refusal::NoKeyBlock => "a key block has no whole copy on the image",
             Refusal::NoCommit => "there is no whole commit block on the image",
@@ -164,12 +179,13 @@ impl<T> From<Refused<T>> for Box<dyn Error + Send + Sync> {
 #[cfg(test)]
 mod tests {
     use super::*;
+    use alloc::collections::BTreeSet;
+    use alloc::string::{String, ToString};
 
     #[test]
     fn refusals_have_the_numbers_of_document_01() {
-        let numbers: Vec<u32> = Refusal::ALL.into_iter().map(Refusal::number).collect();
-        assert_eq!(numbers, (1..=14).collect::<Vec<u32>>());
-        for refusal in Refusal::ALL {
+        assert!(Refusal::all().map(Refusal::number).eq(1..=14));
+        for refusal in Refusal::all() {
             assert_eq!(Refusal::of(refusal.number()), Some(refusal));
         }
         assert_eq!([0, 15, 255].map(Refusal::of), [None; 3]);
@@ -177,9 +193,9 @@ mod tests {
 
     #[test]
     fn each_has_a_sentence_of_its_own() {
-        let sentences: std::collections::HashSet<String> =
-            Refusal::ALL.into_iter().map(|refusal| refusal.to_string()).collect();
-        assert_eq!(sentences.len(), 14);
+        let sentences: BTreeSet<String> =
+            Refusal::all().map(|refusal| refusal.to_string()).collect();
+        assert_eq!(sentences.len(), Refusal::all().count());
     }
 
     #[test]

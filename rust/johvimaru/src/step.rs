@@ -1,12 +1,14 @@
 //! The two steps of the flash.
 
 use crate::{BLOCK, PAGE, PAGES_IN_BLOCK};
+use alloc::boxed::Box;
+use core::fmt;
 
 /// The bytes of a page.
 pub type Page = [u8; PAGE];
 
 /// A step of the flash.
-#[derive(Clone, Debug, PartialEq, Eq)]
+#[derive(Clone, PartialEq, Eq)]
 pub enum Step {
     /// An empty page is programmed.
     Program {
@@ -20,6 +22,18 @@ pub enum Step {
         /// The block.
         block: usize,
     },
+}
+
+/// The bytes, which may be keys, are not shown.
+impl fmt::Debug for Step {
+    fn fmt(&self, f: &mut fmt::Formatter) -> fmt::Result {
+        match self {
+            Step::Program { page, .. } => {
+                f.debug_struct("Program").field("page", page).finish_non_exhaustive()
+            }
+            Step::Erase { block } => f.debug_struct("Erase").field("block", block).finish(),
+        }
+    }
 }
 
 impl Step {

@@ -4,6 +4,7 @@ use crate::raw::{self, DONE};
 use crate::{ffi, Noise, Offset, Payload, Record, Refusal, Refused, PAYLOAD, PLACES};
 #[cfg(feature = "cut")]
 use crate::{Cut, Outcome, Unmounted};
+use core::fmt;
 
 /// An image and its working record, kept together.
 ///
@@ -28,10 +29,17 @@ use crate::{Cut, Outcome, Unmounted};
 /// assert_eq!(store.read(at), Err(Refusal::NothingThere));
 /// # Ok::<(), Box<dyn std::error::Error>>(())
 /// ```
-#[derive(Clone, Debug)]
+#[derive(Clone)]
 pub struct Store<I> {
     image: I,
     record: Record,
+}
+
+/// The image, which has the keys, is not shown.
+impl<I> fmt::Debug for Store<I> {
+    fn fmt(&self, f: &mut fmt::Formatter) -> fmt::Result {
+        f.debug_struct("Store").field("record", &self.record).finish_non_exhaustive()
+    }
 }
 
 impl<I> Store<I> {
@@ -164,7 +172,8 @@ impl<I: AsRef<[u8]> + AsMut<[u8]>> Store<I> {
     }
 }
 
-/// The calls in their form with n and k. Each takes the store for good: cut, it leaves an image only.
+/// The calls in their form with n and k, which come with the feature `cut`. Each takes the store for good:
+/// cut, it leaves an image only.
 #[cfg(feature = "cut")]
 impl<I: AsRef<[u8]> + AsMut<[u8]>> Store<I> {
     /// A format that the power cuts.

@@ -2,51 +2,27 @@
 //! library's own form with n and k leaves.
 #![cfg(feature = "cut")]
 
+#[allow(dead_code)]
+mod common;
+
+use common::cuts::{every_step, memory, rich, wipe_at_every_step, InMemory, Memory, NODES};
+use common::{at, noise};
 use johvimaru::{
-    Chip, Cut, CutChip, CutError, Driver, Failure, File, FileChip, MemoryChip, Misuse, Noise,
-    Offset, Outcome, Page, Refusal, Store, BLOCK, NOISE, PAGE,
+    Chip, Cut, CutError, Driver, Failure, File, MemoryChip, Misuse, Outcome, Page, Refusal, Store,
+    BLOCK,
 };
-use std::fs;
-use std::path::PathBuf;
 
-fn noise(seed: u8) -> Noise {
-    let bytes: Vec<u8> = (0..NOISE).map(|at| (at * 7 + at / 251) as u8 ^ seed).collect();
-    Noise::new(&bytes).unwrap()
-}
+/// The bytes of a step at which it is cut.
+const BYTES: [usize; 11] = [0, 1, 29, 30, 100, 255, 256, 257, 4_095, 4_096, 5_000];
 
-fn at(file: u32, offset: u32) -> Offset {
-    Offset::new(file, offset).unwrap()
-}
-
-fn memory(blocks: usize) -> Driver<CutChip<MemoryChip>> {
-    Driver::new(CutChip::new(MemoryChip::new(vec![0x5a; BLOCK * blocks])))
-}
-
-/// A chip with a block of dead nodes, live ones in two files, and a cut-off.
-fn rich() -> Driver<CutChip<MemoryChip>> {
-    let mut driver = memory(8);
-    driver.format(noise(1)).unwrap();
-    for write in 0..17 {
-        driver.write(at(0, 0), &[write; 224]).unwrap();
-    }
-    for (file, offset, byte) in [(0, 31, 20), (2, 5, 21), (2, 6, 22), (13, 7, 23)] {
-        driver.write(at(file, offset), &[byte; 224]).unwrap();
-    }
-    driver.cut_off(at(2, 6)).unwrap();
-    driver
-}
-
-/// The nodes of a rich store.
-const NODES: [(u32, u32, u8); 4] = [(0, 0, 16), (0, 31, 20), (2, 5, 21), (13, 7, 23)];
-
-fn assert_same(driver: &Driver<CutChip<MemoryChip>>, what: &str) {
+fn assert_same(driver: &InMemory, what: &str) {
     assert!(driver.chip().inner().bytes() == driver.mirror(), "{what}: chip and mirror");
 }
 
 /// The whole steps that a call has told the chip.
 fn steps<T: std::fmt::Debug>(
-    driver: &mut Driver<CutChip<MemoryChip>>,
-    call: impl FnOnce(&mut Driver<CutChip<MemoryChip>>) -> Result<(), T>,
+    driver: &mut InMemory,
+    call: impl FnOnce(&mut InMemory) -> Result<(), T>,
 ) -> u64 {
     let before = driver.chip().steps();
     call(driver).unwrap();
@@ -110,43 +86,11 @@ fn a_refused_call_tells_the_chip_nothing() {
     assert!(driver.record().is_some());
 }
 
-/// Cuts a call at every step and at some bytes of it, beside the library's form, and mounts.
-fn every_step(
-    on_chip: impl Fn(&mut Driver<CutChip<MemoryChip>>) -> Result<(), Failure<CutError<Misuse>>>,
-    by_form: impl Fn(Store<Vec<u8>>, Cut) -> Outcome<Vec<u8>>,
-    nodes: impl Fn(u64, &Store<Vec<u8>>),
-) -> u64 {
-    let rich = rich();
-    for n in 0.. {
-        for k in [0, 1, 29, 30, 100, 255, 256, 257, 4_095, 4_096, 5_000] {
-            let cut = Cut { n, k };
-            let mut driver = rich.clone();
-            driver.chip_mut().cut_at(cut);
-            let result = on_chip(&mut driver);
-            let expected = by_form(rich.copy().unwrap(), cut);
-            assert!(driver.chip().inner().bytes() == expected.image(), "{cut:?}: image");
-            if !expected.is_cut() {
-                assert_eq!(result, Ok(()));
-                return n;
-            }
-            assert_eq!(result, Err(Failure::Chip(CutError::PowerCut)), "{cut:?}");
-            assert_eq!(driver.write(at(0, 0), &[1; 224]), Err(Failure::NotMounted), "{cut:?}");
-            assert_eq!(driver.mount(), Err(Failure::Chip(CutError::PowerCut)), "{cut:?}");
-            driver.chip_mut().power_on();
-            driver.mount().unwrap();
-            assert_same(&driver, "after a mount");
-            let store = expected.mounted().unwrap();
-            assert!(driver.mirror() == store.image(), "{cut:?}: image after a mount");
-            assert_eq!(driver.record(), Some(store.record()), "{cut:?}: record");
-            nodes(n, &store);
-        }
-    }
-    unreachable!("a call has an end")
-}
-
 #[test]
 fn a_commit_cut_at_every_step() {
     let steps = every_step(
+        &Memory,
+        &BYTES,
         |driver| driver.commit(noise(9)),
         |store, cut| store.commit_cut(noise(9), cut).unwrap(),
         |_, store| {
@@ -161,27 +105,22 @@ fn a_commit_cut_at_every_step() {
 
 #[test]
 fn a_wipe_cut_at_every_step() {
-    let steps = every_step(
-        |driver| driver.wipe(at(0, 0), noise(9)),
-        |store, cut| store.wipe_cut(at(0, 0), noise(9), cut).unwrap(),
-        |n, store| {
-            let left = store.record().nodes().count();
-            assert!(if n < 9 { left == 4 } else { left == 2 || n == 9 && left == 4 }, "{n}");
-            assert_eq!(store.read(at(13, 7)), Ok([23; 224]));
-        },
-    );
-    assert_eq!(steps, 57);
+    assert_eq!(wipe_at_every_step(&Memory, &BYTES), 57);
 }
 
 #[test]
 fn writes_and_cut_offs_cut_at_every_step() {
     let steps = every_step(
+        &Memory,
+        &BYTES,
         |driver| driver.write(at(0, 0), &[99; 224]),
         |store, cut| store.write_cut(at(0, 0), &[99; 224], cut).unwrap(),
         |_, store| assert_eq!(store.record().nodes().count(), NODES.len()),
     );
     assert_eq!(steps, 1);
     let steps = every_step(
+        &Memory,
+        &BYTES,
         |driver| driver.cut_off(at(2, 0)),
         |store, cut| store.cut_off_cut(at(2, 0), cut).unwrap(),
         |_, store| assert!(store.record().nodes().count() >= NODES.len() - 1),
@@ -280,8 +219,6 @@ fn a_failing_chip_leaves_the_mirror_where_it_stands() {
         driver.mount().unwrap();
         assert_eq!(driver.read(at(0, 0)), Ok([16; 224]), "{left}");
     }
-    let failure: Failure<&str> = Failure::Chip("worn out");
-    assert_eq!(failure.to_string(), "the chip failed: worn out");
 }
 
 #[test]
@@ -290,55 +227,6 @@ fn a_chip_of_a_wrong_size_is_refused() {
     assert_eq!(driver.format(noise(1)), Err(Failure::Refused(Refusal::ImageSize)));
     assert_eq!(driver.mount(), Err(Failure::Refused(Refusal::ImageSize)));
     assert_eq!(driver.chip().steps(), 0);
-}
-
-// ---- Chips in files
-
-fn temporary(name: &str) -> PathBuf {
-    let path = PathBuf::from(env!("CARGO_TARGET_TMPDIR")).join(name);
-    let _ = fs::remove_file(&path);
-    path
-}
-
-#[test]
-fn a_chip_in_a_file_through_a_handover() {
-    let path = temporary("handover.img");
-    let mut driver = Driver::new(CutChip::new(FileChip::create(&path, 8).unwrap()));
-    driver.format(noise(1)).unwrap();
-    driver.write(at(0, 0), &[1; 224]).unwrap();
-    driver.write(at(0, 1), &[2; 224]).unwrap();
-    assert!(fs::read(&path).unwrap() == driver.mirror());
-    let mut store = driver.copy().unwrap();
-    driver.chip_mut().cut_at(Cut { n: 30, k: 77 });
-    driver.wipe(at(0, 1), noise(2)).unwrap_err();
-    let cut = Store::wipe_cut(store.clone(), at(0, 1), noise(2), Cut { n: 30, k: 77 }).unwrap();
-    assert!(fs::read(&path).unwrap() == cut.image());
-
-    let mut driver = Driver::new(FileChip::open(&path).unwrap());
-    driver.mount().unwrap();
-    driver.wipe(at(0, 1), noise(3)).unwrap();
-    driver.chip().sync().unwrap();
-    store = cut.mounted().unwrap();
-    store.wipe(at(0, 1), noise(3)).unwrap();
-    assert!(fs::read(&path).unwrap() == store.image());
-    fs::remove_file(&path).unwrap();
-}
-
-#[test]
-fn what_a_chip_in_a_file_refuses() {
-    let path = temporary("refusing.img");
-    let mut chip = FileChip::create(&path, 8).unwrap();
-    assert!(FileChip::create(&path, 8).is_err(), "a file that is there is no new chip");
-    chip.program(127, &[b' '; PAGE]).unwrap();
-    let error = chip.program(127, &[b' '; PAGE]).unwrap_err();
-    assert_eq!(error.to_string(), Misuse::NotEmpty.to_string());
-    let error = chip.program(128, &[b' '; PAGE]).unwrap_err();
-    assert_eq!(error.to_string(), Misuse::Outside.to_string());
-    assert!(chip.erase(8).is_err() && chip.read(128, &mut [0; PAGE]).is_err());
-    chip.erase(7).unwrap();
-    assert_eq!(fs::read(&path).unwrap(), [0xff; 8 * BLOCK]);
-    fs::remove_file(&path).unwrap();
-    assert!(FileChip::open(&path).is_err());
 }
 
 /// A chip that is lent.

@@ -1,19 +1,13 @@
 //! Each refusal, from 1 to 14.
 
-use johvimaru::{payload, raw, Noise, Offset, Refusal, Store, BLOCK, NOISE, PAGE};
+#[allow(dead_code)]
+mod common;
 
-/// Noise that is the same in every run, and has no key twice.
-fn noise(seed: u8) -> Noise {
-    let bytes: Vec<u8> = (0..NOISE).map(|at| (at * 7 + at / 251) as u8 ^ seed).collect();
-    Noise::new(&bytes).unwrap()
-}
+use common::{at, noise};
+use johvimaru::{payload, raw, Noise, Offset, Refusal, Store, BLOCK, NOISE, PAGE};
 
 fn formatted(blocks: usize) -> Store<Vec<u8>> {
     Store::format(vec![0; BLOCK * blocks], noise(1)).unwrap()
-}
-
-fn at(file: u32, offset: u32) -> Offset {
-    Offset::new(file, offset).unwrap()
 }
 
 /// A whole page with this header.

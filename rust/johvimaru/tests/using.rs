@@ -1,8 +1,12 @@
-//! What docs/USING.md shows is what the examples print.
+//! What docs/USING.md and the examples' own documents show is what the examples print.
 
 #[allow(dead_code)]
 #[path = "../examples/last_numbers.rs"]
 mod last_numbers;
+#[cfg(feature = "std")]
+#[allow(dead_code)]
+#[path = "../examples/recorder.rs"]
+mod recorder;
 #[allow(dead_code)]
 #[path = "../examples/thin_blocks.rs"]
 mod thin_blocks;
@@ -41,4 +45,15 @@ fn images_pinned_by_thin_blocks() {
 #[test]
 fn the_last_numbers() {
     compare("last_numbers", last_numbers::text());
+}
+
+/// The lines that an example shows itself.
+#[cfg(feature = "std")]
+#[test]
+fn a_recorders_life() {
+    let path = Path::new(env!("CARGO_MANIFEST_DIR")).join("examples/recorder.rs");
+    let source = fs::read_to_string(path).expect("the example can be read");
+    let (_, after) = source.split_once("//! ```text\n").expect("the example shows its lines");
+    let (shown, _) = after.split_once("//! ```\n").expect("the lines end");
+    assert_eq!(shown.replace("//! ", ""), recorder::text().expect("the example runs"));
 }

@@ -1,9 +1,18 @@
-//! What each page and each block is in the picture.
+//! What each page, block and key is in the picture.
 
-use johvimaru::{Form, Header, Record, Refusal, PAGES_IN_BLOCK};
+use crate::changes::Changes;
+use crate::seen::Seen;
+use johvimaru::{Form, Header, Letter, Record, FILES, PAGES_IN_BLOCK};
 
-/// At most so many lines on the blocks of keys and commits.
-const MOST_NOTES: usize = 8;
+/// Empty blocks in a row that are drawn as one line.
+pub const FOLD: usize = 3;
+/// Keys in a key page.
+pub const KEYS_IN_PAGE: usize = 14;
+/// What stands above the rows of blocks, and above the keys.
+pub const BLOCKS_TITLE: &str = "blocks and their pages";
+pub const KEYS_TITLE: &str = "key positions";
+/// What stands in the terminal behind the number of a block that is erased.
+pub const ERASED: &str = "*";
 
 /// What a page is.
 #[derive(Clone, Copy, Debug, PartialEq, Eq, Hash)]
@@ -14,6 +23,8 @@ pub enum Kind {
     Commit(usize),
     /// A live node of this file.
     Live(u32),
+    /// A live node of this file that is gone in the newer image beside.
+    Gone(u32),
     /// A node that was replaced or removed.
     Dead,
     /// A node of an image that is not mounted: nothing says whether it is live.
@@ -32,11 +43,12 @@ pub enum Kind {
 
 impl Kind {
     /// One of each, in the order of the legend.
-    pub const ALL: [Kind; 11] = [
+    pub const ALL: [Kind; 12] = [
         Kind::Keys(0),
         Kind::Keys(1),
         Kind::Commit(0),
         Kind::Live(0),
+        Kind::Gone(0),
         Kind::Dead,
         Kind::Node,
         Kind::CutOff,
@@ -46,10 +58,22 @@ impl Kind {
         Kind::Empty,
     ];
 
+    /// All of them, with every part and file.
+    pub fn every() -> impl Iterator<Item = Kind> {
+        let files = || 0..FILES as u32;
+        let parts = (0..10).map(Kind::Commit);
+        let nodes = files().map(Kind::Live).chain(files().map(Kind::Gone));
+        let has_number =
+            |kind: &Kind| matches!(kind, Kind::Commit(_) | Kind::Live(_) | Kind::Gone(_));
+        Kind::ALL.into_iter().filter(move |kind| !has_number(kind)).chain(parts).chain(nodes)
+    }
+
     /// Whether two are one line of the legend.
     pub fn is_like(self, other: Kind) -> bool {
         match (self, other) {
-            (Kind::Commit(_), Kind::Commit(_)) | (Kind::Live(_), Kind::Live(_)) => true,
+            (Kind::Commit(_), Kind::Commit(_))
+            | (Kind::Live(_), Kind::Live(_))
+            | (Kind::Gone(_), Kind::Gone(_)) => true,
             _ => self == other,
         }
     }
@@ -59,20 +83,23 @@ impl Kind {
         match self {
             Kind::Keys(block) => format!("K{block}"),
             Kind::Commit(part) => format!("C{part}"),
+            Kind::Live(file) => file.to_string(),
+            Kind::Gone(file) => format!("-{}", file_letter(file)),
             _ => self.letter().to_string(),
         }
     }
 
-    /// What stands in its cell, in one column: L for key block 1, and a to d for files 10 to 13.
+    /// What stands in its cell, in one column: L for key block 1.
     pub fn letter(self) -> char {
         match self {
             Kind::Keys(0) => 'K',
             Kind::Keys(_) => 'L',
             Kind::Commit(_) => 'C',
-            Kind::Live(file) => char::from_digit(file, 16).unwrap_or('#'),
+            Kind::Live(file) => file_letter(file),
+            Kind::Gone(_) => '-',
             Kind::Dead => 'x',
             Kind::Node => 'n',
-            Kind::CutOff => 'D',
+            Kind::CutOff => '/',
             Kind::LeftOver => 'o',
             Kind::Torn => 't',
             Kind::Spoilt => '?',
@@ -87,6 +114,7 @@ impl Kind {
             Kind::Keys(_) => "key block 1",
             Kind::Commit(_) => "commit",
             Kind::Live(_) => "live node, by file",
+            Kind::Gone(_) => "node gone since",
             Kind::Dead => "dead node",
             Kind::Node => "node",
             Kind::CutOff => "cut-off",
@@ -98,30 +126,103 @@ impl Kind {
     }
 }
 
+/// A file in one column: p to s for 10 to 13, so that no letter is one of keys or of a kind of page.
+fn file_letter(file: u32) -> char {
+    match file {
+        0..=9 => char::from_digit(file, 10).unwrap_or('#'),
+        _ => (b'p'..=b's').nth(file as usize - 10).map_or('#', char::from),
+    }
+}
+
+/// A key position.
+#[derive(Clone, Copy, Debug, PartialEq, Eq)]
+pub struct Key {
+    /// Its letter.
+    pub letter: Letter,
+    /// Whether its bytes are others in the image beside.
+    pub replaced: bool,
+}
+
+impl Key {
+    /// One of each, in the order of the legend, replaced or not.
+    pub fn all(replaced: bool) -> [Key; 3] {
+        [Letter::Free, Letter::Used, Letter::Deleted].map(|letter| Key { letter, replaced })
+    }
+
+    /// What stands for it in the terminal: its letter, a capital where it is replaced.
+    pub fn text(self) -> char {
+        match self.replaced {
+            true => self.letter.letter().to_ascii_uppercase(),
+            false => self.letter.letter(),
+        }
+    }
+
+    /// Its letter in words.
+    pub fn words(self) -> &'static str {
+        match self.letter {
+            Letter::Free => "free",
+            Letter::Used => "used",
+            Letter::Deleted => "deleted",
+        }
+    }
+}
+
 /// An image that is drawn.
 pub struct Shown<'a> {
     /// What stands above it.
-    pub title: &'a str,
+    pub title: String,
     /// The image.
-    pub image: &'a [u8],
-    /// Its record, as a mount finds it, or why that is refused.
-    pub record: Result<&'a Record, Refusal>,
+    pub seen: &'a Seen,
+}
+
+/// What is marked in an image that is drawn beside another.
+#[derive(Default)]
+pub struct Marks {
+    /// The blocks that are erased between the two.
+    erased: Vec<usize>,
+    /// The key positions that are replaced between them.
+    replaced: Vec<usize>,
+    /// The pages of live nodes that are gone in the newer one.
+    gone: Vec<usize>,
+}
+
+impl Marks {
+    /// The marks of the older image and of the newer one.
+    pub fn of(changes: &Changes) -> [Marks; 2] {
+        let gone = changes.nodes.iter().flat_map(|nodes| &nodes.gone).map(|node| node.page);
+        [gone.collect(), Vec::new()].map(|gone| Marks {
+            erased: changes.blocks.erased.clone(),
+            replaced: changes.replaced.clone().unwrap_or_default(),
+            gone,
+        })
+    }
 }
 
 /// The pages of an image by what they are.
 pub struct Cells<'a> {
     /// The image.
     pub shown: &'a Shown<'a>,
-    forms: Vec<Form>,
-    kinds: Vec<Kind>,
+    /// Its keys, where there is a record.
+    pub keys: Vec<Key>,
+    pub(super) forms: Vec<Form>,
+    pub(super) kinds: Vec<Kind>,
+    marks: Marks,
 }
 
 impl<'a> Cells<'a> {
-    /// Looks at each page.
-    pub fn of(shown: &'a Shown<'a>) -> Cells<'a> {
-        let forms: Vec<Form> = Form::all(shown.image).collect();
-        let kinds = forms.iter().enumerate().map(|(g, form)| kind(*form, g, shown.record.ok()));
-        Cells { shown, kinds: kinds.collect(), forms }
+    /// Looks at each page and each key.
+    pub fn of(shown: &'a Shown<'a>, marks: Marks) -> Cells<'a> {
+        let record = shown.seen.record().ok();
+        let forms: Vec<Form> = Form::all(&shown.seen.image).collect();
+        let kinds = forms.iter().enumerate().map(|(page, form)| match kind(*form, page, record) {
+            Kind::Live(file) if marks.gone.contains(&page) => Kind::Gone(file),
+            kind => kind,
+        });
+        let letters = record.into_iter().flat_map(Record::letters).enumerate();
+        let keys = letters
+            .map(|(p, letter)| Key { letter, replaced: marks.replaced.contains(&p) })
+            .collect();
+        Cells { shown, keys, kinds: kinds.collect(), forms, marks }
     }
 
     /// How many blocks there are.
@@ -140,76 +241,36 @@ impl<'a> Cells<'a> {
         self.block(block).iter().all(|kind| *kind == Kind::Empty)
     }
 
+    /// Whether a block is marked as erased.
+    pub fn is_erased(&self, block: usize) -> bool {
+        self.marks.erased.contains(&block)
+    }
+
+    /// Whether any block is marked as erased.
+    pub fn has_erased(&self) -> bool {
+        (0..self.blocks()).any(|block| self.is_erased(block))
+    }
+
+    /// Whether any key is marked as replaced.
+    pub fn has_replaced(&self) -> bool {
+        self.keys.iter().any(|key| key.replaced)
+    }
+
     /// Whether there is a page of this kind.
     pub fn has(&self, kind: Kind) -> bool {
         self.kinds.iter().any(|other| other.is_like(kind))
     }
 
-    /// What a block is, in words; nothing for an empty one.
-    pub fn note(&self, block: usize) -> String {
-        self.system_note(block).unwrap_or_else(|| self.data_note(block))
-    }
-
-    /// The blocks of keys and of commits, in words; not too many of them.
-    pub fn system_notes(&self) -> Vec<String> {
-        let note = |block| Some(format!("block {block}: {}", self.system_note(block)?));
-        let mut notes: Vec<String> = (0..self.blocks()).filter_map(note).collect();
-        if notes.len() > MOST_NOTES {
-            let more = notes.len() - (MOST_NOTES - 1);
-            notes.truncate(MOST_NOTES - 1);
-            notes.push(format!("and {more} more"));
-        }
-        notes
-    }
-
-    /// What a block of keys or of a commit is, in words.
-    fn system_note(&self, block: usize) -> Option<String> {
-        let first = PAGES_IN_BLOCK * block;
-        let forms = self.forms.get(first..first + PAGES_IN_BLOCK)?;
-        let is_data = |form: &Form| {
-            matches!(form.header(), Some(Header::Node { .. } | Header::CutOff { .. }))
-        };
-        if forms.iter().any(is_data) {
-            return None;
-        }
-        let words = forms.iter().find_map(|form| match form.header()? {
-            Header::Keys { epoch, block, .. } => Some(format!("key block {block}, epoch {epoch}")),
-            Header::Commit { epoch, covered, .. } => {
-                Some(format!("commit, epoch {epoch}, covers {covered}"))
-            }
-            _ => None,
-        })?;
-        let in_use = self.shown.record.map_or(true, |record| {
-            record.key_blocks().contains(&block) || record.commit_block() == block
-        });
-        Some(if in_use { words } else { format!("not in use: {words}") })
-    }
-
-    /// How many pages of each kind a block has, in words.
-    fn data_note(&self, block: usize) -> String {
-        let pages = self.block(block);
-        let named = [
-            (Kind::Live(0), "live"),
-            (Kind::Dead, "dead"),
-            (Kind::Node, "nodes"),
-            (Kind::CutOff, "cut-off"),
-            (Kind::Torn, "torn"),
-            (Kind::Spoilt, "spoilt"),
-            (Kind::LeftOver, "not in use"),
-        ];
-        let counted: Vec<String> = named
-            .into_iter()
-            .map(|(kind, name)| (pages.iter().filter(|page| page.is_like(kind)).count(), name))
-            .filter(|(count, _)| *count > 0)
-            .map(|(count, name)| format!("{count} {name}"))
-            .collect();
-        counted.join(", ")
+    /// Whether there is a node of this kind of a file above 9.
+    pub fn has_above_9(&self, kind: Kind) -> bool {
+        let above = |other: &Kind| matches!(other, Kind::Live(10..) | Kind::Gone(10..));
+        self.kinds.iter().any(|other| other.is_like(kind) && above(other))
     }
 
     /// What is there, in two lines.
     pub fn summary(&self) -> [String; 2] {
         let blocks = self.blocks();
-        match self.shown.record {
+        match self.shown.seen.record() {
             Ok(record) => {
                 let nodes = record.nodes().count();
                 let counts = record.counts();
@@ -250,5 +311,111 @@ fn kind(form: Form, page: usize, record: Option<&Record>) -> Kind {
             Some(Some(node)) if node.page == page => Kind::Live(at.file().number()),
             Some(_) => Kind::Dead,
         },
+    }
+}
+
+// ---- Rows
+
+/// A row: one block, or the empty ones from one to another.
+#[derive(Clone, Copy, Debug, PartialEq, Eq)]
+pub enum Row {
+    /// A block.
+    Block(usize),
+    /// Blocks with nothing on them, the first and the last.
+    Empty(usize, usize),
+}
+
+impl Row {
+    /// The rows of all pictures, which are the same in each.
+    pub fn all(cells: &[Cells]) -> Vec<Row> {
+        let blocks = cells.iter().map(Cells::blocks).max().unwrap_or(0);
+        let is_empty = |block: usize| cells.iter().all(|cells| cells.is_empty(block));
+        let mut rows = Vec::new();
+        let mut block = 0;
+        while block < blocks {
+            let empty = (block..blocks).take_while(|b| is_empty(*b)).count();
+            if empty >= FOLD {
+                rows.push(Row::Empty(block, block + empty - 1));
+            } else {
+                rows.extend((block..block + empty.max(1)).map(Row::Block));
+            }
+            block += empty.max(1);
+        }
+        rows
+    }
+
+    /// The row as far as an image of so many blocks has it.
+    pub fn within(self, blocks: usize) -> Option<Row> {
+        match self {
+            Row::Block(block) => (block < blocks).then_some(self),
+            Row::Empty(from, to) => (from < blocks).then(|| Row::Empty(from, to.min(blocks - 1))),
+        }
+    }
+}
+
+#[cfg(test)]
+mod tests {
+    use super::*;
+    use std::collections::HashMap;
+
+    /// No text in the cells stands for two things. In one column the parts of a commit are one thing, and so
+    /// are the nodes that are gone.
+    #[test]
+    fn no_text_has_two_meanings() {
+        let small = |kind: Kind| match kind {
+            Kind::Commit(_) | Kind::Gone(_) => kind.words().to_string(),
+            _ => format!("{kind:?}"),
+        };
+        let in_two = Kind::every().map(|kind| (kind.text(), format!("{kind:?}"))).collect();
+        let in_one = Kind::every().map(|kind| (kind.letter().to_string(), small(kind))).collect();
+        let keys = Key::all(false).into_iter().chain(Key::all(true));
+        let keys = keys.map(|key| (key.text().to_string(), format!("{key:?}")));
+        let others: Vec<(String, String)> =
+            keys.chain([(ERASED.into(), "erased".into())]).collect();
+        for pages in [in_two, in_one] {
+            let pages: Vec<(String, String)> = pages;
+            let mut meanings = HashMap::new();
+            for (text, meaning) in pages.iter().chain(&others) {
+                let other = meanings.insert(text, meaning).unwrap_or(meaning);
+                assert_eq!(other, meaning, "{text}");
+            }
+        }
+        assert_eq!(Kind::every().map(|kind| kind.text().len()).max(), Some(2));
+    }
+
+    /// Nor does a letter stand for one thing, and for another as a capital. The capitals of keys are the same
+    /// letters, replaced.
+    #[test]
+    fn no_letter_has_two_meanings_as_a_capital() {
+        let pages =
+            Kind::every().filter(|kind| !matches!(kind, Kind::Commit(1..) | Kind::Gone(1..)));
+        let letters = pages.map(Kind::letter).chain(Key::all(false).map(Key::text));
+        let mut letters: Vec<char> = letters.map(|letter| letter.to_ascii_lowercase()).collect();
+        let all = letters.len();
+        letters.sort_unstable();
+        letters.dedup();
+        assert_eq!(letters.len(), all, "{letters:?}");
+        for file in 0..FILES as u32 {
+            assert_eq!(Kind::Live(file).letter().is_ascii_digit(), file < 10);
+        }
+        for (key, replaced) in Key::all(false).into_iter().zip(Key::all(true)) {
+            assert_eq!(replaced.text().to_ascii_lowercase(), key.text());
+        }
+    }
+
+    #[test]
+    fn three_empty_blocks_are_one_row() {
+        let mut image = vec![0xff; 12 * 4_096];
+        for block in [0, 3, 5] {
+            image[block * 4_096] = 0;
+        }
+        let [seen, other] = [12, 9].map(|blocks| Seen::of(image[..blocks * 4_096].to_vec()));
+        let shown = [&seen, &other].map(|seen| Shown { title: String::new(), seen });
+        let cells = shown.each_ref().map(|shown| Cells::of(shown, Marks::default()));
+        let rows = Row::all(&cells);
+        let blocks = (0..6).map(Row::Block);
+        assert_eq!(rows, blocks.chain([Row::Empty(6, 11)]).collect::<Vec<Row>>());
+        assert_eq!(rows[6].within(9), Some(Row::Empty(6, 8)));
+        assert_eq!((rows[6].within(6), rows[5].within(5)), (None, None));
     }
 }

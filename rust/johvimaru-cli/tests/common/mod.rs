@@ -4,7 +4,7 @@
 use std::ffi::OsStr;
 use std::fs;
 use std::io::Write;
-use std::path::{Path, PathBuf};
+use std::path::PathBuf;
 use std::process::{Command, Output, Stdio};
 
 /// A folder of a test's own, in which the command works.
@@ -13,9 +13,9 @@ pub struct Folder {
 }
 
 impl Folder {
-    /// A new folder of this name.
+    /// A new folder of this name, among the temporary files.
     pub fn new(name: &str) -> Folder {
-        let path = Path::new(env!("CARGO_TARGET_TMPDIR")).join(name);
+        let path = std::env::temp_dir().join(format!("johvimaru-{}-{name}", std::process::id()));
         let _ = fs::remove_dir_all(&path);
         fs::create_dir_all(&path).unwrap();
         Folder { path }
@@ -24,7 +24,7 @@ impl Folder {
     /// The command, not yet started.
     pub fn command<S: AsRef<OsStr>>(&self, words: &[S]) -> Command {
         let mut command = Command::new(env!("CARGO_BIN_EXE_johvimaru"));
-        command.args(words).current_dir(&self.path).env_remove("NO_COLOR");
+        command.args(words).current_dir(&self.path).env_remove("NO_COLOR").env_remove("COLUMNS");
         command
     }
 
@@ -107,6 +107,11 @@ impl Ran {
             errors: String::from_utf8_lossy(&output.stderr).into_owned(),
         }
     }
+}
+
+/// Whether some bytes stand anywhere in an image.
+pub fn holds(image: &[u8], bytes: &[u8]) -> bool {
+    image.windows(bytes.len()).any(|window| window == bytes)
 }
 
 /// A generator of numbers that are the same in every run.

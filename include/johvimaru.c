@@ -26,7 +26,7 @@ const char *johvimaru_reply_text(uint32_t reply)
     case JOHVIMARU_REFUSED_OFFSET:
         return "the offset is not below the file's count";
     case JOHVIMARU_REFUSED_PAYLOAD:
-        return "the payload, or the output for it, is not 224 bytes";
+        return "the payload is not 1 to 224 bytes, or the output for it is not 224 bytes";
     case JOHVIMARU_REFUSED_RECORD:
         return "the record does not fit the image";
     case JOHVIMARU_NOTHING_THERE:

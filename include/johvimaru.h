@@ -1,9 +1,9 @@
 /*
  * Johvimaru: a store of small records on a flash chip, which can be made to forget.
  *
- * The store keeps 224-byte payloads in files of fixed size on the image of a flash chip. Each payload
- * is enciphered with AES-128 in counter mode under a key of its own. The keys stand in key blocks on
- * the same chip: a payload is forgotten by replacing its key, whatever is left of its page.
+ * The store keeps payloads of 1 to 224 bytes in files of fixed size on the image of a flash chip. Each
+ * payload is enciphered with AES-128 in counter mode under a key of its own. The keys stand in key blocks
+ * on the same chip: a payload is forgotten by replacing its key, whatever is left of its page.
  *
  * This library is built from code that is proved to do what its contracts say, for all arguments and
  * for a power cut at every byte (crates/recorder/src/lib.rt and the definitions that it cites). This
@@ -17,7 +17,7 @@
  * can stand at any address. It needs memcpy and memset, and nothing else. It allocates nothing, keeps
  * nothing between calls and has no data that changes: all that it works on is lent to it for the call,
  * and JOHVIMARU_STACK_SIZE bytes of stack. Calls on different buffers may run at the same time, and so
- * may two reads of one image and record into different outputs.
+ * may two reads of one image and record into different outputs and lengths.
  *
  * johvimaru_version and johvimaru_reply_text are not in it. They are in johvimaru.c beside this header,
  * plain C that nothing else here needs and that is no part of what is proved: whoever calls them compiles
@@ -26,13 +26,17 @@
  * What stays secret: the library clears nothing behind it. As measured on x86-64, keys and payloads on the
  * stack and in vector registers by tests/c/secrets.c, the rest by hand:
  *
- *   - After a write or a read the key, its round keys and the last 16 bytes of its key stream lie on the
- *     stack, below the caller's frame; after a read the last 16 bytes of the payload are in a vector
- *     register, and some of that key stream in a general one.
+ *   - After a write or a read the key, its round keys and the last 16 bytes of key stream that it used lie
+ *     on the stack, below the caller's frame, and some of these 16 in general registers. After a read of 16
+ *     bytes or more a vector register holds 16 bytes of the payload, from its end or close to it.
  *   - After a format, a commit or a wipe vector registers hold keys, and the stack holds none.
  *   - After a mount or a cut-off neither holds a key.
  *   - No call puts a payload on the stack. What saves registers there while a call runs may do so: an
  *     interrupt, a signal, a dynamic linker that looks for memcpy at its first call.
+ *
+ * On the chip itself the 30 bytes of a page's header are not enciphered. That of a node tells its file, its
+ * offset, its key position and the length of its payload, and after a commit or a wipe it may stand there
+ * until its block is erased.
  *
  * A device that must not keep any of this overwrites JOHVIMARU_STACK_SIZE bytes of that stack and the
  * registers after the call. The cipher is not constant-time: it looks up tables by bytes of the
@@ -84,6 +88,15 @@
  *
  * JOHVIMARU_FILE_COUNTS has these counts. A node is named by its file and its offset, which is below
  * the file's count. The nodes of all files, one file after the other, are at the places 0 to 223.
+ *
+ * A payload has 1 to 224 bytes, and reads back with the length that it was written with: no byte at its
+ * end is taken for padding. On its page spaces (20h) follow it up to 224 bytes. They are enciphered as it
+ * is, so that of the page's bytes nothing but the length in its header tells where it ends.
+ *
+ * Version 1 of this library took payloads of 224 bytes only and kept no length. Its nodes are mounted, read
+ * and removed as others are; their payloads have 224 bytes, with what their writer put after a record.
+ * The other way does not go: version 1 finds no header on pages of nodes that have a length, and its mount
+ * erases blocks of such pages. An image that this version has written must not be given to version 1.
  *
  *
  * THE WORKING RECORD
@@ -142,7 +155,8 @@
  * - A buffer goes over as a pointer and a length, in elements. The pointer is not null, even where the
  *   length is 0, is aligned for its type, and so many elements can be read there, and written where
  *   the pointer is not to const. A length is at most PTRDIFF_MAX bytes.
- * - numbers points to five elements. It has no length.
+ * - numbers points to five elements, and the length of a read to one. Neither has a length beside it,
+ *   and neither pointer is null.
  * - Buffers of one call that the call may write do not overlap any other buffer of that call.
  * - Nothing else writes the buffers while the call runs, nor reads those that it may write.
  * - The chip does the steps in the order in which they come, and a step is begun only when the one
@@ -164,7 +178,7 @@ extern "C" {
 #endif
 
 /* The version of the library's calls and constants: those of another one are others. */
-#define JOHVIMARU_VERSION 1
+#define JOHVIMARU_VERSION 2
 
 /* ---- Sizes, of a type in which an image's bytes can be counted whatever an int holds */
 
@@ -183,7 +197,7 @@ extern "C" {
 /* The count of nodes of each file, as the initial value of an array of JOHVIMARU_FILES numbers. */
 #define JOHVIMARU_FILE_COUNTS {32, 32, 24, 24, 16, 16, 16, 16, 8, 8, 8, 8, 8, 8}
 
-/* Bytes in a payload. */
+/* The most bytes that a payload has, and the bytes of an output for one. */
 #define JOHVIMARU_PAYLOAD_SIZE 224UL
 
 /* Elements of the record's three buffers. */
@@ -225,7 +239,7 @@ extern "C" {
 #define JOHVIMARU_REFUSED_FILE 4
 /* The offset is not below the file's count. */
 #define JOHVIMARU_REFUSED_OFFSET 5
-/* The payload, or the output for it, is not 224 bytes. */
+/* The payload is not 1 to 224 bytes, or the output for it is not 224 bytes. */
 #define JOHVIMARU_REFUSED_PAYLOAD 6
 /* The record does not fit the image. */
 #define JOHVIMARU_REFUSED_RECORD 7
@@ -334,7 +348,7 @@ uint32_t johvimaru_mount_cut(uint8_t *image, size_t image_length,
  *             its record.
  *   file      0 to 13.
  *   offset    below the file's count.
- *   payload   224 bytes.
+ *   payload   1 to 224 bytes.
  *
  * Tests, in order: JOHVIMARU_REFUSED_IMAGE, JOHVIMARU_REFUSED_LENGTHS (map or letters),
  * JOHVIMARU_REFUSED_FILE, JOHVIMARU_REFUSED_OFFSET, JOHVIMARU_REFUSED_PAYLOAD,
@@ -343,9 +357,10 @@ uint32_t johvimaru_mount_cut(uint8_t *image, size_t image_length,
  * Done, it has programmed one page, in one step. It is the lowest one from which on its block is empty,
  * among the data blocks: those with a page, whole or torn, that has the header of a node or a
  * cut-off. Where there is none, and at least two blocks are empty, it is page 0 of the lowest of
- * these. The payload is enciphered under the lowest free key, whose letter is now 'u'. The letter of
- * the key that was there before, if any, is now 'd'. The map has the page and the key position at the
- * place, and the next sequence is one higher. Refused, nothing is changed.
+ * these. Its header has the payload's length. The payload, with spaces after it up to 224 bytes, is
+ * enciphered under the lowest free key, whose letter is now 'u'. The letter of the key that was there
+ * before, if any, is now 'd'. The map has the page and the key position at the place, and the next
+ * sequence is one higher. Refused, nothing is changed.
  */
 uint32_t johvimaru_write(uint8_t *image, size_t image_length,
                          uint16_t *map, size_t map_length,
@@ -369,28 +384,34 @@ uint32_t johvimaru_write_cut(uint8_t *image, size_t image_length,
                              uint64_t n, size_t k);
 
 /*
- * Reads the payload at a file's offset. It changes nothing but its output, and has no steps that the
- * power could cut.
+ * Reads the payload at a file's offset. It changes nothing but output and length, and has no steps that
+ * the power could cut.
  *
  *   image     the image.
  *   map, letters, numbers
  *             its record.
  *   file      0 to 13.
  *   offset    below the file's count.
- *   output    224 bytes, for the payload.
+ *   output    224 bytes, of which the payload fills the first ones.
+ *   length    one number, apart from all other buffers, for the payload's length. What it held before
+ *             does not matter.
  *
  * Tests, in order: JOHVIMARU_REFUSED_IMAGE, JOHVIMARU_REFUSED_LENGTHS (map or letters),
  * JOHVIMARU_REFUSED_FILE, JOHVIMARU_REFUSED_OFFSET, JOHVIMARU_REFUSED_PAYLOAD (output),
  * JOHVIMARU_REFUSED_RECORD, JOHVIMARU_NOTHING_THERE.
  *
- * Done, the output is the payload that was last written there. Refused, it is as it was.
+ * Done, length is how many bytes the payload has that was last written there, 1 to 224, the first bytes of
+ * the output are the payload, and the others are as they were. A text that was written without a zero byte
+ * has none after it here. A node of version 1 has the length 224. Refused, length is 0, and the output is
+ * as it was.
  */
 uint32_t johvimaru_read(const uint8_t *image, size_t image_length,
                         const uint16_t *map, size_t map_length,
                         const uint8_t *letters, size_t letters_length,
                         const uint32_t numbers[JOHVIMARU_NUMBERS_LENGTH],
                         uint32_t file, uint32_t offset,
-                        uint8_t *output, size_t output_length);
+                        uint8_t *output, size_t output_length,
+                        size_t *length);
 
 /*
  * Cuts a file off: removes its nodes from an offset on. Their keys are deleted, but still on the image

@@ -6,9 +6,9 @@
 //! image. A read at a vacant place is that test and little else, so it tells the test's share.
 //!
 //! Every call is timed beside the floor, a plain program in C with the same tests, on the same image and
-//! record, and each limit is said to be met or not: read and write are to take no longer than there. A
-//! mount is timed also beside one pass of the form of every page; a commit and a wipe beside the same
-//! bytes moved without a test.
+//! record, and each limit is said to be met or not: read and write are to take no longer than there, and
+//! a read of 40 bytes no longer than one of 224. A mount is timed also beside one pass of the form of
+//! every page; a commit and a wipe beside the same bytes moved without a test.
 //!
 //! Under `cargo bench` it prints ratios. Under `cargo test` it only compares results.
 
@@ -170,8 +170,8 @@ fn fits(setting: &Setting) -> Work<'static> {
     let mut output = [0; PAYLOAD];
     Box::new(move || {
         for _ in 0..CALLS {
-            let reply = recorder::read(&ours.image, &ours.record, file, offset, &mut output);
-            assert_eq!(reply, Refusal::NothingThere.number());
+            let read = recorder::read(&ours.image, &ours.record, file, offset, &mut output);
+            assert_eq!(read, (Refusal::NothingThere.number(), 0));
         }
     })
 }
@@ -230,8 +230,8 @@ impl Peer for Ours {
 
     fn read(&mut self, place: usize, output: &mut Payload) {
         let (file, offset) = node(place);
-        let reply = recorder::read(&self.image, &self.record, file, offset, output);
-        assert_eq!(reply, recorder::DONE);
+        let read = recorder::read(&self.image, &self.record, file, offset, output);
+        assert_eq!(read, (recorder::DONE, PAYLOAD));
     }
 
     fn keep(&mut self) {
@@ -264,7 +264,8 @@ impl Peer for InC {
 
     fn read(&mut self, place: usize, output: &mut Payload) {
         let ((file, offset), Ours { image, record, .. }) = (node(place), &self.lent);
-        assert_eq!(self.floor.read(image, record, file, offset, output), recorder::DONE);
+        let read = self.floor.read(image, record, file, offset, output);
+        assert_eq!(read, (recorder::DONE, PAYLOAD));
     }
 
     fn keep(&mut self) {
@@ -310,8 +311,8 @@ impl Peer for Second {
 
     fn read(&mut self, place: usize, output: &mut Payload) {
         let (file, offset) = files::node(place);
-        let reply = calls::read(&self.store.image, &self.store.record, file, offset, output);
-        assert_eq!(reply, calls::DONE);
+        let read = calls::read(&self.store.image, &self.store.record, file, offset, output);
+        assert_eq!(read, (calls::DONE, PAYLOAD));
     }
 
     fn keep(&mut self) {

@@ -52,7 +52,7 @@ struct store {
 static struct store store, now, next;
 
 static uint8_t noise[JOHVIMARU_NOISE_SIZE];
-static uint8_t payload[JOHVIMARU_PAYLOAD_SIZE];
+static uint8_t payload[40];
 
 /* A call in its form with n and k. */
 typedef uint32_t call(struct store *s, uint64_t n, size_t k);
@@ -131,22 +131,38 @@ static void on_chip(const char *name, call *call)
     printf("%s: reply %" PRIu32 ", steps %" PRIu64 "\n", name, reply, n);
 }
 
-int main(void)
+/* ---- Reads, on the chip itself */
+
+/* Reads into an output of stars, of which only the payload's bytes may become others. */
+static void read_chip(uint32_t file, uint32_t offset)
 {
     uint8_t output[JOHVIMARU_PAYLOAD_SIZE];
-    const uint8_t counts[JOHVIMARU_FILES] = JOHVIMARU_FILE_COUNTS;
+    size_t length = sizeof output;
+    size_t stars = 0;
     uint32_t reply;
+    memset(output, '*', sizeof output);
+    reply = johvimaru_read(flash, sizeof flash, store.map, JOHVIMARU_MAP_LENGTH, store.letters,
+                           JOHVIMARU_LETTERS_LENGTH, store.numbers, file, offset, output,
+                           sizeof output, &length);
+    while (stars < sizeof output && output[sizeof output - 1 - stars] == '*') {
+        stars++;
+    }
+    printf("read: reply %" PRIu32 ", %zu bytes, %s, then %zu stars\n", reply, length,
+           length == sizeof payload && memcmp(output, payload, length) == 0 ? "the payload" : "none",
+           stars);
+}
+
+int main(void)
+{
+    const uint8_t counts[JOHVIMARU_FILES] = JOHVIMARU_FILE_COUNTS;
     memset(payload, 'p', sizeof payload);
     on_chip("format", format);
     on_chip("write", write_node);
     on_chip("write", write_node);
 
-    /* A read on the chip itself. */
-    reply = johvimaru_read(flash, sizeof flash, store.map, JOHVIMARU_MAP_LENGTH, store.letters,
-                           JOHVIMARU_LETTERS_LENGTH, store.numbers, JOHVIMARU_FILES - 1,
-                           counts[JOHVIMARU_FILES - 1] - 1u, output, sizeof output);
-    printf("read: reply %" PRIu32 ", %s\n", reply,
-           memcmp(output, payload, sizeof output) == 0 ? "the payload" : "something else");
+    /* The last offset of the last file has it, and the first one nothing. */
+    read_chip(JOHVIMARU_FILES - 1, counts[JOHVIMARU_FILES - 1] - 1u);
+    read_chip(JOHVIMARU_FILES - 1, 0);
 
     on_chip("commit", commit);
     on_chip("cut-off", cut_off);

@@ -1,7 +1,7 @@
 /*
- * A recorder's day: a volume is formatted, nodes are written and overwritten, the power fails in the
- * middle of a write, the volume is mounted again, a trip is cut off, and at the quay a file is wiped and
- * its keys with it. It is C and C++.
+ * A recorder's day: a volume is formatted, records of some 40 bytes and fewer are written, read back and
+ * overwritten, the power fails in the middle of a write, the volume is mounted again, a trip is cut off,
+ * and at the quay a file is wiped and its keys with it. It is C and C++.
  */
 #include <inttypes.h>
 #include <stdio.h>
@@ -38,27 +38,21 @@ static void say(const char *call, uint32_t reply)
     printf("%s: reply %" PRIu32 "\n", call, reply);
 }
 
-/* A text as a payload, with zero bytes after it. */
-static const uint8_t *payload_of(const char *text)
-{
-    static uint8_t payload[JOHVIMARU_PAYLOAD_SIZE];
-    memset(payload, 0, sizeof payload);
-    memcpy(payload, text, strlen(text));
-    return payload;
-}
-
+/* Writes a text as it is, without the zero byte at its end. */
 static void write_text(uint32_t file, uint32_t offset, const char *text)
 {
-    say("write", johvimaru_write(STORE, file, offset, payload_of(text), JOHVIMARU_PAYLOAD_SIZE));
+    say("write", johvimaru_write(STORE, file, offset, (const uint8_t *)text, strlen(text)));
 }
 
+/* Of the output only the payload is printed: there is no zero byte after it. */
 static void print_node(uint32_t file, uint32_t offset)
 {
-    uint8_t output[JOHVIMARU_PAYLOAD_SIZE] = {0};
-    uint32_t reply = johvimaru_read(STORE, file, offset, output, sizeof output);
+    uint8_t output[JOHVIMARU_PAYLOAD_SIZE];
+    size_t length;
+    uint32_t reply = johvimaru_read(STORE, file, offset, output, sizeof output, &length);
     printf("read file %" PRIu32 " offset %" PRIu32 ": reply %" PRIu32, file, offset, reply);
     if (reply == JOHVIMARU_DONE) {
-        printf(", \"%s\"", (const char *)output);
+        printf(", %zu bytes, \"%.*s\"", length, (int)length, (const char *)output);
     }
     printf("\n");
 }
@@ -118,7 +112,8 @@ int main(void)
 
     write_text(0, 0, "draught 4.12 m");
     write_text(2, 5, "track 51.92 N 4.48 E");
-    write_text(0, 0, "draught 6.80 m");
+    write_text(0, 0, "draught fore 6.80 m, aft 7.05 m at 06:20");
+    write_text(0, 1, "");
     print_node(0, 0);
     print_node(0, 1);
     print_node(14, 0);
@@ -129,7 +124,7 @@ int main(void)
 
     /* The power fails after the page's header: nobody sees a reply, and the record is lost. */
     say("write, cut at byte 30",
-        johvimaru_write_cut(STORE, 2, 5, payload_of("lost"), JOHVIMARU_PAYLOAD_SIZE, 0, 30));
+        johvimaru_write_cut(STORE, 2, 5, (const uint8_t *)"lost", 4, 0, 30));
     print_header(51);
     say("mount", mount());
     print_numbers();

@@ -17,7 +17,7 @@ uint32_t floor_write(uint8_t *image, size_t image_length, uint16_t *map, size_t 
 uint32_t floor_read(const uint8_t *image, size_t image_length, const uint16_t *map,
                     size_t map_length, const uint8_t *letters, size_t letters_length,
                     const uint32_t *numbers, uint32_t file, uint32_t offset, uint8_t *output,
-                    size_t output_length);
+                    size_t output_length, size_t *length);
 
 uint32_t floor_mount(uint8_t *image, size_t image_length, uint16_t *map, size_t map_length,
                      uint8_t *letters, size_t letters_length, uint32_t *numbers, uint32_t *scratch,

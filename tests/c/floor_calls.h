@@ -15,7 +15,7 @@ static inline size_t floor_empty_block(const uint8_t *image, size_t blocks, size
 /* Makes the places of a file vacant from an offset on, and their keys deleted. */
 void floor_remove(uint16_t *map, uint8_t *letters, uint32_t file, uint32_t offset);
 
-/* Enciphers a payload: out is in with the key stream of counters 0 to 13 added. */
-void floor_stream(const uint8_t *key, uint8_t *out, const uint8_t *in);
+/* Enciphers so many bytes of a payload: out is in with the key stream from counter 0 on added. */
+void floor_stream(const uint8_t *key, uint8_t *out, const uint8_t *in, size_t length);
 
 #endif

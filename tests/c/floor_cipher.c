@@ -33,17 +33,17 @@ void floor_use_tomcrypt(int cipher, void *start, void *encrypt_address, void *do
     memcpy(&tom_done, &done, sizeof tom_done);
 }
 
-void floor_stream(const uint8_t *key, uint8_t *out, const uint8_t *in)
+void floor_stream(const uint8_t *key, uint8_t *out, const uint8_t *in, size_t length)
 {
     uint8_t counter[16] = { 0 };
     if (crypt) {
         _Alignas(64) uint8_t state[512];
         set_key(state, key);
-        crypt(state, encrypt, 16, counter, PAYLOAD, out, in);
+        crypt(state, encrypt, 16, counter, length, out, in);
     } else {
         static _Alignas(64) uint8_t state[16384];
         tom_start(tom_cipher, counter, key, 16, 0, BIG_ENDIAN_COUNTER, state);
-        tom_encrypt(in, out, PAYLOAD, state);
+        tom_encrypt(in, out, length, state);
         tom_done(state);
     }
 }

@@ -30,6 +30,43 @@ static inline uint64_t entry_values(uint64_t v)
     return (t * 100 + (t >> 16)) & 0x0000FFFF0000FFFFu;
 }
 
+/* Four columns of each number up to 224, as words; 0 for the numbers above. */
+#define COLUMN(n, unit) ((n) < (unit) ? 0x20u : 0x30u + (n) / (unit) % 10)
+#define TEXT(n) (0x30000020u | COLUMN(n, 100) << 8 | COLUMN(n, 10) << 16 | (n) % 10u << 24)
+#define FIVE(n) TEXT(n), TEXT(n + 1), TEXT(n + 2), TEXT(n + 3), TEXT(n + 4)
+#define TWENTY_FIVE(n) FIVE(n), FIVE(n + 5), FIVE(n + 10), FIVE(n + 15), FIVE(n + 20)
+static const uint32_t second_text[256] = {
+    TWENTY_FIVE(0),   TWENTY_FIVE(25),  TWENTY_FIVE(50),  TWENTY_FIVE(75), TWENTY_FIVE(100),
+    TWENTY_FIVE(125), TWENTY_FIVE(150), TWENTY_FIVE(175), TWENTY_FIVE(200)
+};
+
+/* The eight columns of a second number of 0 to 224. */
+static inline uint64_t spell_second(uint32_t second)
+{
+    return SPACES_4 | (uint64_t)second_text[second] << 32;
+}
+
+/* The second number of a node or cut-off by its last three digits, less 256 where it is too large. */
+static inline uint32_t second_of(const uint8_t *p)
+{
+    uint32_t digits = load4(p + 24) & 0x0F0F0F00u;
+    return digits * (100u << 16 | 10u << 8 | 1u) >> 24;
+}
+
+/* 0 where a second number is spelt right and at most this one. */
+static inline uint64_t second_differs(const uint8_t *p, uint32_t most)
+{
+    uint32_t second = second_of(p);
+    return (load8(p + 20) ^ spell_second(second)) | (second > most);
+}
+
+/* The length of a node's payload: an older recorder has written 0 for 224. */
+static inline size_t length_of(const uint8_t *node)
+{
+    uint32_t second = second_of(node);
+    return second ? second : PAYLOAD;
+}
+
 /* The header of a whole or torn page of a node or cut-off. */
 struct event {
     uint32_t sequence;
@@ -47,7 +84,7 @@ static inline bool read_event(const uint8_t *p, struct event *e)
     struct columns number = take_apart(load8(p + 1));
     uint64_t wrong = load8(p + 8) >> 8 ^ place_text(file, offset);
     wrong |= load4(p + 16) ^ spell4(key);
-    wrong |= load8(p + 20) ^ ZERO_8;
+    wrong |= second_differs(p, p[0] == 'N' ? PAYLOAD : 0);
     wrong |= load2(p + 28) ^ COLON_SPACE;
     *e = (struct event){ value8(number.digits), (uint16_t)file, (uint16_t)offset, (uint16_t)key };
     return (wrong == 0) & number.right & ((number.digits & number.first * 0xFF) != 0);
@@ -72,7 +109,7 @@ static inline uint64_t node_differs(const uint8_t *p, uint64_t place, uint32_t k
 {
     uint64_t wrong = load8(p + 8) >> 8 ^ place;
     wrong |= load4(p + 16) ^ spell4(key);
-    wrong |= load8(p + 20) ^ ZERO_8;
+    wrong |= second_differs(p, PAYLOAD);
     wrong |= load2(p + 28) ^ COLON_SPACE;
     wrong |= load2(p + CLOSING_AT) ^ CLOSING;
     return wrong | (uint64_t)(p[0] ^ 'N') | !is_number(load8(p + 1));

@@ -21,11 +21,12 @@ enum {
     NOISE = 7168, NONE = 65535, LAST_NUMBER = 99999999
 };
 
-/* The ends of a page, an unused field of 8 and of 4 columns, and the entry of no page, as words. */
+/* The ends of a page, an unused field of 8 and of 4 columns, 4 spaces, and the entry of no page, as words. */
 #define CLOSING 0x0A0Du
 #define COLON_SPACE 0x203Au
 #define ZERO_8 0x3020202020202020u
 #define ZERO_4 0x30202020u
+#define SPACES_4 0x20202020u
 #define VACANT 0x2D2020202D202020u
 
 #define EACH_BYTE(b) (0x0101010101010101u * (b))

@@ -19,7 +19,9 @@ static uint8_t letters[JOHVIMARU_LETTERS_LENGTH];
 static uint32_t numbers[JOHVIMARU_NUMBERS_LENGTH];
 static uint8_t noise[JOHVIMARU_NOISE_SIZE];
 static uint8_t payload[JOHVIMARU_PAYLOAD_SIZE];
+static size_t payload_length = JOHVIMARU_PAYLOAD_SIZE;
 static uint8_t output[JOHVIMARU_PAYLOAD_SIZE];
+static size_t length;
 static uint32_t scratch[JOHVIMARU_SCRATCH_LENGTH];
 static uint32_t reply;
 
@@ -46,8 +48,8 @@ static uint8_t vectors[16 * 16];
     image, sizeof image, map, JOHVIMARU_MAP_LENGTH, letters, JOHVIMARU_LETTERS_LENGTH, numbers
 
 CALL(format, johvimaru_format(STORE, noise, sizeof noise))
-CALL(write_node, johvimaru_write(STORE, 13, 7, payload, sizeof payload))
-CALL(read_node, johvimaru_read(STORE, 13, 7, output, sizeof output))
+CALL(write_node, johvimaru_write(STORE, 13, 7, payload, payload_length))
+CALL(read_node, johvimaru_read(STORE, 13, 7, output, sizeof output, &length))
 CALL(mount, johvimaru_mount(STORE, scratch, JOHVIMARU_SCRATCH_LENGTH))
 CALL(cut_off, johvimaru_cut_off(STORE, 13, 0))
 CALL(commit, johvimaru_commit(STORE, noise, sizeof noise))

@@ -98,5 +98,8 @@ int main(void)
     status |= look("cut-off", cut_off);
     status |= look("write", write_node);
     status |= look("wipe", wipe);
+    payload_length = 40;
+    status |= look("write of 40 bytes", write_node);
+    status |= look("read of 40 bytes", read_node);
     return status;
 }

@@ -42,5 +42,8 @@ int main(void)
     status |= too_much("write after a wipe", write_node);
     status |= too_much("cut-off", cut_off);
     status |= too_much("commit after a cut-off", commit);
+    payload_length = 5;
+    status |= too_much("write of 5 bytes", write_node);
+    status |= too_much("read of 5 bytes", read_node);
     return status;
 }

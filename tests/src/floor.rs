@@ -43,6 +43,7 @@ extern "C" {
         offset: u32,
         output: *mut u8,
         output_length: usize,
+        length: *mut usize,
     ) -> u32;
     fn floor_mount(
         image: *mut u8,
@@ -123,7 +124,7 @@ impl Floor {
         *FLOOR.get_or_init(|| nettle().or_else(tomcrypt).map(|cipher| Floor { cipher }))
     }
 
-    /// Writes a payload of 224 bytes at a file's offset.
+    /// Writes a payload of 1 to 224 bytes at a file's offset.
     pub fn write(
         self,
         image: &mut [u8],
@@ -137,7 +138,8 @@ impl Floor {
         unsafe { call!(floor_write, image, record, file, offset, payload, length) }
     }
 
-    /// Reads the payload at a file's offset into 224 bytes.
+    /// Reads the payload at a file's offset into the first of 224 bytes. Gives the reply, and the
+    /// payload's length or 0.
     pub fn read(
         self,
         image: &[u8],
@@ -145,10 +147,11 @@ impl Floor {
         file: u32,
         offset: u32,
         output: &mut [u8],
-    ) -> u32 {
+    ) -> (u32, usize) {
         let Record { map, letters, numbers } = record;
-        // SAFETY: as `call` says.
-        unsafe {
+        let mut length = usize::MAX;
+        // SAFETY: as `call` says, and one number is borrowed for the length.
+        let reply = unsafe {
             floor_read(
                 image.as_ptr(),
                 image.len(),
@@ -161,8 +164,10 @@ impl Floor {
                 offset,
                 output.as_mut_ptr(),
                 output.len(),
+                &mut length,
             )
-        }
+        };
+        (reply, length)
     }
 
     /// Finds the record of an image, with a scratch of 224 numbers.
@@ -218,17 +223,22 @@ impl Floor {
         let Store { mut image, record } = store;
         let mut record = to_library(record);
         let (mut output, mut scratch) = (call.output(), call.scratch());
-        let (bytes, of) = (&mut image, &mut record);
+        let (bytes, of, mut length) = (&mut image, &mut record, 0);
         let reply = match call {
-            Call::Format { .. } => panic!("the floor has no format"),
+            Call::Format { .. } | Call::Append { .. } => panic!("the floor has no {call:?}"),
             Call::Mount { .. } => self.mount(bytes, of, &mut scratch),
             Call::Write { file, offset, .. } => self.write(bytes, of, file, offset, data),
-            Call::Read { file, offset, .. } => self.read(bytes, of, file, offset, &mut output),
+            Call::Read { file, offset, .. } => {
+                let (reply, reported) = self.read(bytes, of, file, offset, &mut output);
+                length = reported;
+                reply
+            }
             Call::CutOff { file, offset } => self.cut_off(bytes, of, file, offset),
             Call::Commit { .. } => self.commit(bytes, of, data),
             Call::Wipe { file, offset, .. } => self.wipe(bytes, of, data, file, offset),
         };
-        After { reply, store: Store { image, record: from_library(record) }, output, scratch }
+        let store = Store { image, record: from_library(record) };
+        After { reply, length, store, output, scratch }
     }
 }
 

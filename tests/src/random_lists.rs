@@ -3,7 +3,7 @@
 use crate::model::files::{COUNTS, FILES};
 use crate::model::image::{Power, BLOCK, PAGES_IN_BLOCK};
 use crate::model::list::{Call, Data, Event, Lent};
-use crate::model::pages::{HEADER, PAGE};
+use crate::model::pages::{HEADER, PAGE, PAYLOAD};
 use crate::rng::Rng;
 
 /// Makes the calls of one list.
@@ -13,6 +13,9 @@ pub struct RandomList {
     /// How many calls the list has.
     pub length: usize,
 }
+
+/// Of a hundred writes so many are of another recorder.
+const FOREIGN: usize = 15;
 
 /// What a list is made of: of a hundred calls so many are of each kind (mounts are the rest), and so
 /// many are cut.
@@ -110,7 +113,7 @@ impl RandomList {
             hit
         };
         if drawn(writes) {
-            Call::Write { file, offset, payload: self.data(Data::payload) }
+            self.write(file, offset)
         } else if drawn(cut_offs) {
             Call::CutOff { file, offset }
         } else if drawn(commits) {
@@ -118,10 +121,35 @@ impl RandomList {
         } else if drawn(wipes) {
             Call::Wipe { file, offset, noise: self.data(Data::noise) }
         } else if drawn(reads) {
-            let output = self.length(224);
+            let output = self.length(PAYLOAD);
             Call::Read { file, offset, output }
         } else {
             self.mount()
+        }
+    }
+
+    /// A write of this store, now and then one of an older recorder or of another.
+    fn write(&mut self, file: usize, offset: usize) -> Call {
+        let seed = self.rng.number();
+        if !self.happens(FOREIGN) {
+            return Call::Write { file, offset, payload: Data::of(self.payload_length(), seed) };
+        }
+        let bytes = Data::of(self.length(PAYLOAD), seed);
+        let second = match self.rng.below(20) {
+            0 => [225, 226, 999, u32::MAX][self.rng.below(4)],
+            1..10 => 0,
+            _ => self.rng.below(PAYLOAD + 1) as u32,
+        };
+        Call::Append { file, offset, second, bytes }
+    }
+
+    /// The length of a payload: often the whole page or any, now and then one at an edge or a wrong one.
+    fn payload_length(&mut self) -> usize {
+        match self.rng.below(32) {
+            0 => [0, 225, 226][self.rng.below(3)],
+            1..7 => [1, 40, 180, 223][self.rng.below(4)],
+            7..20 => 1 + self.rng.below(PAYLOAD),
+            _ => PAYLOAD,
         }
     }
 
@@ -174,7 +202,8 @@ impl RandomList {
     fn cut(&mut self, call: &Call) -> Power {
         let steps = match call {
             Call::Mount { .. } => 2,
-            Call::Write { .. } | Call::CutOff { .. } | Call::Read { .. } => 2,
+            Call::Write { .. } | Call::Append { .. } | Call::CutOff { .. } => 2,
+            Call::Read { .. } => 2,
             Call::Commit { .. } => 50,
             Call::Wipe { .. } => 60,
         };

@@ -3,6 +3,7 @@
 use crate::model::calls::DONE;
 use crate::model::files::{self, PLACES};
 use crate::model::list::{Call, Data};
+use crate::model::pages::PAYLOAD;
 use crate::model::store::Store;
 use crate::side_by_side::to_library;
 use johvimaru::raw::Record;
@@ -12,6 +13,9 @@ pub const CALLS: usize = 4;
 
 /// A place that is never written.
 pub const VACANT: usize = PLACES - 1;
+
+/// Bytes of a short payload.
+pub const SHORT: usize = 40;
 
 /// The noise of every format.
 pub const FORMAT_NOISE: Data = Data { length: 7_168, seed: 3 };
@@ -44,18 +48,30 @@ pub fn payload(number: usize) -> Data {
 impl Setting {
     /// Image and record, made by the second implementation.
     pub fn store(&self) -> Store {
+        self.store_with(PAYLOAD)
+    }
+
+    /// The same, but that payloads of the first place are of this length.
+    fn store_with(&self, length: usize) -> Store {
         let mut store = Store::formatted(self.blocks, FORMAT_NOISE);
         for number in 0..self.writes {
-            let (file, offset) = files::node(number % self.live);
-            let reply = store.call(Call::Write { file, offset, payload: payload(number) });
-            assert_eq!(reply, DONE);
+            let place = number % self.live;
+            let (file, offset) = files::node(place);
+            let length = if place == 0 { length } else { PAYLOAD };
+            let payload = Data { length, ..payload(number) };
+            assert_eq!(store.call(Call::Write { file, offset, payload }), DONE);
         }
         store
     }
 
-    /// The same in the library's types.
+    /// Image and record in the library's types.
     pub fn lent(&self) -> (Vec<u8>, Record) {
-        let Store { image, record } = self.store();
+        self.lent_with(PAYLOAD)
+    }
+
+    /// The same, but that the payload of the first place is of this length.
+    pub fn lent_with(&self, length: usize) -> (Vec<u8>, Record) {
+        let Store { image, record } = self.store_with(length);
         (image, to_library(record))
     }
 }

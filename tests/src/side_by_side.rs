@@ -1,7 +1,10 @@
 //! The same call by the library `recorder` and by the second implementation, from the same image and
 //! record, and where they then differ.
+//!
+//! The library has no call for the write of another recorder ([`Call::Append`]): that is done by the second
+//! implementation alone, and both go on from what it leaves.
 
-use crate::model::calls::{self, CUT, DONE};
+use crate::model::calls::{self, Node, CUT, DONE};
 use crate::model::image::{Power, BLOCK};
 use crate::model::list::{self, Data, Lent};
 use crate::model::pages::{PAGE, PAYLOAD};
@@ -30,6 +33,17 @@ pub enum Call {
         offset: u32,
         /// The payload.
         payload: Data,
+    },
+    /// A write by another recorder.
+    Append {
+        /// The file.
+        file: u32,
+        /// The offset.
+        offset: u32,
+        /// The second number.
+        second: u32,
+        /// All bytes of the page's payload.
+        bytes: Data,
     },
     /// Read.
     Read {
@@ -80,6 +94,9 @@ impl From<list::Call> for Call {
             list::Call::Write { file, offset, payload } => {
                 Call::Write { file: narrow(file), offset: narrow(offset), payload }
             }
+            list::Call::Append { file, offset, second, bytes } => {
+                Call::Append { file: narrow(file), offset: narrow(offset), second, bytes }
+            }
             list::Call::Read { file, offset, output } => {
                 Call::Read { file: narrow(file), offset: narrow(offset), output }
             }
@@ -103,6 +120,7 @@ impl Call {
         match self {
             Call::Format { .. } => "format",
             Call::Write { .. } => "write",
+            Call::Append { .. } => "append",
             Call::Read { .. } => "read",
             Call::Mount { .. } => "mount",
             Call::CutOff { .. } => "cut-off",
@@ -111,13 +129,19 @@ impl Call {
         }
     }
 
+    /// Whether the library has this call.
+    pub(crate) fn is_ours(self) -> bool {
+        !matches!(self, Call::Append { .. })
+    }
+
     /// The payload or noise that goes with it.
     pub(crate) fn data(self) -> Vec<u8> {
         match self {
             Call::Format { noise: data }
             | Call::Commit { noise: data }
             | Call::Wipe { noise: data, .. }
-            | Call::Write { payload: data, .. } => data.bytes(),
+            | Call::Write { payload: data, .. }
+            | Call::Append { bytes: data, .. } => data.bytes(),
             Call::Read { .. } | Call::Mount { .. } | Call::CutOff { .. } => Vec::new(),
         }
     }
@@ -144,6 +168,8 @@ impl Call {
 pub struct After {
     /// The reply.
     pub reply: u32,
+    /// The length that a read reports, else 0.
+    pub length: usize,
     /// Image and record.
     pub store: Store,
     /// The output of a read.
@@ -181,6 +207,7 @@ fn by_second(mut store: Store, call: Call, data: &[u8], power: Power) -> After {
     let (mut output, mut scratch) = (call.output(), call.scratch());
     let Store { image, record } = &mut store;
     let wide = |number: u32| number as usize;
+    let mut length = 0;
     let reply = match call {
         Call::Format { .. } => {
             let model::Record { map, letters, .. } = record;
@@ -197,8 +224,15 @@ fn by_second(mut store: Store, call: Call, data: &[u8], power: Power) -> After {
         Call::Write { file, offset, .. } => {
             calls::write(image, record, wide(file), wide(offset), data, power)
         }
+        Call::Append { file, offset, second, .. } => {
+            let node = Node::given(second, data);
+            calls::append(image, record, wide(file), wide(offset), node, power)
+        }
         Call::Read { file, offset, .. } => {
-            calls::read(image, record, wide(file), wide(offset), &mut output)
+            let (reply, reported) =
+                calls::read(image, record, wide(file), wide(offset), &mut output);
+            length = reported;
+            reply
         }
         Call::CutOff { file, offset } => {
             calls::cut_off(image, record, wide(file), wide(offset), power)
@@ -208,7 +242,7 @@ fn by_second(mut store: Store, call: Call, data: &[u8], power: Power) -> After {
             calls::wipe(image, record, wide(file), wide(offset), data, power)
         }
     };
-    After { reply, store, output, scratch }
+    After { reply, length, store, output, scratch }
 }
 
 /// Does a call with this data by the library: its plain form where the power stays on, else its form
@@ -217,44 +251,41 @@ pub(crate) fn by_library(store: Store, call: Call, data: &[u8], power: Power) ->
     let Store { mut image, record } = store;
     let mut record = to_library(record);
     let (mut output, mut scratch) = (call.output(), call.scratch());
-    let reply = match power {
-        Power::STAYS => {
-            whole_by_library(&mut image, &mut record, call, data, &mut output, &mut scratch)
+    let (reply, length) = match (call, power) {
+        (Call::Read { file, offset, .. }, _) => {
+            recorder::read(&image, &record, file, offset, &mut output)
         }
-        Power { steps, bytes } => {
+        (_, Power::STAYS) => {
+            (whole_by_library(&mut image, &mut record, call, data, &mut scratch), 0)
+        }
+        (_, Power { steps, bytes }) => {
             let cut = Cut { n: steps as u64, k: bytes };
-            match call {
-                Call::Read { .. } => {
-                    whole_by_library(&mut image, &mut record, call, data, &mut output, &mut [])
-                }
-                _ => cut_by_library(&mut image, &mut record, call, data, &mut scratch, cut),
-            }
+            (cut_by_library(&mut image, &mut record, call, data, &mut scratch, cut), 0)
         }
     };
-    After { reply, store: Store { image, record: from_library(record) }, output, scratch }
+    After { reply, length, store: Store { image, record: from_library(record) }, output, scratch }
 }
 
-/// A call in its plain form.
+/// A call with steps, in its plain form.
 fn whole_by_library(
     image: &mut [u8],
     record: &mut recorder::Record,
     call: Call,
     data: &[u8],
-    output: &mut [u8],
     scratch: &mut [u32],
 ) -> u32 {
     match call {
         Call::Format { .. } => recorder::format(image, record, data),
         Call::Mount { .. } => recorder::mount(image, record, scratch),
         Call::Write { file, offset, .. } => recorder::write(image, record, file, offset, data),
-        Call::Read { file, offset, .. } => recorder::read(image, record, file, offset, output),
+        Call::Append { .. } | Call::Read { .. } => panic!("no call of the library with steps"),
         Call::CutOff { file, offset } => recorder::cut_off(image, record, file, offset),
         Call::Commit { .. } => recorder::commit(image, record, data),
         Call::Wipe { file, offset, .. } => recorder::wipe(image, record, data, file, offset),
     }
 }
 
-/// A call in its form with n and k, which a read does not have.
+/// A call with steps, in its form with n and k.
 fn cut_by_library(
     image: &mut [u8],
     record: &mut recorder::Record,
@@ -269,7 +300,7 @@ fn cut_by_library(
         Call::Write { file, offset, .. } => {
             recorder::write_cut(image, record, file, offset, data, cut)
         }
-        Call::Read { .. } => panic!("a read has no steps"),
+        Call::Append { .. } | Call::Read { .. } => panic!("no call of the library with steps"),
         Call::CutOff { file, offset } => recorder::cut_off_cut(image, record, file, offset, cut),
         Call::Commit { .. } => recorder::commit_cut(image, record, data, cut),
         Call::Wipe { file, offset, .. } => {
@@ -281,8 +312,11 @@ fn cut_by_library(
 /// Does a call by both. Gives what they left, or where they differ.
 pub fn compare(store: &Store, call: Call, power: Power) -> Result<After, String> {
     let data = call.data();
-    let ours = by_library(store.clone(), call, &data, power);
     let second = by_second(store.clone(), call, &data, power);
+    if !call.is_ours() {
+        return Ok(second);
+    }
+    let ours = by_library(store.clone(), call, &data, power);
     match ours == second {
         true => Ok(second),
         false => Err(difference(&ours, &second)),
@@ -325,6 +359,9 @@ pub(crate) fn difference(ours: &After, second: &After) -> String {
     if ours.reply != second.reply {
         let [ours, second] = [ours.reply, second.reply].map(in_words);
         text += &format!("reply: library {ours}, the other {second}\n");
+    }
+    if ours.length != second.length {
+        text += &format!("length: library {}, the other {}\n", ours.length, second.length);
     }
     let (a, b) = (&ours.store.image, &second.store.image);
     if let Some(at) = first_difference("image", a, b, &mut text) {
@@ -407,7 +444,7 @@ impl Both {
     pub fn content(&self, file: u32, offset: u32) -> Result<Vec<u8>, u32> {
         let read = Call::Read { file, offset, output: PAYLOAD };
         match compare(&self.0, read, Power::STAYS) {
-            Ok(after) if after.reply == DONE => Ok(after.output),
+            Ok(after) if after.reply == DONE => Ok(after.output[..after.length].to_vec()),
             Ok(after) => Err(after.reply),
             Err(why) => panic!("{read:?}:\n{why}"),
         }

@@ -313,7 +313,7 @@ impl Run {
 
     /// Does a call by both. Gives the reply.
     fn call(&mut self, call: Call, power: Power) -> Result<u32, String> {
-        if let Some(met) = &mut self.met {
+        if let Some(met) = self.met.as_mut().filter(|_| call.is_ours()) {
             met.push((self.store.clone(), call));
         }
         let after = compare(&self.store, call, power)?;
@@ -328,12 +328,34 @@ impl Run {
             Call::Mount { .. } | Call::Format { .. } => self.on = true,
             _ => {}
         }
+        if reply == DONE {
+            self.read_after(call)?;
+        }
         Ok(reply)
     }
 
-    /// Keeps what a call finds, where that is asked for.
+    /// Reads by both what a write has written, and after a mount one of the nodes that are there.
+    fn read_after(&mut self, call: Call) -> Result<(), String> {
+        let (file, offset) = match call {
+            Call::Write { file, offset, .. } | Call::Append { file, offset, .. } => (file, offset),
+            Call::Mount { .. } => {
+                let first = self.tally.calls() % PLACES;
+                let mut places = (first..PLACES).chain(0..first);
+                let live = places.find(|&place| self.store.record.entry(place).is_some());
+                let (file, offset) = files::node(live.unwrap_or(first));
+                (file as u32, offset as u32)
+            }
+            _ => return Ok(()),
+        };
+        let read = Call::Read { file, offset, output: PAYLOAD };
+        let after = compare(&self.store, read, Power::STAYS)?;
+        self.tally.count(read.name(), after.reply);
+        Ok(())
+    }
+
+    /// Keeps what a call of the library finds, where that is asked for.
     fn keep(&mut self, store: &Store, call: Call) {
-        if let Some(met) = &mut self.met {
+        if let Some(met) = self.met.as_mut().filter(|_| call.is_ours()) {
             met.push((store.clone(), call));
         }
     }
@@ -390,8 +412,9 @@ impl Events {
         let list::Event { call, lent, power } = self.calls.next(!mounts);
         self.cut = power != Power::STAYS;
         let call = match (call, self.rng.below(8)) {
-            (list::Call::Write { file, offset, payload }, 0) => {
-                list::Call::Read { file, offset, output: payload.length }
+            (list::Call::Write { file, offset, .. }, 0) => {
+                let output = [PAYLOAD, self.rng.below(300)][usize::from(self.rng.below(20) == 0)];
+                list::Call::Read { file, offset, output }
             }
             (list::Call::Write { .. }, 1) => list::Call::MOUNT,
             _ => call,
@@ -500,7 +523,10 @@ impl Events {
         let (file, offset) = files::node(self.place());
         let number = [self.rng.below(12) as u32 + 1, LAST][usize::from(self.rng.below(30) == 0)];
         match self.rng.below(8) {
-            0..5 => Header::Node { sequence: number, file, offset, key: self.position() },
+            0..5 => {
+                let (key, second) = (self.position(), self.rng.below(PAYLOAD + 1) as u32);
+                Header::Node { sequence: number, file, offset, key, second }
+            }
             5 | 6 => Header::CutOff { sequence: number, file, offset },
             _ => Header::Keys { epoch: number, block: self.rng.below(2), page: self.rng.below(16) },
         }

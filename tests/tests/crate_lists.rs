@@ -3,13 +3,13 @@
 
 use johvimaru::{
     Chip, Cut, CutChip, CutError, Driver, Failure, Letter, MemoryChip, Misuse, Noise, Offset,
-    Outcome, Payload, Record, Refusal, Store, MAX_BLOCKS, MIN_BLOCKS,
+    Outcome, Record, Refusal, Store, MAX_BLOCKS, MIN_BLOCKS,
 };
 use johvimaru_tests::model;
 use johvimaru_tests::model::calls::{CUT, DONE};
 use johvimaru_tests::model::image::{Power, BLOCK, SIZES};
 use johvimaru_tests::model::list::{Call, Data, Event, Lent};
-use johvimaru_tests::model::pages::PAGE;
+use johvimaru_tests::model::pages::{PAGE, PAYLOAD};
 use johvimaru_tests::random_lists::RandomList;
 use johvimaru_tests::rng::Rng;
 
@@ -22,7 +22,7 @@ enum Ours {
 /// A call whose arguments the crate's types have taken.
 enum Typed {
     Mount,
-    Write(Offset, Box<Payload>),
+    Write(Offset, Vec<u8>),
     Read(Offset),
     CutOff(Offset),
     Commit(Data),
@@ -34,19 +34,13 @@ impl Typed {
     fn of(call: Call) -> Result<Typed, Refusal> {
         let noise = |data: Data| Noise::new(&data.bytes()).map(|_| data);
         let at = |file, offset| Offset::new(file as u32, offset as u32);
-        let length = |length| if length == 224 { Ok(()) } else { Err(Refusal::PayloadLength) };
         Ok(match call {
             Call::Mount { .. } => Typed::Mount,
             Call::Write { file, offset, payload } => {
-                let at = at(file, offset)?;
-                length(payload.length)?;
-                Typed::Write(at, Box::new(payload.bytes().try_into().expect("224 bytes")))
+                Typed::Write(at(file, offset)?, payload.bytes())
             }
-            Call::Read { file, offset, output } => {
-                let at = at(file, offset)?;
-                length(output)?;
-                Typed::Read(at)
-            }
+            Call::Append { .. } => panic!("the crate has no such call"),
+            Call::Read { file, offset, .. } => Typed::Read(at(file, offset)?),
             Call::CutOff { file, offset } => Typed::CutOff(at(file, offset)?),
             Call::Commit { noise: data } => Typed::Commit(noise(data)?),
             Call::Wipe { file, offset, noise: data } => {
@@ -188,9 +182,40 @@ impl Three {
             }
         };
         assert_eq!(reply, expected, "{at}: reply");
+        if let Call::Read { file, offset, .. } = call {
+            self.compare_read(file, offset, at);
+        }
         self.on = reply != CUT && (self.on || matches!(call, Call::Mount { .. }) && reply == DONE);
         self.compare(at);
         reply
+    }
+
+    /// The write of another recorder, by the second implementation: the others mount what it leaves.
+    fn append(&mut self, call: Call, power: Power, at: &str) -> u32 {
+        let reply = self.second.call_with(call, power);
+        if matches!(reply, DONE | CUT) {
+            let image = &self.second.image;
+            self.driver = Driver::new(CutChip::new(MemoryChip::new(image.clone())));
+            self.ours = Ours::Off(image.clone());
+            self.call(Call::MOUNT, Power::STAYS, at);
+        }
+        reply
+    }
+
+    /// Compares what all three read at a node, and how long it is.
+    fn compare_read(&self, file: usize, offset: usize, at: &str) {
+        let (Ours::On(store), Ok(node)) = (&self.ours, Offset::new(file as u32, offset as u32))
+        else {
+            return;
+        };
+        let second = self.second.payload(file, offset).ok();
+        let payload = second.as_deref().unwrap_or_default();
+        assert_eq!(store.read(node).ok().as_deref(), second.as_deref(), "{at}: read");
+        assert_eq!(self.driver.read(node).ok().as_deref(), second.as_deref(), "{at}: driver");
+        let mut output = [b'?'; PAYLOAD];
+        assert_eq!(store.read_into(node, &mut output).ok(), second.as_deref(), "{at}: read into");
+        let rest = vec![b'?'; PAYLOAD - payload.len()];
+        assert!(output[..] == [payload, &rest].concat(), "{at}: output");
     }
 
     fn compare(&self, at: &str) {
@@ -208,6 +233,14 @@ impl Three {
     }
 }
 
+/// Whether the crate can be given this call: it brings its own scratch and output.
+fn is_typed(call: Call) -> bool {
+    match call {
+        Call::Mount { scratch: length } | Call::Read { output: length, .. } => length == 224,
+        _ => true,
+    }
+}
+
 /// Runs a list, and gives how many of its calls were cut.
 fn run(blocks: usize, seed: u64) -> usize {
     let mut list = RandomList::new(seed, blocks);
@@ -216,13 +249,17 @@ fn run(blocks: usize, seed: u64) -> usize {
     for number in 0..list.length {
         let at = format!("{blocks} blocks, seed {seed}, call {number}");
         let Event { call, lent, power } = list.next(three.on);
-        if lent != Lent::RIGHT || matches!(call, Call::Mount { scratch } if scratch != 224) {
+        if lent != Lent::RIGHT || !is_typed(call) {
             continue;
         }
         if !three.on && !matches!(call, Call::Mount { .. }) {
             three.call(Call::MOUNT, Power::STAYS, &at);
         }
-        cuts += usize::from(three.call(call, power, &at) == CUT);
+        let reply = match call {
+            Call::Append { .. } => three.append(call, power, &at),
+            _ => three.call(call, power, &at),
+        };
+        cuts += usize::from(reply == CUT);
     }
     cuts
 }
@@ -238,8 +275,9 @@ fn random_lists_by_store_and_driver() {
 fn forms_of_pages() {
     let mut store = model::store::Store::formatted(8, Data::noise(1));
     for (file, offset) in [(0, 0), (2, 5), (13, 7)] {
-        store.call(Call::Write { file, offset, payload: Data::payload(5) });
+        store.call(Call::Write { file, offset, payload: Data::of(40 + 92 * offset / 5, 5) });
     }
+    store.call(Call::Append { file: 1, offset: 0, second: 0, bytes: Data::payload(6) });
     store.call(Call::CutOff { file: 2, offset: 5 });
     let mut rng = Rng::new(11);
     let likely = b" 0123459NDKC:-fud\r\n\xff+x";
@@ -251,18 +289,29 @@ fn forms_of_pages() {
             page[at] = likely[rng.below(likely.len())];
         }
         let ours = format!("{:?}", plain_form(johvimaru::Form::of(&page)));
-        let second = format!("{:?}", model::pages::Form::of(&page));
+        let second = format!("{:?}", with_length(model::pages::Form::of(&page)));
         assert_eq!(ours, second, "case {case}");
     }
+}
+
+/// A form of the second implementation with a node's length for its second number, as the crate has it.
+fn with_length(mut form: model::pages::Form) -> model::pages::Form {
+    use model::pages::{length_of, Form, Header};
+    if let Form::Whole(Header::Node { second, .. }) | Form::Torn(Header::Node { second, .. }) =
+        &mut form
+    {
+        *second = length_of(*second) as u32;
+    }
+    form
 }
 
 /// A form of the crate in the second implementation's types.
 fn plain_form(form: johvimaru::Form) -> model::pages::Form {
     use johvimaru::{Form, Header};
     let header = |header| match header {
-        Header::Node { sequence, at, key, .. } => {
+        Header::Node { sequence, at, key, length, .. } => {
             let (file, offset) = (at.file().number() as usize, at.number() as usize);
-            model::pages::Header::Node { sequence, file, offset, key }
+            model::pages::Header::Node { sequence, file, offset, key, second: length as u32 }
         }
         Header::CutOff { sequence, from } => {
             let (file, offset) = (from.file().number() as usize, from.number() as usize);

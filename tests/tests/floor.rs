@@ -1,4 +1,5 @@
-//! The floor in C beside the library: headers, entries and letters with any one byte changed.
+//! The floor in C beside the library: payloads of every length, and headers, entries and letters with
+//! any one byte changed.
 
 use johvimaru_tests::floor::Floor;
 use johvimaru_tests::model::image::{BLOCK, PAGES_IN_BLOCK};
@@ -9,19 +10,52 @@ use johvimaru_tests::side_by_side::{Both, Call, Tally};
 
 const READ: Call = Call::Read { file: 0, offset: 0, output: PAYLOAD };
 
-fn write(file: u32, offset: u32) -> Call {
-    Call::Write { file, offset, payload: Data::payload(1) }
+/// The floor, or none on a machine without a cipher for it.
+fn floor() -> Option<Floor> {
+    let floor = Floor::open();
+    if floor.is_none() {
+        println!("the floor has no cipher: to have it, install the Debian package libnettle8");
+    }
+    floor
 }
 
-/// A store with nodes and a cut-off, before a commit and after it.
+fn write(file: u32, offset: u32) -> Call {
+    Call::Write { file, offset, payload: Data::of(40 + 20 * file as usize % 180, 1) }
+}
+
+fn older_write(file: u32, offset: u32) -> Call {
+    Call::Append { file, offset, second: 0, bytes: Data::payload(2) }
+}
+
+/// A store with nodes of several lengths and a cut-off, before a commit and after it.
 fn store() -> Store {
     let mut both = Both::formatted(9);
     for place in 0..12 {
         both.done(&[write(place, place % 8), write(13, 7)]);
     }
-    both.done(&[Call::Commit { noise: Data::noise(7) }]);
+    both.done(&[older_write(1, 0), Call::Commit { noise: Data::noise(7) }]);
     both.done(&[write(0, 0), write(2, 23), Call::CutOff { file: 1, offset: 1 }, write(3, 3)]);
     both.0
+}
+
+#[test]
+fn every_length() {
+    let Some(floor) = floor() else { return };
+    let store = store();
+    let mut tally = Tally::default();
+    for length in 0..=226 {
+        let call = Call::Write { file: 0, offset: 0, payload: Data::of(length, 3) };
+        let mut written = Both(store.clone());
+        written.call(call);
+        for (store, call) in [(&store, call), (&written.0, READ), (&written.0, Call::MOUNT)] {
+            match floor.compare(store, call) {
+                Ok(reply) => tally.count(call.name(), reply),
+                Err(why) => panic!("{length} bytes: {why}"),
+            }
+        }
+    }
+    tally.require("write", &[0, 6]);
+    tally.require("read", &[0]);
 }
 
 /// The first page with such a header.
@@ -37,8 +71,9 @@ fn places(store: &Store) -> Vec<usize> {
     let node = page_of(store, b'N', usize::from(store.record.map[0]));
     let old = page_of(store, b'N', 0);
     let cut_off = page_of(store, b'D', 0);
+    let older = usize::from(store.record.map[32]);
     let mut places = Vec::new();
-    for page in [keys, keys + 10, commit, commit + 9, node, old, cut_off] {
+    for page in [keys, keys + 10, commit, commit + 9, node, old, older, cut_off] {
         places.extend((0..HEADER).chain(PAGE - 2..PAGE).map(|at| PAGE * page + at));
     }
     places.extend((0..3 * ENTRY).map(|at| PAGE * (commit + 2) + HEADER + at));
@@ -49,10 +84,7 @@ fn places(store: &Store) -> Vec<usize> {
 
 #[test]
 fn any_byte_changed() {
-    let Some(floor) = Floor::open() else {
-        println!("the floor has no cipher: to have it, install the Debian package libnettle8");
-        return;
-    };
+    let Some(floor) = floor() else { return };
     let store = store();
     let mut tally = Tally::default();
     for at in places(&store) {

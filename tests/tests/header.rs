@@ -57,8 +57,10 @@ fn the_example_in_both_languages() {
 #[test]
 fn the_steps_on_a_chip() {
     let text = "format: reply 0, steps 50\nwrite: reply 0, steps 1\nwrite: reply 0, steps 1\n\
-                read: reply 0, the payload\ncommit: reply 0, steps 45\ncut-off: reply 0, steps 1\n\
-                write: reply 0, steps 1\nwipe: reply 0, steps 57\n";
+                read: reply 0, 40 bytes, the payload, then 184 stars\n\
+                read: reply 8, 0 bytes, none, then 224 stars\n\
+                commit: reply 0, steps 45\ncut-off: reply 0, steps 1\nwrite: reply 0, steps 1\n\
+                wipe: reply 0, steps 57\n";
     for (compiler, words) in LANGUAGES {
         assert_eq!(run("chip", compiler, &words), text, "{compiler}");
     }
@@ -80,7 +82,9 @@ fn the_secrets_that_calls_leave() {
                 mount, stack:, vectors:\n\
                 cut-off, stack:, vectors:\n\
                 write, stack: key, vectors:\n\
-                wipe, stack:, vectors: key\n";
+                wipe, stack:, vectors: key\n\
+                write of 40 bytes, stack: key, vectors:\n\
+                read of 40 bytes, stack: key, vectors: payload\n";
     assert_eq!(run("secrets", "cc", &["-std=c11", "-Wl,-z,now", "-x", "c"]), text);
 }
 

@@ -25,8 +25,13 @@ fn write(file: usize, offset: usize, seed: u64) -> Call {
     Call::Write { file, offset, payload: Data::payload(seed) }
 }
 
-/// The image of document 01's case.
-fn case() -> Vec<u8> {
+/// The write of a recorder from before lengths were kept.
+fn older_write(file: usize, offset: usize, seed: u64) -> Call {
+    Call::Append { file, offset, second: 0, bytes: Data::payload(seed) }
+}
+
+/// The image of document 01's case, by these writes.
+fn case(write: fn(usize, usize, u64) -> Call) -> Vec<u8> {
     let mut store = formatted(8);
     for call in [write(0, 0, 1), write(2, 5, 2), write(0, 0, 3)] {
         assert_eq!(store.call(call), DONE, "{call:?}");
@@ -51,11 +56,20 @@ fn assert_same(input: &[u8], name: &str) {
     assert_eq!(printed(input), listing::text(input), "{name}");
 }
 
+/// The crate's input is the image that an older recorder left; this one's is listed alike.
 #[test]
 fn the_case_of_the_crate() {
     let read = |name| fs::read(repository().join("crates/listing").join(name)).expect(name);
-    assert!(read("stdin") == case(), "crates/listing/stdin is not the image of the case");
-    assert_eq!(read("stdout"), listing::text(&case()).as_bytes());
+    let older = case(older_write);
+    assert!(read("stdin") == older, "crates/listing/stdin is not the image of the case");
+    assert_eq!(read("stdout"), listing::text(&older).as_bytes());
+    let short = |file, offset, seed| {
+        let payload = Data::of(40, seed);
+        Call::Write { file, offset, payload }
+    };
+    for image in [older, case(write), case(short)] {
+        assert_eq!(printed(&image).as_bytes(), read("stdout"));
+    }
 }
 
 #[test]
@@ -83,7 +97,11 @@ fn images_of_random_calls() {
                 0 => Call::CutOff { file, offset },
                 1 => Call::Commit { noise: Data::noise(rng.number()) },
                 2 => Call::Wipe { file, offset, noise: Data::noise(rng.number()) },
-                _ => write(file, offset, rng.number()),
+                3 => older_write(file, offset, rng.number()),
+                _ => {
+                    let payload = Data::of(1 + rng.below(224), rng.number());
+                    Call::Write { file, offset, payload }
+                }
             };
             store.call(call);
         }

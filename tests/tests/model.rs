@@ -197,10 +197,33 @@ fn the_pages_of_a_write_and_a_cut_off() {
     done(&mut store, &[write(2, 5, 1), cut_off(2, 3)]);
     let mut enciphered = Data::payload(1).bytes();
     aes::stream(&FORMAT_NOISE.bytes()[..16].try_into().unwrap(), &mut enciphered);
-    let node = [b"N       1  2   5   0       0: ", enciphered.as_slice(), b"\r\n"].concat();
+    let node = [b"N       1  2   5   0     224: ", enciphered.as_slice(), b"\r\n"].concat();
     assert_eq!(store.image[PAGE * 48..][..PAGE], node);
     let cut_off = format!("D       2  2   3   0       0: {}\r\n", " ".repeat(224));
     assert_eq!(store.image[PAGE * 49..][..PAGE], *cut_off.as_bytes());
+}
+
+/// A short payload is enciphered with the spaces after it; an older recorder's page has the number 0.
+#[test]
+fn the_pages_of_short_and_older_nodes() {
+    let mut store = formatted(8);
+    let payload = Data::of(40, 1);
+    let short = Call::Write { file: 2, offset: 5, payload };
+    let older = Call::Append { file: 2, offset: 6, second: 0, bytes: Data::payload(2) };
+    done(&mut store, &[short, older]);
+    let padded = [payload.bytes(), vec![b' '; 184]].concat();
+    let nodes = [
+        (b"N       1  2   5   0      40: ", padded),
+        (b"N       2  2   6   1       0: ", Data::payload(2).bytes()),
+    ];
+    for (number, (header, mut bytes)) in nodes.into_iter().enumerate() {
+        let key = &FORMAT_NOISE.bytes()[16 * number..][..16];
+        aes::stream(key.try_into().expect("16 bytes"), &mut bytes);
+        let page = [header.as_slice(), &bytes, b"\r\n"].concat();
+        assert_eq!(store.image[PAGE * (48 + number)..][..PAGE], page, "node {number}");
+    }
+    assert_eq!(store.payload(2, 5), Ok(payload.bytes()));
+    assert_eq!(store.payload(2, 6), Ok(Data::payload(2).bytes()));
 }
 
 /// Commit after a commit: entries, letters, covered sequence, and the keys that it keeps.

@@ -33,6 +33,7 @@ fn check_random_lists(blocks: usize, seeds: Range<u64>) {
     for (call, replies) in [
         ("mount", [DONE, 1, 2, CUT].as_slice()),
         ("write", &[DONE, 1, 2, 4, 5, 6, 10, CUT]),
+        ("append", &[DONE, 1, 2, 4, 5, 6, 10, CUT]),
         ("read", &[DONE, 4, 5, 6, 8]),
         ("cut-off", &[DONE, 1, 2, 4, 5, 8, 10, CUT]),
         ("commit", &[DONE, 1, 2, 3, CUT]),

@@ -27,7 +27,8 @@ fn put(image: &mut [u8], page: usize, bytes: &[Page]) {
 }
 
 fn node(sequence: u32, file: usize, offset: usize, key: usize) -> Page {
-    Header::Node { sequence, file, offset, key }.page(&[0; 224])
+    let second = sequence % 225;
+    Header::Node { sequence, file, offset, key, second }.page(&[0; 224])
 }
 
 fn cut_off(sequence: u32, file: usize, offset: usize) -> Page {
@@ -288,7 +289,7 @@ fn plain_mount(image: &[u8]) -> Result<(Record, Vec<u32>), u32> {
     for place in 0..PLACES {
         let (file, offset) = files::node(place);
         let event = |page: usize| match forms[page] {
-            Form::Whole(Header::Node { sequence, file: f, offset: o, key }) => {
+            Form::Whole(Header::Node { sequence, file: f, offset: o, key, .. }) => {
                 ((f, o) == (file, offset)).then_some((sequence, page, Some(key)))
             }
             Form::Whole(Header::CutOff { sequence, file: f, offset: o }) => {

@@ -5,8 +5,8 @@ use johvimaru_tests::model::blocks::{self, Commit, Kind};
 use johvimaru_tests::model::files::{self, COUNTS, FILES, PLACES};
 use johvimaru_tests::model::keys::{Slot, POSITIONS};
 use johvimaru_tests::model::pages::{
-    parse_entry, parse_field, payload, spell_entry, spell_field, Entry, Form, Header, Misspelt,
-    Page, EMPTY, ENTRY, HEADER, PAGE, PAYLOAD,
+    length_of, parse_entry, parse_field, payload, spell_entry, spell_field, Entry, Form, Header,
+    Misspelt, Page, EMPTY, ENTRY, HEADER, PAGE, PAYLOAD,
 };
 use johvimaru_tests::rng::Rng;
 
@@ -16,8 +16,25 @@ use johvimaru_tests::rng::Rng;
 fn p1_a_node() {
     assert_eq!(
         Header::parse(b"N       7  2   5  31       0: "),
-        Some(Header::Node { sequence: 7, file: 2, offset: 5, key: 31 }),
+        Some(Header::Node { sequence: 7, file: 2, offset: 5, key: 31, second: 0 }),
     );
+}
+
+/// The second number of a node is its payload's length; 0 is an older recorder's, for 224.
+#[test]
+fn lengths_of_nodes() {
+    for second in 0..=300 {
+        let node = Header::Node { sequence: 7, file: 2, offset: 5, key: 31, second };
+        let parsed = Header::parse(format!("N       7  2   5  31{second:8}: ").as_bytes());
+        assert_eq!(parsed, (second <= 224).then_some(node), "second number {second}");
+    }
+    assert_eq!([0, 1, 40, 223, 224].map(length_of), [224, 1, 40, 223, 224]);
+    for second in
+        ["      01", "     024", "      4 ", " 22     ", "       -", "        ", "99999999"]
+    {
+        let header = format!("N       7  2   5  31{second}: ");
+        assert_eq!(Header::parse(header.as_bytes()), None, "{header}");
+    }
 }
 
 #[test]
@@ -92,8 +109,8 @@ fn text(header: Header) -> String {
         format!("{kind}{number:8}{unit:3}{part:4}{key:4}{second:8}: ")
     };
     match header {
-        Header::Node { sequence, file, offset, key } => {
-            columns('N', sequence, file, offset, key, 0)
+        Header::Node { sequence, file, offset, key, second } => {
+            columns('N', sequence, file, offset, key, second)
         }
         Header::CutOff { sequence, file, offset } => columns('D', sequence, file, offset, 0, 0),
         Header::Keys { epoch, block, page } => columns('K', epoch, block, page, 0, 0),
@@ -109,8 +126,8 @@ fn edge_headers() -> Vec<Header> {
         for file in [0, 2, 9, 10, FILES - 1] {
             for offset in [0, COUNTS[file] / 2, COUNTS[file] - 1] {
                 headers.push(Header::CutOff { sequence: number, file, offset });
-                for key in [0, 31, 99, POSITIONS - 1] {
-                    headers.push(Header::Node { sequence: number, file, offset, key });
+                for (key, second) in [(0, 0), (31, 9), (99, 40), (POSITIONS - 1, 224)] {
+                    headers.push(Header::Node { sequence: number, file, offset, key, second });
                 }
             }
         }
@@ -133,7 +150,10 @@ fn random_header(rng: &mut Rng) -> Header {
     let file = rng.below(FILES);
     let offset = rng.below(COUNTS[file]);
     match rng.below(4) {
-        0 => Header::Node { sequence: number, file, offset, key: rng.below(POSITIONS) },
+        0 => {
+            let (key, second) = (rng.below(POSITIONS), rng.below(PAYLOAD + 1) as u32);
+            Header::Node { sequence: number, file, offset, key, second }
+        }
         1 => Header::CutOff { sequence: number, file, offset },
         2 => Header::Keys { epoch: number, block: rng.below(2), page: rng.below(16) },
         _ => {
@@ -203,7 +223,7 @@ fn fields_out_of_range() {
         b"N       7  2  24  31       0: ",
         b"N       7 13   8  31       0: ",
         b"N       7  2   5 448       0: ",
-        b"N       7  2   5  31       1: ",
+        b"N       7  2   5  31     225: ",
         b"D       0  2   5   0       0: ",
         b"D       7 14   0   0       0: ",
         b"D       7 13   8   0       0: ",
@@ -426,7 +446,7 @@ fn key_blocks_that_are_not_whole() {
 
 #[test]
 fn data_blocks() {
-    let node = Header::Node { sequence: 1, file: 0, offset: 0, key: 0 };
+    let node = Header::Node { sequence: 1, file: 0, offset: 0, key: 0, second: 40 };
     let cut_off = Header::CutOff { sequence: 1, file: 0, offset: 0 };
     for header in [node, cut_off] {
         for closing in [0x0a, 0xff] {

@@ -116,6 +116,7 @@ const NOISE: Fault = (3, |arguments| {
 const FILE: Fault = (4, |arguments| arguments.file = 14);
 const OFFSET: Fault = (5, |arguments| arguments.offset = 32);
 const PAYLOAD: Fault = (6, |arguments| arguments.payload.push(0));
+const NO_PAYLOAD: Fault = (6, |arguments| arguments.payload.clear());
 const OUTPUT: Fault = (6, |arguments| {
     arguments.output.pop();
 });
@@ -166,7 +167,7 @@ fn mount() {
     });
     const WRONG_NODE: Fault = (14, |arguments| {
         let page = usize::from(store().record.map[0]);
-        let header = Header::Node { sequence: 1, file: 0, offset: 5, key: 0 };
+        let header = Header::Node { sequence: 1, file: 0, offset: 5, key: 0, second: 224 };
         arguments.store.image[PAGE * page..][..30].copy_from_slice(&header.spell());
     });
     let faults = [
@@ -188,25 +189,30 @@ fn write() {
         let Store { image, record } = &mut a.store;
         calls::write(image, record, a.file, a.offset, &a.payload, Power::STAYS)
     };
-    let faults = [
-        IMAGE,
-        MAP_LENGTH,
-        LETTERS_LENGTH,
-        FILE,
-        OFFSET,
-        PAYLOAD,
-        FIT,
-        NO_SEQUENCE,
-        NO_KEY,
-        NO_PAGE,
-    ];
-    check_faults(call, &faults, false);
+    for payload in [PAYLOAD, NO_PAYLOAD] {
+        let faults = [
+            IMAGE,
+            MAP_LENGTH,
+            LETTERS_LENGTH,
+            FILE,
+            OFFSET,
+            payload,
+            FIT,
+            NO_SEQUENCE,
+            NO_KEY,
+            NO_PAGE,
+        ];
+        check_faults(call, &faults, false);
+    }
 }
 
 #[test]
 fn read() {
     let call = |a: &mut Arguments| {
-        calls::read(&a.store.image, &a.store.record, a.file, a.offset, &mut a.output)
+        let Store { image, record } = &a.store;
+        let (reply, length) = calls::read(image, record, a.file, a.offset, &mut a.output);
+        assert_eq!(length, if reply == DONE { 224 } else { 0 }, "reply {reply}");
+        reply
     };
     let faults = [IMAGE, MAP_LENGTH, LETTERS_LENGTH, FILE, OFFSET, OUTPUT, FIT, NO_NODE];
     check_faults(call, &faults, false);
@@ -375,7 +381,8 @@ fn keys_named_twice() {
     let mut store = store();
     let entry = store.record.entry(0).expect("a node is there");
     let page = &mut store.image[PAGE * 60..][..PAGE];
-    let header = Header::Node { sequence: 9, file: 1, offset: 0, key: usize::from(entry.key) };
+    let key = usize::from(entry.key);
+    let header = Header::Node { sequence: 9, file: 1, offset: 0, key, second: 224 };
     page.copy_from_slice(&header.page(&[0; 224]));
     let mut twice = store.clone();
     twice.record.set(32, Some(Entry { page: 60, ..entry }));

@@ -37,8 +37,8 @@ fn text(bytes: &[u8]) -> String {
 /// The fields of a header of the second implementation.
 fn fields(header: Header) -> Fields {
     match header {
-        Header::Node { sequence, file, offset, key } => {
-            [b'N'.into(), sequence, file as u32, offset as u32, key as u32, 0]
+        Header::Node { sequence, file, offset, key, second } => {
+            [b'N'.into(), sequence, file as u32, offset as u32, key as u32, second]
         }
         Header::CutOff { sequence, file, offset } => {
             [b'D'.into(), sequence, file as u32, offset as u32, 0, 0]
@@ -83,7 +83,13 @@ fn random_header(rng: &mut Rng) -> Header {
     let file = rng.below(FILES);
     let offset = rng.below(COUNTS[file]);
     match rng.below(4) {
-        0 => Header::Node { sequence: random_number(rng), file, offset, key: rng.below(POSITIONS) },
+        0 => Header::Node {
+            sequence: random_number(rng),
+            file,
+            offset,
+            key: rng.below(POSITIONS),
+            second: rng.below(PAYLOAD + 1) as u32,
+        },
         1 => Header::CutOff { sequence: random_number(rng), file, offset },
         2 => Header::Keys {
             epoch: random_number(rng),
@@ -99,12 +105,14 @@ fn random_header(rng: &mut Rng) -> Header {
 }
 
 /// A header of each kind with small fields, and one of each with the last ones.
-const SOME_HEADERS: [Header; 8] = [
-    Header::Node { sequence: 7, file: 2, offset: 5, key: 31 },
+const SOME_HEADERS: [Header; 10] = [
+    Header::Node { sequence: 7, file: 2, offset: 5, key: 31, second: 0 },
+    Header::Node { sequence: 7, file: 2, offset: 5, key: 31, second: 9 },
+    Header::Node { sequence: 1, file: 9, offset: 0, key: 0, second: 40 },
     Header::CutOff { sequence: 10, file: 13, offset: 0 },
     Header::Keys { epoch: 1, block: 0, page: 9 },
     Header::Commit { epoch: 100, part: 4, covered: 0 },
-    Header::Node { sequence: LAST, file: 0, offset: 31, key: 447 },
+    Header::Node { sequence: LAST, file: 0, offset: 31, key: 447, second: 224 },
     Header::CutOff { sequence: LAST, file: 10, offset: 7 },
     Header::Keys { epoch: LAST, block: 1, page: 15 },
     Header::Commit { epoch: LAST, part: 9, covered: LAST },
@@ -220,7 +228,8 @@ fn headers_agree() {
         let mut rng = Rng::new(seed);
         let mut given = fields(random_header(&mut rng));
         compare_header(&format!("seed {seed}, in range"), &given);
-        let edges = [0, 1, 2, 8, 9, 10, 13, 14, 15, 16, 31, 32, 256, 447, 448, LAST, LAST + 1];
+        let small = [0, 1, 2, 8, 9, 10, 13, 14, 15, 16, 31, 32];
+        let edges = [&small[..], &[223, 224, 225, 256, 447, 448, LAST, LAST + 1]].concat();
         let at = rng.below(6);
         given[at] = match rng.below(4) {
             0 => rng.number() as u32,

@@ -188,7 +188,7 @@ fn the_first_fault_decides() {
         if faults.has(6) {
             store.record.numbers.commit += 1;
         }
-        let length = faults.choose(5, PAYLOAD - 1, PAYLOAD);
+        let length = faults.choose(5, PAYLOAD + 1, PAYLOAD);
         let noise = faults.choose(5, NOISE - 1, NOISE);
         let file = faults.choose(3, 14, 1);
         let offset = faults.choose(4, 32, 0);
@@ -349,8 +349,8 @@ fn nothing_else_is_written() {
         assert_eq!(reply, recorder::DONE);
         let reply = recorder::write(image.lent(), &mut record, 13, 7, &data);
         assert_eq!(reply, recorder::DONE);
-        let reply = recorder::read(image.content(), &record, 13, 7, output.lent());
-        assert_eq!(reply, recorder::DONE);
+        let read = recorder::read(image.content(), &record, 13, 7, output.lent());
+        assert_eq!(read, (recorder::DONE, PAYLOAD));
         assert_eq!(output.content(), data);
         for reply in [
             recorder::cut_off(image.lent(), &mut record, 13, 7),

@@ -30,12 +30,17 @@ impl Kept {
         reply
     }
 
-    /// A store of 8 blocks with four nodes, a block without a live page and deleted keys.
+    /// A store of 8 blocks with five nodes, one of them an older recorder's, a block without a live page
+    /// and deleted keys.
     fn rich() -> Kept {
         let mut kept = Kept { store: Both::formatted(8), book: Book::new(), calls: 0 };
-        let write = |file, offset, seed| Call::Write { file, offset, payload: Data::payload(seed) };
+        let write = |file, offset, seed: u64| {
+            let payload = Data::of(1 + 40 * seed as usize % PAYLOAD, seed);
+            Call::Write { file, offset, payload }
+        };
         let mut calls: Vec<Call> = (0..17).map(|seed| write(0, 0, seed)).collect();
         calls.extend([write(0, 31, 20), write(2, 5, 21), write(2, 6, 22), write(13, 7, 23)]);
+        calls.push(Call::Append { file: 1, offset: 0, second: 0, bytes: Data::payload(24) });
         calls.push(Call::CutOff { file: 2, offset: 6 });
         for call in calls {
             assert_eq!(kept.call(call, Power::STAYS), DONE, "{call:?}");
@@ -57,10 +62,11 @@ impl Kept {
             if let Some(content) = content {
                 let (file, offset) = files::node(place);
                 let mut output = [0; PAYLOAD];
-                let reply =
+                let (reply, length) =
                     recorder::read(&store.image, &ours, file as u32, offset as u32, &mut output);
                 assert_eq!(reply, DONE, "{at}: read");
-                assert!(output[..] == content.payload, "{at}: payload of place {place}");
+                assert!(output[..length] == content.payload, "{at}: payload of place {place}");
+                assert!(output[length..].iter().all(|&byte| byte == 0), "{at}: rest of the output");
             }
         }
     }

@@ -236,7 +236,7 @@ fn a_key_named_twice() {
     let free = page_to_take(blocks(&store.image)).expect("there is room");
     for (file, offset) in [(0, 2), (1, 0), (13, 6)] {
         let mut doubled = store.clone();
-        let header = Header::Node { sequence: 1, file, offset, key: key.into() };
+        let header = Header::Node { sequence: 1, file, offset, key: key.into(), second: 224 };
         doubled.image[PAGE * free..][..PAGE].copy_from_slice(&header.page(&[b'.'; PAYLOAD]));
         check(&doubled, &[], &mut tally);
         let other = files::place(file, offset).expect("there is such a node");

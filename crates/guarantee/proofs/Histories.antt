@@ -117,7 +117,7 @@ mounting-book m e p = go (e .call) p
   where
     go : (c : Call) → T (isMount c) → entered (m .calls) c (fateOf e (outcomeAt m e) (leftAt m e)) (m .book) ≡ m .book
     go (mount map letters scratch) t = refl
-    go (write file offset payload) t = absurd t
+    go (write file offset given) t = absurd t
     go (read file offset output) t = refl
     go (cutOff file offset) t = absurd t
     go (commit noise) t = absurd t

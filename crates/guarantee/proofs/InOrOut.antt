@@ -12,9 +12,9 @@ use Rattle.base.specs.Each.{Each}
 use Rattle.page.specs.Frame.{headerSize, payloadSize}
 use Rattle.page.specs.Plan.{places}
 use Rattle.store.specs.Write.{fileRight, offsetRight, placeAt}
-use Rattle.store.specs.Read.{readOf}
+use Rattle.store.specs.Read.{readOf, readLength}
 use Rattle.store.specs.declared.Reply.the-variants.{Done}
-use Rattle.guarantee.specs.Call.{Call, mount, write, read, cutOff, commit, wipe, Event, Fate, replied, madeWhole, torn}
+use Rattle.guarantee.specs.Call.{Given, payloadGiven, Call, mount, write, read, cutOff, commit, wipe, Event, Fate, replied, madeWhole, torn}
 use Rattle.guarantee.specs.Book.{Book, Holding, bookWritten, bookSpent, bookRemoved, bookRenewed, bookFreed, onlyIf, keysDone, commitDone, removalDone, wipeCommitAt, bookCommitted, entered}
 use Rattle.guarantee.specs.Machine.{Machine, step, fateOf, outcomeAt, leftAt}
 use Rattle.guarantee.specs.Statement.{MapHas, ReadGives, AtRest}
@@ -25,22 +25,22 @@ use Rattle.guarantee.proofs.Histories.{endOf, Permitted, History, while
 abbrev pub Files : Type 0
 Files = ℕ → Option Holding
 
--- the store holds these files: the map has a page and the position exactly where there is a payload, and a read gives the payload
+-- the store holds these files: the map has a page and the position exactly where there is a payload, and a read gives the payload and its length
 pub record FilesAre (m : Machine) (files : Files) : Type 0 where
   pub mapped : (x : ℕ) → x < places → MapHas (m .store .map) x (files x)
   pub reads : (file offset : ℕ) (output : List ℕ) → T (fileRight file) → T (offsetRight file offset) → length output ≡ payloadSize
-      → ReadGives (readOf (m .image) (m .store) file offset output) output (files (placeAt file offset))
+      → ReadGives (readOf (m .image) (m .store) file offset output) (readLength (m .image) (m .store) file offset output) output (files (placeAt file offset))
 
 -- at rest they are the book's
 files-are : (m : Machine) → AtRest m → FilesAre m (m .book .content)
 files-are m r = record { mapped = r .mapped; reads = r .reads }
 
 -- ---- what a call, whatever its fate, makes of the book's files
-only-files : (t : Bool) (f : Book → Book) → ((b : Book) → f b .content ≡ b .content) → (b : Book) → onlyIf t f b .content ≡ b .content
+pub only-files : (t : Bool) (f : Book → Book) → ((b : Book) → f b .content ≡ b .content) → (b : Book) → onlyIf t f b .content ≡ b .content
 only-files true f h b = h b
 only-files false f h b = refl
 
-spent-files : (b : Book) → bookSpent b .content ≡ b .content
+pub spent-files : (b : Book) → bookSpent b .content ≡ b .content
 unfolding bookSpent
 spent-files b = refl
 
@@ -68,8 +68,8 @@ entered-files : (c : ℕ) (call : Call) (fate : Fate) (b : Book)
     → (entered c call fate b .content ≡ b .content) ⊎ (entered c call fate b .content ≡ entered c call (replied Done) b .content)
 unfolding entered
 entered-files c (mount map letters scratch) fate b = inl refl
-entered-files c (write file offset payload) fate b =
-    either (madeWhole fate 0) b (bookWritten (placeAt file offset) payload b) (onlyIf (torn headerSize fate) bookSpent b) (only-files (torn headerSize fate) bookSpent spent-files b)
+entered-files c (write file offset given) fate b =
+    either (madeWhole fate 0) b (bookWritten (placeAt file offset) (payloadGiven given) b) (onlyIf (torn headerSize fate) bookSpent b) (only-files (torn headerSize fate) bookSpent spent-files b)
 entered-files c (read file offset output) fate b = inl refl
 entered-files c (cutOff file offset) fate b = either (madeWhole fate 0) b (bookRemoved file offset b) b refl
 entered-files c (commit noise) fate b = inl (committed-files c 0 fate b)
@@ -82,7 +82,7 @@ module _ (m : Machine) (h : History m) (e : Event) (may : Permitted m e) (ms : L
   abbrev after : Machine
   after = endOf (step m e) ms
 
-  after-files : FilesAre after (step m e .book .content)
+  pub after-files : FilesAre after (step m e .book .content)
   after-files = subst (FilesAre after) (ap (λ (b : Book). b .content) (remounted-book (step m e) ms mounts)) (files-are after (at-end after (remounted (step m e) (next m h e may) ms mounts) on))
 
   -- the files are those of the book before the call, or of the book after it as if it had been done
@@ -102,11 +102,11 @@ module _ (m : Machine) (h : History m) (on : T (m .on)) (n k : ℕ) (ms : List E
   afterCall call = endOf (step m (record { call = call; n = n; k = k })) ms
 
   -- a write: its payload stands at its place under the key taken, or all files are as they were
-  pub write-in-or-out : (file offset : ℕ) (payload : List ℕ) → T (afterCall (write file offset payload) .on)
-      → FilesAre (afterCall (write file offset payload)) (m .book .content)
-      ⊎ FilesAre (afterCall (write file offset payload)) (bookWritten (placeAt file offset) payload (m .book) .content)
+  pub write-in-or-out : (file offset : ℕ) (given : Given) → T (afterCall (write file offset given) .on)
+      → FilesAre (afterCall (write file offset given)) (m .book .content)
+      ⊎ FilesAre (afterCall (write file offset given)) (bookWritten (placeAt file offset) (payloadGiven given) (m .book) .content)
   unfolding entered
-  write-in-or-out file offset payload = in-or-out m h (record { call = write file offset payload; n = n; k = k }) (while-on m on false, tt) ms mounts
+  write-in-or-out file offset given = in-or-out m h (record { call = write file offset given; n = n; k = k }) (while-on m on false, tt) ms mounts
 
   -- a cut-off: the file has nothing from the offset on, or all files are as they were
   pub cut-off-in-or-out : (file offset : ℕ) → T (afterCall (cutOff file offset) .on)

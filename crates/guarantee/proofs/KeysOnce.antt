@@ -14,16 +14,14 @@ use Rattle.base.proofs.Choice.{and-true, true-false}
 use Rattle.page.specs.Frame.{headerSize, pageSize}
 use Rattle.page.specs.Key.{positions}
 use Rattle.page.specs.Entry.{usedLetter, deletedLetter}
-use Rattle.store.specs.Write.{writeOf}
 use Rattle.store.specs.Reply.{isDone}
 use Rattle.store.specs.Outcome.{Outcome, left}
 use Rattle.store.specs.declared.Reply.the-variants.{Done}
-use Rattle.store.proofs.Counts.{write-steps}
-use Rattle.store.proofs.Outcomes.{write-refused}
 use Rattle.store.proofs.Verdicts.{done-true}
-use Rattle.guarantee.specs.Call.{Call, mount, write, read, cutOff, commit, wipe, Event, outcomeOf, isMount, Fate}
+use Rattle.guarantee.specs.Call.{Given, secondGiven, bytesGiven, writeGiven, Call, mount, write, read, cutOff, commit, wipe, Event, outcomeOf, isMount, Fate}
 use Rattle.guarantee.specs.Book.{lowestMarked, bookWritten, bookSpent, entered}
 use Rattle.guarantee.specs.Machine.{Node, began, nodesAfter, Machine, step, Allowed, fateOf, outcomeAt, leftAt}
+use Rattle.guarantee.proofs.Givens.{given-refused, given-steps}
 use Rattle.guarantee.proofs.Events.{calls-next, or-on, fate-stepless}
 use Rattle.guarantee.proofs.Histories.{endOf, Permitted, History, while-on, next, along, standing}
 use Rattle.guarantee.proofs.Slips.{taken-free}
@@ -40,21 +38,21 @@ module _ (p c : ℕ) where
   along-used below m earlier h (e ∷ es) = along-used below (step m e) (omega (arith, calls-next m e)) (called-used below m e earlier h) es
 
 -- ---- the machines
-module _ (m : Machine) (h : History m) (on : T (m .on)) (file offset : ℕ) (payload : List ℕ) (taken : writeOf (m .image) (m .store) file offset payload .reply ≡ Done) where
+module _ (m : Machine) (h : History m) (on : T (m .on)) (file offset : ℕ) (given : Given) (taken : writeGiven (m .image) (m .store) file offset given .reply ≡ Done) where
   abbrev p : ℕ
   p = lowestMarked (m .book)
 
   abbrev writing : ℕ → ℕ → Event
-  writing n k = record { call = write file offset payload; n = n; k = k }
+  writing n k = record { call = write file offset given; n = n; k = k }
 
   -- a write that programmed its header, or more, leaves its position u or d
   marked : (n k : ℕ) → (0 < n) ⊎ (headerSize ≤ k) → (step m (writing n k) .book .mark p ≡ usedLetter) ⊎ (step m (writing n k) .book .mark p ≡ deletedLetter)
   unfolding step left entered bookWritten bookSpent
-  marked (suc n) k begun = inl (rw (write-steps (m .image) (m .store) file offset payload taken, taken, le-ltb (suc n) 1 (omega arith), eq-eqb p p refl))
+  marked (suc n) k begun = inl (rw (given-steps (m .image) (m .store) file offset given taken, taken, le-ltb (suc n) 1 (omega arith), eq-eqb p p refl))
   marked zero k (inl l) = absurd (omega arith)
   marked zero k (inr headed) = elim (decLt k pageSize) [
-    | yes l ↦ inr (rw (write-steps (m .image) (m .store) file offset payload taken, lt-leb pageSize k l, le-leb headerSize k headed, lt-ltb k pageSize l, eq-eqb p p refl))
-    | no l ↦ inl (rw (write-steps (m .image) (m .store) file offset payload taken, le-leb pageSize k (omega arith), eq-eqb p p refl))
+    | yes l ↦ inr (rw (given-steps (m .image) (m .store) file offset given taken, lt-leb pageSize k l, le-leb headerSize k headed, lt-ltb k pageSize l, eq-eqb p p refl))
+    | no l ↦ inl (rw (given-steps (m .image) (m .store) file offset given taken, le-leb pageSize k (omega arith), eq-eqb p p refl))
   ]
 
   marked-up : (n k : ℕ) → (0 < n) ⊎ (headerSize ≤ k) → UsedUp p (m .book .bringer p) (step m (writing n k) .book)
@@ -66,13 +64,13 @@ module _ (m : Machine) (h : History m) (on : T (m .on)) (file offset : ℕ) (pay
 
   -- and its node is noted under its key
   pub node-noted : (n k : ℕ) → (0 < n) ⊎ (headerSize ≤ k)
-      → step m (writing n k) .nodes (lowestMarked (m .book)) (m .book .bringer (lowestMarked (m .book))) ≡ some (record { file = file; offset = offset; payload = payload })
+      → step m (writing n k) .nodes (lowestMarked (m .book)) (m .book .bringer (lowestMarked (m .book))) ≡ some (record { file = file; offset = offset; second = secondGiven given; bytes = bytesGiven given })
   unfolding step left nodesAfter
-  node-noted (suc n) k begun = rw (write-steps (m .image) (m .store) file offset payload taken, taken, le-ltb (suc n) 1 (omega arith), eq-eqb p p refl, eq-eqb (m .book .bringer p) (m .book .bringer p) refl)
+  node-noted (suc n) k begun = rw (given-steps (m .image) (m .store) file offset given taken, taken, le-ltb (suc n) 1 (omega arith), eq-eqb p p refl, eq-eqb (m .book .bringer p) (m .book .bringer p) refl)
   node-noted zero k (inl l) = absurd (omega arith)
   node-noted zero k (inr headed) = elim (decLt k pageSize) [
-    | yes l ↦ rw (write-steps (m .image) (m .store) file offset payload taken, lt-leb pageSize k l, le-leb headerSize k headed, lt-ltb k pageSize l, eq-eqb p p refl, eq-eqb (m .book .bringer p) (m .book .bringer p) refl)
-    | no l ↦ rw (write-steps (m .image) (m .store) file offset payload taken, le-leb pageSize k (omega arith), eq-eqb p p refl, eq-eqb (m .book .bringer p) (m .book .bringer p) refl)
+    | yes l ↦ rw (given-steps (m .image) (m .store) file offset given taken, lt-leb pageSize k l, le-leb headerSize k headed, lt-ltb k pageSize l, eq-eqb p p refl, eq-eqb (m .book .bringer p) (m .book .bringer p) refl)
+    | no l ↦ rw (given-steps (m .image) (m .store) file offset given taken, le-leb pageSize k (omega arith), eq-eqb p p refl, eq-eqb (m .book .bringer p) (m .book .bringer p) refl)
   ]
 
   -- a later write that is taken at the same position finds another key there
@@ -80,27 +78,27 @@ module _ (m : Machine) (h : History m) (on : T (m .on)) (file offset : ℕ) (pay
     abbrev pub later : Machine
     later = endOf (step m (writing n k)) es
 
-    pub no-key-twice : T (later .on) → (file' offset' : ℕ) (payload' : List ℕ) → writeOf (later .image) (later .store) file' offset' payload' .reply ≡ Done
+    pub no-key-twice : T (later .on) → (file' offset' : ℕ) (given' : Given) → writeGiven (later .image) (later .store) file' offset' given' .reply ≡ Done
         → lowestMarked (later .book) ≡ lowestMarked (m .book) → later .book .bringer (lowestMarked (m .book)) ≡ m .book .bringer (lowestMarked (m .book)) → ⊥
-    no-key-twice on' file' offset' payload' taken' same key =
+    no-key-twice on' file' offset' given' taken' same key =
         let hist = along (step m (writing n k)) (next m h (writing n k) (while-on m on false, tt)) es allowed in
-        let free = taken-free later hist on' file' offset' payload' taken' .1 in
-        along-used p (m .book .bringer p) (taken-free m h on file offset payload taken .0) (step m (writing n k))
+        let free = taken-free later hist on' file' offset' given' taken' .1 in
+        along-used p (m .book .bringer p) (taken-free m h on file offset given taken .0) (step m (writing n k))
         (omega (arith, calls-next m (writing n k), standing m h .settled .sound .begun p)) (marked-up n k begun) es key (rw same at free)
 
 -- ---- the node of a key
 -- a write whose header was programmed was taken
-began-taken : (m : Machine) (file offset : ℕ) (payload : List ℕ) (n k : ℕ)
-    → began (fateOf (record { call = write file offset payload; n = n; k = k }) (writeOf (m .image) (m .store) file offset payload) (left n k (writeOf (m .image) (m .store) file offset payload) (m .image))) ≡ true
-    → writeOf (m .image) (m .store) file offset payload .reply ≡ Done
-began-taken m file offset payload n k h = go (isDone (writeOf (m .image) (m .store) file offset payload .reply)) refl
+began-taken : (m : Machine) (file offset : ℕ) (given : Given) (n k : ℕ)
+    → began (fateOf (record { call = write file offset given; n = n; k = k }) (writeGiven (m .image) (m .store) file offset given) (left n k (writeGiven (m .image) (m .store) file offset given) (m .image))) ≡ true
+    → writeGiven (m .image) (m .store) file offset given .reply ≡ Done
+began-taken m file offset given n k h = go (isDone (writeGiven (m .image) (m .store) file offset given .reply)) refl
   where
-    go : (t : Bool) → isDone (writeOf (m .image) (m .store) file offset payload .reply) ≡ t → writeOf (m .image) (m .store) file offset payload .reply ≡ Done
-    go true q = done-true (writeOf (m .image) (m .store) file offset payload .reply) q
+    go : (t : Bool) → isDone (writeGiven (m .image) (m .store) file offset given .reply) ≡ t → writeGiven (m .image) (m .store) file offset given .reply ≡ Done
+    go true q = done-true (writeGiven (m .image) (m .store) file offset given .reply) q
     go false q =
-        let none = ap (λ (o : Outcome). o .steps) (write-refused (m .image) (m .store) file offset payload q) in
-        let refused : isDone (writeOf (m .image) (m .store) file offset payload .reply) || false ≡ true =
-        subst (λ (f : Fate). began f ≡ true) (fate-stepless (record { call = write file offset payload; n = n; k = k }) (writeOf (m .image) (m .store) file offset payload) (m .image) none) h in
+        let none = ap (λ (o : Outcome). o .steps) (given-refused (m .image) (m .store) file offset given q) in
+        let refused : isDone (writeGiven (m .image) (m .store) file offset given .reply) || false ≡ true =
+        subst (λ (f : Fate). began f ≡ true) (fate-stepless (record { call = write file offset given; n = n; k = k }) (writeGiven (m .image) (m .store) file offset given) (m .image) none) h in
         absurd (true-false (rw q at refused) refl)
 
 -- one key, one node: whatever is called, a key keeps the node that it has enciphered
@@ -109,15 +107,15 @@ module _ (m : Machine) (h : History m) where
       → nodesAfter call (fateOf (record { call = call; n = n; k = k }) (outcomeOf call (m .image) (m .store)) (left n k (outcomeOf call (m .image) (m .store)) (m .image))) (m .book) (m .nodes) p c ≡ some v
   unfolding nodesAfter
   node-kept (mount map letters scratch) n k may p c below v q = q
-  node-kept (write file offset payload) n k may p c below v q = go _ refl
+  node-kept (write file offset given) n k may p c below v q = go _ refl
     where
-      go : (t : Bool) → began (fateOf (record { call = write file offset payload; n = n; k = k }) (writeOf (m .image) (m .store) file offset payload) (left n k (writeOf (m .image) (m .store) file offset payload) (m .image)))
-          && (eqb p (lowestMarked (m .book)) && eqb c (m .book .bringer p)) ≡ t → cond t (some (record { file = file; offset = offset; payload = payload })) (m .nodes p c) ≡ some v
+      go : (t : Bool) → began (fateOf (record { call = write file offset given; n = n; k = k }) (writeGiven (m .image) (m .store) file offset given) (left n k (writeGiven (m .image) (m .store) file offset given) (m .image)))
+          && (eqb p (lowestMarked (m .book)) && eqb c (m .book .bringer p)) ≡ t → cond t (some (record { file = file; offset = offset; second = secondGiven given; bytes = bytesGiven given })) (m .nodes p c) ≡ some v
       go true z =
           let d = and-true _ _ z in
           let s = and-true (eqb p (lowestMarked (m .book))) (eqb c (m .book .bringer p)) (d .1) in
           let at : p ≡ lowestMarked (m .book) = eqb-true _ _ (s .0) in
-          let free = taken-free m h (or-on (m .on) may) file offset payload (began-taken m file offset payload n k (d .0)) .1 in
+          let free = taken-free m h (or-on (m .on) may) file offset given (began-taken m file offset given n k (d .0)) .1 in
           absurd (standing m h .once p c below v q .1 (sym (eqb-true _ _ (s .1))) (rw at free))
       go false z = q
   node-kept (read file offset output) n k may p c below v q = q

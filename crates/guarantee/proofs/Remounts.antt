@@ -19,19 +19,20 @@ use Rattle.store.specs.Record.{Record}
 use Rattle.store.specs.Outcome.{Outcome, left, leftWhole}
 use Rattle.store.specs.Format.{noiseSize, buffersRight, formatNumbers}
 use Rattle.store.specs.Mount.{isStray, mountNumbers, mounted, mountOf}
-use Rattle.store.specs.Write.{nextSequence, writeSteps, writeOf}
+use Rattle.store.specs.Write.{nextSequence, appendSteps}
 use Rattle.store.specs.CutOff.{removed, cutOffSteps, cutOffOf}
 use Rattle.store.specs.Commit.{Stage, begin, cleaned, commitStages, commitOf}
 use Rattle.store.specs.Wipe.{removedFirst, wipeOf}
 use Rattle.store.specs.declared.Reply.the-variants.{Done}
 use Rattle.store.proofs.Counts.{mount-steps}
-use Rattle.store.proofs.Legals.{write-legal, cut-off-legal, mount-legal, commit-legal, wipe-legal}
-use Rattle.store.proofs.Outcomes.{mount-outcome, write-outcome, write-refused, read-stepless, cut-off-outcome, cut-off-refused, commit-outcome, commit-refused, wipe-outcome, wipe-refused}
-use Rattle.store.proofs.Verdicts.{done-true, write-taken, cut-off-taken}
-use Rattle.guarantee.specs.Call.{Call, mount, write, read, cutOff, commit, wipe, Event, outcomeOf, isMount, lentRight}
+use Rattle.store.proofs.Legals.{cut-off-legal, mount-legal, commit-legal, wipe-legal}
+use Rattle.store.proofs.Outcomes.{mount-outcome, read-stepless, cut-off-outcome, cut-off-refused, commit-outcome, commit-refused, wipe-outcome, wipe-refused}
+use Rattle.store.proofs.Verdicts.{done-true, cut-off-taken}
+use Rattle.guarantee.specs.Call.{Given, secondGiven, bytesGiven, writeGiven, Call, mount, write, read, cutOff, commit, wipe, Event, outcomeOf, isMount, lentRight}
 use Rattle.guarantee.specs.Book.{Book}
 use Rattle.guarantee.specs.Origin.{Origin}
 use Rattle.guarantee.specs.Machine.{Machine, start, step, outcomeAt, Allowed}
+use Rattle.guarantee.proofs.Givens.{given-legal, given-outcome, given-refused, given-taken}
 use Rattle.guarantee.proofs.Sounds.{Sound, Tight, is-true}
 use Rattle.guarantee.proofs.Writes.{ranges as node-ranges, sealed-length}
 use Rattle.guarantee.proofs.CutOffCall.{ranges as cut-off-ranges, spaces-length}
@@ -55,18 +56,18 @@ by-reply img r o neat done refused = go (isDone (o .reply)) refl
     go false q = let f = refused q in rw (f .0, f .1, playAll-nil img) neat
 
 module _ (img : List ℕ) (b : Book) (o : ℕ → Origin) (noise : ℕ → List ℕ) (c : ℕ) (s : Sound img b o noise c c) (tight : Tight img b o) (neat : Neat img (mounted img .numbers)) where
-  write-neat : (file offset : ℕ) (payload : List ℕ) → NeatAfter img (writeOf img (mounted img) file offset payload)
-  unfolding writeSteps nodePage
-  write-neat file offset payload =
-      by-reply img (mounted img) (writeOf img (mounted img) file offset payload) neat
+  write-neat : (file offset : ℕ) (given : Given) → NeatAfter img (writeGiven img (mounted img) file offset given)
+  unfolding appendSteps nodePage
+  write-neat file offset given =
+      by-reply img (mounted img) (writeGiven img (mounted img) file offset given) neat
       (λ d.
-      let e = write-outcome img (mounted img) file offset payload d in
-      let t = write-taken img (mounted img) file offset payload d in
-      let legal : AllLegal img (writeSteps img (mounted img) file offset payload) = subst (λ (o : Outcome). AllLegal img (o .steps)) e (write-legal img (mounted img) file offset payload) in
+      let e = given-outcome img (mounted img) file offset given d in
+      let t = given-taken img (mounted img) file offset given d in
+      let legal : AllLegal img (appendSteps img (mounted img) file offset (secondGiven given) (bytesGiven given)) = subst (λ (o : Outcome). AllLegal img (o .steps)) e (given-legal img (mounted img) file offset given) in
       subst (NeatAfter img) (sym e)
       (program-neat img (mounted img .numbers) (nextSequence (mounted img .numbers)) _ _ legal
-      (ap headed (form-program _ _ _ img (node-ranges img b o noise c s tight file offset payload t (λ j. j)) (sealed-length img b o noise c s tight file offset payload t (λ j. j)) (legal .0 .0 .0))) (λ b. refl) neat))
-      (λ q. let e = write-refused img (mounted img) file offset payload q in (ap (λ (o : Outcome). o .steps) e, ap (λ (o : Outcome). o .after) e))
+      (ap headed (form-program _ _ _ img (node-ranges img b o noise c s tight file offset (secondGiven given) (bytesGiven given) t (λ j. j)) (sealed-length img b o noise c s tight file offset (secondGiven given) (bytesGiven given) t (λ j. j)) (legal .0 .0 .0))) (λ b. refl) neat))
+      (λ q. let e = given-refused img (mounted img) file offset given q in (ap (λ (o : Outcome). o .steps) e, ap (λ (o : Outcome). o .after) e))
 
   cut-off-neat : (file offset : ℕ) → NeatAfter img (cutOffOf img (mounted img) file offset)
   unfolding cutOffSteps cutOffPage
@@ -131,9 +132,9 @@ module _ (m : Machine) (h : History m) (neat : NeatOn m) where
 
     other-neat : (call : Call) → isMount call ≡ false → NeatAfter (m .image) (outcomeOf call (m .image) (m .store))
     other-neat (mount map letters scratch) q = absurd (true-false refl q)
-    other-neat (write file offset payload) q =
+    other-neat (write file offset given) q =
         let s = standing m h .settled in
-        rw good (write-neat (m .image) (m .book) (m .origin) (m .noise) (m .calls) (s .sound) (s .tight on) neat-mounted file offset payload)
+        rw good (write-neat (m .image) (m .book) (m .origin) (m .noise) (m .calls) (s .sound) (s .tight on) neat-mounted file offset given)
     other-neat (read file offset output) q = rw (read-stepless (m .image) (m .store) file offset output, playAll-nil (m .image)) (neat on)
     other-neat (cutOff file offset) q =
         let s = standing m h .settled in
@@ -143,7 +144,7 @@ module _ (m : Machine) (h : History m) (neat : NeatOn m) where
 
   call-neat : (call : Call) → T (m .on || isMount call) → T (lentRight call) → NeatAfter (m .image) (outcomeOf call (m .image) (m .store))
   call-neat (mount map letters scratch) may lent = mounting-neat map letters scratch lent
-  call-neat (write file offset payload) may lent = other-neat (or-on (m .on) may) (write file offset payload) refl
+  call-neat (write file offset given) may lent = other-neat (or-on (m .on) may) (write file offset given) refl
   call-neat (read file offset output) may lent = other-neat (or-on (m .on) may) (read file offset output) refl
   call-neat (cutOff file offset) may lent = other-neat (or-on (m .on) may) (cutOff file offset) refl
   call-neat (commit noise) may lent = other-neat (or-on (m .on) may) (commit noise) refl

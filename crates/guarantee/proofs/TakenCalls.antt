@@ -20,16 +20,17 @@ use Rattle.store.specs.Reply.{Test, numberOf, verdict}
 use Rattle.store.specs.Outcome.{leftWhole}
 use Rattle.store.specs.Format.{noiseSize, buffersRight}
 use Rattle.store.specs.Mount.{mountOf}
-use Rattle.store.specs.Write.{fileRight, offsetRight, writeOf}
+use Rattle.store.specs.Write.{fileRight, offsetRight}
 use Rattle.store.specs.Commit.{commitOf}
 use Rattle.store.specs.Wipe.{wipeOf}
 use Rattle.store.specs.declared.Reply.{Reply}
 use Rattle.store.specs.declared.Reply.the-variants.{Done, NoRoom}
 use Rattle.store.proofs.Verdicts.{verdict-passed, verdict-among}
-use Rattle.store.proofs.Counts.{write-steps, replacedSteps, commit-steps}
-use Rattle.guarantee.specs.Call.{Call, mount, write, commit, wipe, Event, isMount, lentRight}
+use Rattle.store.proofs.Counts.{replacedSteps, commit-steps}
+use Rattle.guarantee.specs.Call.{Given, givenRight, writeGiven, Call, mount, write, commit, wipe, Event, isMount, lentRight}
 use Rattle.guarantee.specs.Machine.{Machine, start, step, outcomeAt}
 use Rattle.guarantee.specs.Replies.{anyFree, hasRoom, roomLeft, bookTests}
+use Rattle.guarantee.proofs.Givens.{given-steps}
 use Rattle.guarantee.proofs.Sounds.{is-true}
 use Rattle.guarantee.proofs.FormatCall.{format-empty, format-length, format-taken}
 use Rattle.guarantee.proofs.Histories.{History, history, while-on, at-end, at-call}
@@ -78,12 +79,12 @@ module _ (m : Machine) (h : History m) (on : T (m .on)) where
 pub record Takes (m : Machine) : Type 0 where
   -- with right arguments these are done
   pub mounts : (map letters scratch : List ℕ) → T (lentRight (mount map letters scratch)) → mountOf (m .image) map letters scratch .reply ≡ Done
-  pub writes : (file offset : ℕ) (payload : List ℕ) → T (fileRight file) → T (offsetRight file offset) → length payload ≡ payloadSize → writeOf (m .image) (m .store) file offset payload .reply ≡ Done
+  pub writes : (file offset : ℕ) (given : Given) → T (fileRight file) → T (offsetRight file offset) → givenRight given ≡ true → writeGiven (m .image) (m .store) file offset given .reply ≡ Done
   pub commits : (noise : List ℕ) → length noise ≡ noiseSize → commitOf (m .image) (m .store) noise .reply ≡ Done
   pub wipes : (noise : List ℕ) (file offset : ℕ) → length noise ≡ noiseSize → T (fileRight file) → T (offsetRight file offset) → wipeOf (m .image) (m .store) noise file offset .reply ≡ Done
   -- and short of power they are cut
-  pub cutWrites : (file offset : ℕ) (payload : List ℕ) (k : ℕ) → T (fileRight file) → T (offsetRight file offset) → length payload ≡ payloadSize
-      → step m (record { call = write file offset payload; n = 0; k = k }) .on ≡ false
+  pub cutWrites : (file offset : ℕ) (given : Given) (k : ℕ) → T (fileRight file) → T (offsetRight file offset) → givenRight given ≡ true
+      → step m (record { call = write file offset given; n = 0; k = k }) .on ≡ false
   pub cutCommits : (noise : List ℕ) (n k : ℕ) → length noise ≡ noiseSize → n < replacedSteps → step m (record { call = commit noise; n = n; k = k }) .on ≡ false
 
 -- the power fails in a call that has more steps
@@ -108,11 +109,11 @@ two-empty-room img a b apart inside x y = rw (le-leb 2 (emptyBlocks img) two) (g
 
 -- while a key is free, there is room, and calls are few
 module _ (m : Machine) (h : History m) (on : T (m .on)) (few : m .calls < 50_000_000) (free : anyFree (m .book) ≡ true) (room : roomLeft (m .image) ≡ true) where
-  write-is-done : (file offset : ℕ) (payload : List ℕ) → T (fileRight file) → T (offsetRight file offset) → length payload ≡ payloadSize → writeOf (m .image) (m .store) file offset payload .reply ≡ Done
-  write-is-done file offset payload f o l =
-      due m h on (write file offset payload) refl
-      ∙ verdict-passed (tests m h on (write file offset payload))
-      (is-true (fileRight file) f, (is-true (offsetRight file offset) o, (eq-eqb _ _ l, (le-leb (m .store .numbers .sequence) lastNumber (omega (arith, at-end m h on .counted .0)), (free, (room, tt))))))
+  write-is-done : (file offset : ℕ) (given : Given) → T (fileRight file) → T (offsetRight file offset) → givenRight given ≡ true → writeGiven (m .image) (m .store) file offset given .reply ≡ Done
+  write-is-done file offset given f o l =
+      due m h on (write file offset given) refl
+      ∙ verdict-passed (tests m h on (write file offset given))
+      (is-true (fileRight file) f, (is-true (offsetRight file offset) o, (l, (le-leb (m .store .numbers .sequence) lastNumber (omega (arith, at-end m h on .counted .0)), (free, (room, tt))))))
 
   pub calls-taken : Takes m
   calls-taken =
@@ -122,7 +123,7 @@ module _ (m : Machine) (h : History m) (on : T (m .on)) (few : m .calls < 50_000
         writes = write-is-done;
         commits = λ arg l. commit-is-done m h on arg l (omega arith);
         wipes = λ arg file offset l f o. wipe-is-done m h on arg file offset l f o early;
-        cutWrites = λ file offset payload k f o l. cut-off-power m (record { call = write file offset payload; n = 0; k = k }) (omega (arith, write-steps (m .image) (m .store) file offset payload (write-is-done file offset payload f o l)));
+        cutWrites = λ file offset given k f o l. cut-off-power m (record { call = write file offset given; n = 0; k = k }) (omega (arith, given-steps (m .image) (m .store) file offset given (write-is-done file offset given f o l)));
         cutCommits = λ arg n k l short. cut-off-power m (record { call = commit arg; n = n; k = k }) (omega (arith, commit-steps (m .image) (m .store) arg (commit-is-done m h on arg l (omega arith))));
       }
 

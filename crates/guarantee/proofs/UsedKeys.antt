@@ -17,7 +17,7 @@ use Rattle.page.specs.Entry.{freeLetter, usedLetter, deletedLetter}
 use Rattle.store.specs.Mount.{removes}
 use Rattle.store.specs.Write.{placeAt}
 use Rattle.store.specs.declared.Reply.the-variants.{Done}
-use Rattle.guarantee.specs.Call.{Call, mount, write, read, cutOff, commit, wipe, Event, Fate, replied, cut, madeWhole, torn}
+use Rattle.guarantee.specs.Call.{Given, secondGiven, bytesGiven, payloadGiven, Call, mount, write, read, cutOff, commit, wipe, Event, Fate, replied, cut, madeWhole, torn}
 use Rattle.guarantee.specs.Book.{Book, heldAmong, lowestMarked, bookWritten, bookSpent, bookRemoved, bookRenewed, bookFreed, onlyIf, keysDone, commitDone, removalDone, wipeCommitAt, bookCommitted, entered}
 use Rattle.guarantee.specs.Machine.{Node, began, nodesAfter, Machine, start, step, fateOf, outcomeAt, leftAt}
 use Rattle.guarantee.specs.Replies.{anyFree}
@@ -109,10 +109,10 @@ module _ (p c : ℕ) where
     pub entered-used : p < positions → (call : Call) (fate : Fate) (b : Book) → UsedUp p c b → UsedUp p c (entered now call fate b)
     unfolding entered
     entered-used below (mount map letters scratch) fate b h = h
-    entered-used below (write file offset payload) fate b h = go (madeWhole fate 0)
+    entered-used below (write file offset given) fate b h = go (madeWhole fate 0)
       where
-        go : (t : Bool) → UsedUp p c (cond t (bookWritten (placeAt file offset) payload b) (onlyIf (torn headerSize fate) bookSpent b))
-        go true = written-used (placeAt file offset) payload b h
+        go : (t : Bool) → UsedUp p c (cond t (bookWritten (placeAt file offset) (payloadGiven given) b) (onlyIf (torn headerSize fate) bookSpent b))
+        go true = written-used (placeAt file offset) (payloadGiven given) b h
         go false = only-used (torn headerSize fate) bookSpent spent-used b h
     entered-used below (read file offset output) fate b h = h
     entered-used below (cutOff file offset) fate b h = only-used (madeWhole fate 0) (bookRemoved file offset) (removed-used file offset) b h
@@ -121,11 +121,11 @@ module _ (p c : ℕ) where
         committed-used below wipeCommitAt fate _ (only-used (madeWhole fate removalDone) (bookRemoved file offset) (removed-used file offset) b h)
 
 -- ---- a write whose header was programmed has used up the key that it took
-written-up : (c file offset : ℕ) (payload : List ℕ) (fate : Fate) (b : Book) → began fate ≡ true → UsedUp (lowestMarked b) (b .bringer (lowestMarked b)) (entered c (write file offset payload) fate b)
+written-up : (c file offset : ℕ) (given : Given) (fate : Fate) (b : Book) → began fate ≡ true → UsedUp (lowestMarked b) (b .bringer (lowestMarked b)) (entered c (write file offset given) fate b)
 unfolding entered bookWritten bookSpent
-written-up c file offset payload fate b h e f = go (madeWhole fate 0) (torn headerSize fate) h f
+written-up c file offset given fate b h e f = go (madeWhole fate 0) (torn headerSize fate) h f
   where
-    go : (s t : Bool) → s || t ≡ true → cond s (bookWritten (placeAt file offset) payload b) (onlyIf t bookSpent b) .mark (lowestMarked b) ≡ freeLetter → ⊥
+    go : (s t : Bool) → s || t ≡ true → cond s (bookWritten (placeAt file offset) (payloadGiven given) b) (onlyIf t bookSpent b) .mark (lowestMarked b) ≡ freeLetter → ⊥
     go true t h f = let same : usedLetter ≡ freeLetter = rw (eq-eqb (lowestMarked b) (lowestMarked b) refl) at f in omega arith
     go false true h f = let same : deletedLetter ≡ freeLetter = rw (eq-eqb (lowestMarked b) (lowestMarked b) refl) at f in omega arith
     go false false h f = true-false h refl
@@ -143,16 +143,16 @@ node-from : (now : ℕ) (call : Call) (fate : Fate) (b : Book) (nodes : ℕ → 
     → (nodes p c ≡ some v) ⊎ ((c ≡ b .bringer p) × UsedUp p c (entered now call fate b))
 unfolding nodesAfter
 node-from now (mount map letters scratch) fate b nodes p c v h = inl h
-node-from now (write file offset payload) fate b nodes p c v h = go (began fate && (eqb p (lowestMarked b) && eqb c (b .bringer p))) refl h
+node-from now (write file offset given) fate b nodes p c v h = go (began fate && (eqb p (lowestMarked b) && eqb c (b .bringer p))) refl h
   where
-    go : (t : Bool) → began fate && (eqb p (lowestMarked b) && eqb c (b .bringer p)) ≡ t → cond t (some (record { file = file; offset = offset; payload = payload })) (nodes p c) ≡ some v
-        → (nodes p c ≡ some v) ⊎ ((c ≡ b .bringer p) × UsedUp p c (entered now (write file offset payload) fate b))
+    go : (t : Bool) → began fate && (eqb p (lowestMarked b) && eqb c (b .bringer p)) ≡ t → cond t (some (record { file = file; offset = offset; second = secondGiven given; bytes = bytesGiven given })) (nodes p c) ≡ some v
+        → (nodes p c ≡ some v) ⊎ ((c ≡ b .bringer p) × UsedUp p c (entered now (write file offset given) fate b))
     go true q z =
         let d = and-true (began fate) (eqb p (lowestMarked b) && eqb c (b .bringer p)) q in
         let s = and-true (eqb p (lowestMarked b)) (eqb c (b .bringer p)) (d .1) in
         let at : p ≡ lowestMarked b = eqb-true _ _ (s .0) in
         let key : c ≡ b .bringer p = eqb-true _ _ (s .1) in
-        inr (key, rw (key, at) (written-up now file offset payload fate b (d .0)))
+        inr (key, rw (key, at) (written-up now file offset given fate b (d .0)))
     go false q z = inl z
 node-from now (read file offset output) fate b nodes p c v h = inl h
 node-from now (cutOff file offset) fate b nodes p c v h = inl h

@@ -53,13 +53,13 @@ module _ (g : ℕ) (f : Frame) (payload img : List ℕ) (ranges : inRange f ≡ 
   pub payload-program : payloadOf (pageAt (whole (program g (pageBytes f payload)) img) g) ≡ payload
   payload-program = ap payloadOf (page-program g (pageBytes f payload) img (fits, page-length f payload l)) ∙ payload-back f payload l
 
--- a node's payload reads back under its key
-pub node-program : (g sequence file offset position : ℕ) (key payload img : List ℕ) → length payload ≡ payloadSize → g * pageSize + pageSize ≤ length img
-    → enciphered key (payloadOf (pageAt (whole (program g (nodePage sequence file offset position key payload)) img) g)) ≡ payload
-node-program g sequence file offset position key payload img l fits =
+-- a node's 224 bytes read back under its key
+pub node-program : (g sequence file offset position second : ℕ) (key bytes img : List ℕ) → length bytes ≡ payloadSize → g * pageSize + pageSize ≤ length img
+    → enciphered key (payloadOf (pageAt (whole (program g (nodePage sequence file offset position second key bytes)) img) g)) ≡ bytes
+node-program g sequence file offset position second key bytes img l fits =
     ap (λ (page : List ℕ). enciphered key (payloadOf page))
-    (page-program g (nodePage sequence file offset position key payload) img (fits, node-length sequence file offset position key payload l))
-    ∙ node-back sequence file offset position key payload l
+    (page-program g (nodePage sequence file offset position second key bytes) img (fits, node-length sequence file offset position second key bytes l))
+    ∙ node-back sequence file offset position second key bytes l
 
 -- ---- a page of which at least one byte was erased is empty or spoilt
 pub form-cleared : (k : ℕ) (page : List ℕ) → 1 ≤ k → 1 ≤ length page → formOf (cleared k page) ≡ cond (isEmpty (cleared k page)) Empty Spoilt

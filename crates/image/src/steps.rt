@@ -11,7 +11,7 @@ ghost use Rattle.base.specs.Lent.{old, new};
 ghost use Rattle.page.specs.Frame.{headerSize, payloadSize, pageSize};
 ghost use Rattle.page.specs.Key.{positions};
 ghost use Rattle.page.specs.Entry.{parts, mapSize, commitPayload};
-ghost use Rattle.page.specs.Page.{pageBytes, pageLike, nodePage, cutOffPage};
+ghost use Rattle.page.specs.Page.{pageBytes, pageLike, padded, nodePage, cutOffPage};
 ghost use Rattle.image.specs.Size.{blockSize};
 ghost use Rattle.image.specs.Step.{program, erase};
 ghost use Rattle.image.specs.Power.{device, act, reach, lessStep};
@@ -68,7 +68,7 @@ pub fn erase_block(image: &mut [u8], b: usize, p: Power) -> Power
     after_step(p)
 }
 
-// Programs page g with a node.
+// Programs page g with a node: its payload, and spaces after it.
 pub fn program_node(
     image: &mut [u8],
     g: usize,
@@ -80,9 +80,10 @@ pub fn program_node(
     payload: &[u8],
     p: Power,
 ) -> Power
-    requires { ⌜ (g * pageSize + pageSize ≤ length (now image)) × (length (now payload) ≡ payloadSize) ⌝ }
+    requires { ⌜ (g * pageSize + pageSize ≤ length (now image)) × (length (now payload) ≤ payloadSize) ⌝ }
     ensures { λ r. ⌜ device r (new image)
-        ≡ act (program g (nodePage sequence file offset position key (old payload))) (device p (old image)) ⌝ }
+        ≡ act (program g (nodePage sequence file offset position (length (old payload)) key (padded (old payload))))
+        (device p (old image)) ⌝ }
 {
     if !p.on {
         return p;

@@ -14,6 +14,8 @@ use Rattle.page.specs.Frame.{space}
 use Rattle.page.specs.Column.{columns, spell, digit, valueAfter, numberIn, numberThen, pairIn}
 use Rattle.page.specs.declared.Number.{Number}
 use Rattle.page.specs.declared.Number.the-variants.{Is, Misspelt}
+use Rattle.page.specs.declared.Pair.{Pair}
+use Rattle.page.specs.declared.Pair.the-variants.{Are, Misspelt as NoPair}
 use Rattle.page.specs.Word.{wordBytes}
 use Rattle.page.proofs.Column.{digit-lt, digit-of-digit, number-is, each-read, value-lt}
 use Rattle.page.proofs.Counted.{counted, read-from-one, number-space, number-spaces}
@@ -214,3 +216,30 @@ pub pair-three : (xs ys : List ℕ) (at v : ℕ) → at + 3 ≤ length xs → wo
     → pairIn (wordBytes 4 v) ys ≡ pairIn (part xs at 3) ys
 unfolding pairIn
 pair-three xs ys at v h e = rw (e, part-three xs at h, number-space (getD xs at 0) (getD xs (at + 1) 0 ∷ getD xs (at + 2) 0 ∷ []))
+
+-- ---- four columns beside others that hold a number
+zero-beside : numberIn (wordBytes 4 0x30202020) ≡ Is 0
+unfolding numberIn valueAfter spell columns same wordBytes
+zero-beside = refl
+
+pub longest-beside : numberIn (wordBytes 4 0x34323220) ≡ Is 224
+unfolding numberIn valueAfter spell columns same wordBytes
+longest-beside = refl
+
+pub pair-beside : (xs ys : List ℕ) (m : ℕ) → numberIn ys ≡ Is m → pairIn xs ys ≡ numberThen (numberIn xs) NoPair (λ n. Are n m)
+unfolding pairIn
+pair-beside xs ys m e = rw e
+
+abbrev pub firstOf : Pair → Number
+firstOf (Are n m) = Is n
+firstOf NoPair = Misspelt
+
+first-beside : (xs ys : List ℕ) (m : ℕ) → numberIn ys ≡ Is m → numberIn xs ≡ firstOf (pairIn xs ys)
+first-beside xs ys m e = go (numberIn xs) ∙ sym (ap firstOf (pair-beside xs ys m e))
+  where
+    go : (a : Number) → a ≡ firstOf (numberThen a NoPair (λ n. Are n m))
+    go (Is n) = refl
+    go Misspelt = refl
+
+pub read-beside : (xs : List ℕ) (w : ℕ) (r : Pair) → wordBytes 4 w ≡ xs → r ≡ pairIn (wordBytes 4 w) (wordBytes 4 0x30202020) → numberIn xs ≡ firstOf r
+read-beside xs w r e p = ap numberIn (sym e) ∙ first-beside (wordBytes 4 w) (wordBytes 4 0x30202020) 0 zero-beside ∙ ap firstOf (sym p)

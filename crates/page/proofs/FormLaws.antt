@@ -15,6 +15,8 @@ use Rattle.base.proofs.Choice.{and-true, true-false}
 use Rattle.base.proofs.Parts.{part-part, part-length}
 use Rattle.base.proofs.Eachs.{same-true, same-refl, same-false, allAre-true, allAre-replicate}
 use Rattle.page.specs.Frame.{headerSize, payloadSize, closingSize, pageSize, closingAt, erased, closing, space}
+use Rattle.page.specs.Column.{numberIn}
+use Rattle.page.specs.declared.Number.the-variants.{Is as IsNumber, Misspelt}
 use Rattle.page.specs.Header.{nodeLetter, cutOffLetter, keysLetter, commitLetter, nodeFrame, cutOffFrame, keysFrame, commitFrame, inRange, headerBytes, isEventLetter, headerOf}
 use Rattle.page.specs.Form.{isEmpty, closed, formBy, formOf}
 use Rattle.page.specs.Page.{pageBytes, enciphered, nodePage, cutOffPage, keysPage, commitPage, payloadOf, cutPage}
@@ -25,7 +27,7 @@ use Rattle.page.specs.declared.Form.{Form}
 use Rattle.page.specs.declared.Form.the-variants.{Empty, Whole, Torn, Spoilt}
 use Rattle.page.proofs.Slices.{part-replicate, part-halves}
 use Rattle.page.proofs.Ranges.{NodeRange, CutOffRange, KeysRange, CommitRange, node-range, cut-off-range, keys-range, commit-range, kinds}
-use Rattle.page.proofs.HeaderLaws.{header-read, header-is, header-range, no-kind, no-colon}
+use Rattle.page.proofs.HeaderLaws.{header-spelt, small-spaces, last-columns, header-read, header-is, header-range, no-kind, no-colon}
 use Rattle.page.proofs.Pages.{enciphered-length, page-length, header-back, closing-back, cut-length, cut-whole, cut-before, cut-after}
 
 -- ---- a form goes by the header, by whether the page is closed and whether it is empty
@@ -105,6 +107,25 @@ module _ (page : List ℕ) (f : Frame) where
           same-true (part page closingAt closingSize) closing (whole-is e .1),
         ) in
         sym (part-halves page headerSize n l) ∙ rw (whole-header e, two)
+
+-- ---- the second number of a whole node: its last four columns hold it
+module _ (page : List ℕ) (f : Frame) (l : length page ≡ pageSize) (whole : formOf page ≡ Whole f) (node : f .kind ≡ nodeLetter) where
+  node-second : (numberIn (part page 24 4) ≡ IsNumber (f .second)) × (f .second ≤ payloadSize)
+  node-second =
+      let xs = part page 0 headerSize in
+      let n : length xs ≡ headerSize = part-length page 0 headerSize (omega arith) in
+      let s = header-spelt xs f (whole-is page f whole .0) in
+      let few = node-range f node .0 (s .ranges) .second in
+      (ap numberIn (sym (part-part page 0 headerSize 24 4 (omega arith))) ∙ sym (last-columns xs n (small-spaces xs (f .second) n (omega arith) (s .second))) ∙ s .second, few)
+
+  pub whole-second : (n : ℕ) → numberIn (part page 24 4) ≡ IsNumber n → (n ≡ f .second) × (n ≤ payloadSize)
+  whole-second n e =
+      let q : IsNumber n ≡ IsNumber (f .second) = sym e ∙ node-second .0 in
+      let z : n ≡ f .second = cc in
+      (z, omega (arith, node-second .1))
+
+  pub no-misspelt : numberIn (part page 24 4) ≡ Misspelt → ⊥
+  no-misspelt e = let q : Misspelt ≡ IsNumber (f .second) = sym e ∙ node-second .0 in let z : _≡_ {A = ℕ} 0 1 = cc in omega arith
 
 -- ---- empty pages
 pub empty-part : (page : List ℕ) (a n : ℕ) → isEmpty page ≡ true → a + n ≤ length page → part page a n ≡ replicate n erased
@@ -236,12 +257,12 @@ module _ (f : Frame) (payload : List ℕ) (ranges : inRange f ≡ true) (l : len
       ]
 
 -- ---- the pages of each kind
-pub form-node : (k sequence file offset position : ℕ) (key payload : List ℕ) → NodeRange (nodeFrame sequence file offset position) → length payload ≡ payloadSize
-    → formOf (cutPage k (nodePage sequence file offset position key payload)) ≡ cutForm k (nodeFrame sequence file offset position)
+pub form-node : (k sequence file offset position second : ℕ) (key bytes : List ℕ) → NodeRange (nodeFrame sequence file offset position second) → length bytes ≡ payloadSize
+    → formOf (cutPage k (nodePage sequence file offset position second key bytes)) ≡ cutForm k (nodeFrame sequence file offset position second)
 unfolding nodePage
-form-node k sequence file offset position key payload r l =
-    let f = nodeFrame sequence file offset position in
-    form-cut f (enciphered key payload) (node-range f refl .1 r) (enciphered-length key payload ∙ l) k
+form-node k sequence file offset position second key bytes r l =
+    let f = nodeFrame sequence file offset position second in
+    form-cut f (enciphered key bytes) (node-range f refl .1 r) (enciphered-length key bytes ∙ l) k
 
 pub form-cut-off : (k sequence file offset : ℕ) → CutOffRange (cutOffFrame sequence file offset)
     → formOf (cutPage k (cutOffPage sequence file offset)) ≡ cutForm k (cutOffFrame sequence file offset)

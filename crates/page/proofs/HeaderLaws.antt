@@ -4,16 +4,17 @@ use native.Mathlib.Omega.{arith}
 use mathlib.Core.Path.{_≡_, refl, sym, ap, _∙_}
 use mathlib.Core.Bool.{Bool, true, false, cond, _&&_}
 use mathlib.Core.List.{List, [], _∷_, _++_, append-assoc, append-nil}
-use lib.ListN.{length, getD, drop, set, length-append, length-drop, drop-of-length-le, take-append-drop}
+use lib.ListN.{length, getD, drop, set, replicate, length-append, length-drop, drop-of-length-le, take-append-drop}
 use lib.Seq.{drop-drop, drop-cons}
 use borrow.Rule.Slice.PartMut.{putMid}
 use Rattle.base.specs.Part.{part, splice}
 use Rattle.base.specs.Each.{Bytes, same}
-use Rattle.base.proofs.Parts.{put-next}
+use Rattle.base.proofs.Parts.{put-next, part-part}
 use Rattle.base.proofs.Choice.{and-true, true-false}
 use Rattle.base.proofs.Eachs.{same-true, same-refl, each-append}
-use Rattle.page.specs.Frame.{headerSize, colonSpace}
+use Rattle.page.specs.Frame.{headerSize, colonSpace, space}
 use Rattle.page.specs.Column.{spell, numberIn, numberThen, pairIn}
+use Rattle.page.specs.Word.{wordBytes}
 use Rattle.page.specs.Header.{inRange, headerBytes, isKind, isEventLetter, headerOf}
 use Rattle.page.specs.declared.Number.{Number}
 use Rattle.page.specs.declared.Number.the-variants.{Is as IsNumber, Misspelt}
@@ -22,6 +23,9 @@ use Rattle.page.specs.declared.Header.{Header}
 use Rattle.page.specs.declared.Header.the-variants.{Is, Invalid}
 use Rattle.page.proofs.Slices.{part-front, part-past, part-back}
 use Rattle.page.proofs.Column.{length-spell, number-spell, number-part, pairThen, pair-then, bytes-spell}
+use Rattle.page.proofs.Counted.{number-spaces}
+use Rattle.page.proofs.Spellings.{high-spaces}
+use Rattle.page.proofs.WordLaws.{part-four, part-join}
 use Rattle.page.proofs.Ranges.{other-kind, event-second, in-range-fits}
 
 -- ---- lengths
@@ -188,8 +192,24 @@ no-kind xs h =
 pub no-colon : (xs : List ℕ) → same (part xs 28 2) colonSpace ≡ false → headerOf xs ≡ Invalid
 no-colon xs h = invalid-by xs λ n u p k s. rw h
 
--- ---- the header of a node or a cut-off: its second number is 0
-pub no-second : (xs : List ℕ) → length xs ≡ headerSize → isEventLetter (getD xs 0 0) ≡ true → same (part xs 20 8) (spell 8 0) ≡ false
+-- ---- a second number of at most four digits: spaces stand in the first four of its columns, and the others hold it
+abbrev pub fourSpaces : List ℕ
+fourSpaces = replicate 4 space
+
+pub small-spaces : (xs : List ℕ) (n : ℕ) → length xs ≡ headerSize → n < 10_000 → numberIn (part xs 20 8) ≡ IsNumber n → part xs 20 4 ≡ fourSpaces
+unfolding wordBytes
+small-spaces xs n l h e =
+    sym (part-part xs 20 8 0 4 (omega arith))
+    ∙ ap (λ (t : List ℕ). part t 0 4) (number-part xs 20 8 n (omega arith) e ∙ sym (high-spaces n h))
+    ∙ part-front fourSpaces (spell 4 n) 4 refl
+
+pub last-columns : (xs : List ℕ) → length xs ≡ headerSize → part xs 20 4 ≡ fourSpaces → numberIn (part xs 20 8) ≡ numberIn (part xs 24 4)
+last-columns xs l e =
+    ap numberIn (sym (part-join xs 20 4 4) ∙ ap (λ (t : List ℕ). t ++ part xs 24 4) e)
+    ∙ rw (part-four xs 24 (omega arith)) (number-spaces 4 _ _)
+
+-- ---- the header of a node or a cut-off: its second number is small
+pub no-second : (xs : List ℕ) → length xs ≡ headerSize → isEventLetter (getD xs 0 0) ≡ true → same (part xs 20 4) fourSpaces ≡ false
     → headerOf xs ≡ Invalid
 no-second xs l k e = go (headerOf xs) refl
   where
@@ -197,10 +217,10 @@ no-second xs l k e = go (headerOf xs) refl
     go Invalid q = refl
     go (Is f) q =
         let s = header-spelt xs f q in
-        let none : f .second ≡ 0 = event-second f (rw (s .kind) at k) (s .ranges) in
-        absurd (true-false (rw (number-part xs 20 8 (f .second) (omega arith) (s .second), none) (same-refl (spell 8 0))) e)
+        let few = event-second f (rw (s .kind) at k) (s .ranges) in
+        absurd (true-false (rw (small-spaces xs (f .second) l (omega arith) (s .second)) (same-refl fourSpaces)) e)
 
--- the numbers before it are read by pairs, the key with a spelt 0
+-- its numbers but the first are read by pairs, the second number by its last four columns
 abbrev eventWith : List ℕ → ℕ → ℕ → ℕ → ℕ → ℕ → Header
 eventWith xs number unit part' key second =
     let f : Frame = record { kind = getD xs 0 0; number = number; unit = unit; part = part'; key = key; second = second } in
@@ -210,17 +230,15 @@ abbrev pub eventHeader : List ℕ → Header
 eventHeader xs =
     numberThen (numberIn (part xs 1 8)) Invalid λ number.
     pairThen (pairIn (part xs 9 3) (part xs 12 4)) Invalid λ unit part'.
-    pairThen (pairIn (part xs 16 4) (spell 4 0)) Invalid (eventWith xs number unit part')
+    pairThen (pairIn (part xs 16 4) (part xs 24 4)) Invalid (eventWith xs number unit part')
 
-pub event-read : (xs : List ℕ) → same (part xs 20 8) (spell 8 0) ≡ true → same (part xs 28 2) colonSpace ≡ true → headerOf xs ≡ eventHeader xs
+pub event-read : (xs : List ℕ) → length xs ≡ headerSize → same (part xs 20 4) fourSpaces ≡ true → same (part xs 28 2) colonSpace ≡ true → headerOf xs ≡ eventHeader xs
 unfolding headerOf
-event-read xs s t =
-    let none : numberIn (part xs 20 8) ≡ numberIn (spell 4 0) =
-    ap numberIn (same-true (part xs 20 8) (spell 8 0) s) ∙ number-spell 8 0 (omega arith) (omega arith) ∙ sym (number-spell 4 0 (omega arith) (omega arith)) in
-    rw (none, t)
+event-read xs l s t =
+    rw (last-columns xs l (same-true (part xs 20 4) fourSpaces s), t)
     (λ i.
     numberThen (numberIn (part xs 1 8)) Invalid λ number.
-    pair-then (part xs 9 3) (part xs 12 4) Invalid (λ unit part'. pair-then (part xs 16 4) (spell 4 0) Invalid (eventWith xs number unit part') i) i)
+    pair-then (part xs 9 3) (part xs 12 4) Invalid (λ unit part'. pair-then (part xs 16 4) (part xs 24 4) Invalid (eventWith xs number unit part') i) i)
 
 -- ---- what is written is what is read
 module _ (k : ℕ) (a b c d e g : List ℕ) (la : length a ≡ 8) (lb : length b ≡ 3) (lc : length c ≡ 4) (ld : length d ≡ 4) (le : length e ≡ 8) (lg : length g ≡ 2) where

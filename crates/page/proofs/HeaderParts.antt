@@ -2,32 +2,36 @@
 use Prim.Native.Nat.{ℕ, suc, _+_, _*_, _/_, _^_, _<_, _≤_}
 use native.Mathlib.Omega.{arith}
 use mathlib.Core.Path.{_≡_, refl, sym, ap, _∙_}
-use mathlib.Core.Bool.{Bool, true, false, _&&_}
-use mathlib.Core.List.{List, _++_, append-assoc}
-use lib.ListN.{length, getD, take, drop, length-append}
+use mathlib.Core.Bool.{Bool, true, false, cond, _&&_}
+use mathlib.Core.List.{List, _++_}
+use lib.ListN.{length, getD, take, drop}
 use lib.Seq.{take-all}
 use lib.Dec.{eqb, leb}
+use borrow.Author.Tests.{eqb-true, eq-eqb, leb-true, le-leb}
 use Rattle.base.specs.Part.{part, splice}
 use Rattle.base.specs.Each.{same}
-use Rattle.base.proofs.Choice.{and-true, and-intro, both-ways}
+use Rattle.base.proofs.Choice.{and-true, and-intro, and-passed, true-false, both-ways}
 use Rattle.base.proofs.Parts.{part-length, part-part, part-splice, part-splice-before, part-splice-after}
 use Rattle.base.proofs.Eachs.{same-true, same-refl}
-use Rattle.page.specs.Frame.{headerSize, colonSpace}
-use Rattle.page.specs.Column.{spell, numberIn, numberThen}
+use Rattle.page.specs.Frame.{headerSize, payloadSize, pageSize, colonSpace}
+use Rattle.page.specs.Column.{spell, columns, valueAfter, numberIn, numberThen}
 use Rattle.page.specs.Word.{wordBytes}
-use Rattle.page.specs.Header.{nodeLetter, nodeFrame, inRange, headerBytes, headerOf, nodeWith, withPart, headerLike}
+use Rattle.page.specs.Header.{nodeLetter, nodeFrame, inRange, headerBytes, headerOf, nodeWith, nodeSpelt, secondRight, withPart, headerLike}
+use Rattle.page.specs.declared.Number.{Number}
+use Rattle.page.specs.declared.Number.the-variants.{Is as IsNumber, Misspelt}
 use Rattle.page.specs.declared.Frame.{Frame}
-use Rattle.page.specs.declared.Header.the-variants.{Is}
-use Rattle.page.proofs.Slices.{part-all}
-use Rattle.page.proofs.Column.{length-spell}
+use Rattle.page.specs.declared.Header.{Header}
+use Rattle.page.specs.declared.Header.the-variants.{Is, Invalid}
+use Rattle.page.proofs.Slices.{part-all, part-front, part-back}
+use Rattle.page.proofs.Column.{value-lt, length-spell, number-spell, number-part}
 use Rattle.page.specs.Plan.{filePlan}
 use Rattle.page.proofs.Plans.{place-at, plan-below}
-use Rattle.page.proofs.Ranges.{node-range}
-use Rattle.page.proofs.HeaderLaws.{header-is, length-header}
-use Rattle.page.specs.Form.{closed, formOf, wholeLike}
+use Rattle.page.proofs.Ranges.{node-range, in-range-fits}
+use Rattle.page.proofs.HeaderLaws.{Spelt, spelt-header, header-spelt, fourSpaces, small-spaces, header-is, length-header}
+use Rattle.page.specs.Form.{closed, formOf, wholeNode, wholeLike}
 use Rattle.page.specs.declared.Form.the-variants.{Whole}
 use Rattle.page.proofs.FormLaws.{whole-is}
-use Rattle.page.proofs.HeaderTests.{after-number, fields-decide, put-part, spelling-decides, whole-decides}
+use Rattle.page.proofs.HeaderTests.{and-failed, put-part, spelling-decides, whole-decides, whole-node-decides}
 use Rattle.page.proofs.Spellings.{last-three}
 use Rattle.page.proofs.WordLaws.{part-join, word-length, words-decide, bytes-joined, same-append}
 
@@ -122,57 +126,119 @@ module _ (xs : List ℕ) (v text w file offset : ℕ) (e : wordBytes 8 v ≡ par
       joined : wordBytes 7 (text / 256 + w * 0x1000000) ≡ spell 3 file ++ spell 4 offset
       joined = bytes-joined 3 4 7 (text / 256) w refl (omega arith) ∙ (λ i. last-three file text t i ++ o i)
 
--- ---- what follows a header's number, field by field
-regroup : (l a b c d : Bool) → (((l && a) && b) && c) && d ≡ l && (a && (b && (c && d)))
-regroup false a b c d = refl
-regroup true false b c d = refl
-regroup true true false c d = refl
-regroup true true true c d = refl
+-- ---- a node of given fields, whatever its sequence and its second number
+-- the number of eight columns is a sequence
+number-value : (xs : List ℕ) (n : ℕ) → numberIn xs ≡ IsNumber n → valueAfter 0 xs ≡ n
+unfolding numberIn
+number-value xs n e = go (same (spell (length xs) (valueAfter 0 xs)) xs) e
+  where
+    go : (b : Bool) → cond b (IsNumber (valueAfter 0 xs)) Misspelt ≡ IsNumber n → valueAfter 0 xs ≡ n
+    go true t = cc
+    go false t = absurd (let z : _≡_ {A = ℕ} 0 1 = cc in omega arith)
+
+from-one : (m : Number) → numberThen m false (leb 1) ≡ true → (n : ℕ) × (m ≡ IsNumber n) × (1 ≤ n)
+from-one (IsNumber n) e = (n, refl, leb-true 1 n e)
+from-one Misspelt e = absurd (true-false e refl)
+
+-- a second number that a node may have; 224 is one
+pub longest-right : secondRight (wordBytes 8 0x3432322020202020) ≡ true
+unfolding numberIn valueAfter spell columns same wordBytes
+longest-right = refl
+
+-- a number so small has spaces in the first four columns
+pub unspaced-wrong : (xs : List ℕ) → length xs ≡ headerSize → same (part xs 20 4) fourSpaces ≡ false → secondRight (part xs 20 8) ≡ false
+unspaced-wrong xs l e = go (numberIn (part xs 20 8)) refl
+  where
+    go : (m : Number) → numberIn (part xs 20 8) ≡ m → numberThen m false (λ n. leb n payloadSize) ≡ false
+    go Misspelt q = refl
+    go (IsNumber n) q = at-most (leb n payloadSize) refl
+      where
+        at-most : (b : Bool) → leb n payloadSize ≡ b → leb n payloadSize ≡ false
+        at-most false f = f
+        at-most true f = absurd (true-false (rw (small-spaces xs n l (omega (arith, leb-true n payloadSize f)) q) (same-refl fourSpaces)) e)
+
+second-held : (m : Number) → numberThen m false (λ n. leb n payloadSize) ≡ true → (n : ℕ) × (m ≡ IsNumber n) × (n ≤ payloadSize)
+second-held (IsNumber n) e = (n, refl, leb-true n payloadSize e)
+second-held Misspelt e = absurd (true-false e refl)
 
 module _ (xs : List ℕ) (file offset p : ℕ) (l : length xs ≡ headerSize) where
   abbrev h : Frame
-  h = nodeFrame 1 file offset p
+  h = nodeFrame 1 file offset p 0
 
-  abbrev fields : List ℕ
-  fields = (spell 3 file ++ spell 4 offset) ++ (spell 4 p ++ (spell 8 0 ++ colonSpace))
+  found : inRange h ≡ true → nodeSpelt file offset p xs && secondRight (part xs 20 8) ≡ true → nodeWith file offset p (headerOf xs) ≡ true
+  found r t =
+      let c = and-true (nodeSpelt file offset p xs) (secondRight (part xs 20 8)) t in
+      let a = and-true _ (numberThen (numberIn (part xs 1 8)) false (leb 1)) (c .0) in
+      let b = and-true _ (same (part xs 28 2) colonSpace) (a .0) in
+      let d = and-true _ (same (part xs 16 4) (spell 4 p)) (b .0) in
+      let e = and-true (eqb (getD xs 0 0) nodeLetter) (same (part xs 9 7) (spell 3 file ++ spell 4 offset)) (d .0) in
+      let n = from-one (numberIn (part xs 1 8)) (a .1) in
+      let k = second-held (numberIn (part xs 20 8)) (c .1) in
+      let w = in-range-fits h r in
+      let place = same-true _ _ (e .1) in
+      let width : length (part xs 1 8) ≡ 8 = part-length xs 1 8 (omega arith) in
+      let small : n .0 < 10 ^ 8 = rw (number-value (part xs 1 8) (n .0) (n .1), width) at (value-lt (part xs 1 8) 0 0 (omega arith)) in
+      let range = node-range h refl .0 r in
+      let f : Frame = nodeFrame (n .0) file offset p (k .0) in
+      let s : Spelt xs f = record {
+        kind = eqb-true _ _ (e .0);
+        number = n .1;
+        unit = ap numberIn (sym (part-part xs 9 7 0 3 (omega arith)) ∙ ap (λ (t : List ℕ). part t 0 3) place ∙ part-front (spell 3 file) (spell 4 offset) 3 (length-spell 3 file (omega arith))) ∙ number-spell 3 file (omega arith) (w .unit);
+        part' = ap numberIn (sym (part-part xs 9 7 3 4 (omega arith)) ∙ ap (λ (t : List ℕ). part t 3 4) place ∙ part-back (spell 3 file) (spell 4 offset) 3 4 (length-spell 3 file (omega arith)) (length-spell 4 offset (omega arith))) ∙ number-spell 4 offset (omega arith) (w .part);
+        key = ap numberIn (same-true _ _ (d .1)) ∙ number-spell 4 p (omega arith) (w .key);
+        second = k .1;
+        colon = b .1;
+        ranges = node-range f refl .1 (record {
+          from-one = n .2;
+          number = omega arith;
+          file = range .file;
+          offset = range .offset;
+          position = range .position;
+          second = k .2;
+        });
+      } in
+      rw (spelt-header xs f s) (rw (eq-eqb file file refl, eq-eqb offset offset refl, eq-eqb p p refl))
 
-  length-place : length (spell 3 file ++ spell 4 offset) ≡ 7
-  length-place = simp length-append (omega (arith, length-spell 3 file (omega arith), length-spell 4 offset (omega arith)))
+  with-fields : (m : Header) → headerOf xs ≡ m → nodeWith file offset p m ≡ true → nodeSpelt file offset p xs && secondRight (part xs 20 8) ≡ true
+  with-fields Invalid e t = absurd (true-false t refl)
+  with-fields (Is f) e t =
+      let a = and-true _ (eqb (f .key) p) t in
+      let b = and-true _ (eqb (f .part) offset) (a .0) in
+      let c = and-true (eqb (f .kind) nodeLetter) (eqb (f .unit) file) (b .0) in
+      let kind = eqb-true _ _ (c .0) in
+      let s = header-spelt xs f e in
+      let range = node-range f kind .0 (s .ranges) in
+      let place : part xs 9 7 ≡ spell 3 file ++ spell 4 offset =
+      sym (part-join xs 9 3 4)
+      ∙ (λ i. (number-part xs 9 3 (f .unit) (omega arith) (s .unit) ∙ ap (spell 3) (eqb-true _ _ (c .1))) i ++ (number-part xs 12 4 (f .part) (omega arith) (s .part') ∙ ap (spell 4) (eqb-true _ _ (b .1))) i) in
+      let key : part xs 16 4 ≡ spell 4 p = number-part xs 16 4 (f .key) (omega arith) (s .key) ∙ ap (spell 4) (eqb-true _ _ (a .1)) in
+      let second : secondRight (part xs 20 8) ≡ true = rw (s .second) (le-leb (f .second) payloadSize (range .second)) in
+      and-intro (nodeSpelt file offset p xs) _
+      (and-intro _ _
+      (and-intro _ _ (and-intro _ _ (and-intro _ _ (eq-eqb _ _ (s .kind ∙ kind)) (rw place (same-refl (spell 3 file ++ spell 4 offset)))) (rw key (same-refl (spell 4 p)))) (s .colon))
+      (rw (s .number) (le-leb 1 (f .number) (range .from-one))))
+      second
 
-  length-fields : length fields ≡ 21
-  length-fields = simp length-append (omega (arith, length-spell 3 file (omega arith), length-spell 4 offset (omega arith), length-spell 4 p (omega arith), length-spell 8 0 (omega arith)))
+  pub node-decides : inRange h ≡ true → nodeSpelt file offset p xs && secondRight (part xs 20 8) ≡ nodeWith file offset p (headerOf xs)
+  node-decides r = both-ways _ _ (found r) (with-fields (headerOf xs) refl)
 
-  fields-are : part (headerBytes h) 9 21 ≡ fields
-  fields-are =
-      after-number h h refl refl refl refl h
-      ∙ ap (λ (t : List ℕ). part t 0 21) (sym (append-assoc (spell 3 file) (spell 4 offset) (spell 4 p ++ (spell 8 0 ++ colonSpace))))
-      ∙ part-all fields 21 length-fields
-
-  xs-joined : part xs 9 21 ≡ part xs 9 7 ++ (part xs 16 4 ++ (part xs 20 8 ++ part xs 28 2))
-  xs-joined = sym (rw (part-join xs 20 8 2, part-join xs 16 4 10) (part-join xs 9 7 14))
-
-  lengths : (a n : ℕ) (ys : List ℕ) → a + n ≤ 30 → length ys ≡ n → length (part xs a n) ≡ length ys
-  lengths a n ys g e = part-length xs a n (omega arith) ∙ sym e
-
-  pub fields-apart : same (part xs 9 21) (part (headerBytes h) 9 21) ≡ same (part xs 9 7) (spell 3 file ++ spell 4 offset) && (same (part xs 16 4) (spell 4 p) && (same (part xs 20 8) (spell 8 0) && same (part xs 28 2) colonSpace))
-  fields-apart =
-      rw (xs-joined, fields-are)
-      (same-append (part xs 9 7) _ (spell 3 file ++ spell 4 offset) _ (lengths 9 7 (spell 3 file ++ spell 4 offset) (omega arith) length-place)
-      ∙ ap (λ (b : Bool). same (part xs 9 7) (spell 3 file ++ spell 4 offset) && b)
-      (same-append (part xs 16 4) _ (spell 4 p) _ (lengths 16 4 (spell 4 p) (omega arith) (length-spell 4 p (omega arith)))
-      ∙ ap (λ (b : Bool). same (part xs 16 4) (spell 4 p) && b)
-      (same-append (part xs 20 8) (part xs 28 2) (spell 8 0) colonSpace (lengths 20 8 (spell 8 0) (omega arith) (length-spell 8 0 (omega arith))))))
-
-  pub node-decides : inRange h ≡ true → (((((eqb (getD xs 0 0) nodeLetter && same (part xs 9 7) (spell 3 file ++ spell 4 offset)) && same (part xs 16 4) (spell 4 p)) && same (part xs 20 8) (spell 8 0)) && same (part xs 28 2) colonSpace) && numberThen (numberIn (part xs 1 8)) false (leb 1)) ≡ nodeWith file offset p (headerOf xs)
-  node-decides r =
-      ap (λ (b : Bool). b && numberThen (numberIn (part xs 1 8)) false (leb 1))
-      (regroup (eqb (getD xs 0 0) nodeLetter) (same (part xs 9 7) (spell 3 file ++ spell 4 offset)) (same (part xs 16 4) (spell 4 p)) (same (part xs 20 8) (spell 8 0)) (same (part xs 28 2) colonSpace)
-      ∙ ap (λ (b : Bool). eqb (getD xs 0 0) nodeLetter && b) (sym fields-apart))
-      ∙ fields-decide xs file offset p l r
-
-  -- its numbers have at most four digits
-  pub node-small : inRange h ≡ true → (offset < 10_000) × (p < 10_000)
+  -- its numbers have at most three digits
+  pub node-small : inRange h ≡ true → (offset < 1000) × (p < 1000)
   node-small r =
       let range = node-range h refl .0 r in
       let below = plan-below file offset _ (place-at filePlan file offset (range .offset)) in
       (omega arith, omega (arith, range .position))
+
+-- ---- a whole node: its header but the second number, the closing, and that number
+exchanged : (a b c : Bool) → (a && b) && c ≡ (a && c) && b
+exchanged false b c = refl
+exchanged true false c = sym (and-failed c)
+exchanged true true c = sym (and-passed c)
+
+pub whole-node-parts : (page : List ℕ) (file offset p : ℕ) → length page ≡ pageSize → inRange (nodeFrame 1 file offset p 0) ≡ true
+    → (nodeSpelt file offset p (part page 0 headerSize) && closed page) && secondRight (part (part page 0 headerSize) 20 8) ≡ wholeNode file offset p (formOf page)
+whole-node-parts page file offset p l r =
+    let xs = part page 0 headerSize in
+    exchanged (nodeSpelt file offset p xs) (closed page) (secondRight (part xs 20 8))
+    ∙ ap (λ (b : Bool). b && closed page) (node-decides xs file offset p (part-length page 0 headerSize (omega arith)) r)
+    ∙ whole-node-decides page file offset p

@@ -6,17 +6,19 @@ use mathlib.Core.Path.{_≡_, refl, sym, ap, _∙_}
 use mathlib.Core.List.{List, _++_, append-assoc, append-nil}
 use lib.ListN.{length, take, drop, replicate, length-append, length-replicate, length-take, length-drop, drop-of-length-le}
 use lib.Seq.{take-at, take-all}
+use borrow.Author.Tests.{ne-eqb}
 use borrow.Rule.Slice.PartMut.{putMid}
 use Rattle.base.specs.Part.{part, splice}
 use Rattle.base.proofs.Parts.{part-part, splice-length, part-splice-before, put-next}
 use Rattle.cipher.specs.CounterMode.{counterMode}
 use Rattle.cipher.specs.KeyExpansion.{keyExpansion}
-use Rattle.cipher.proofs.Laws.{length-counter-mode, counter-mode-twice}
+use Rattle.cipher.proofs.Laws.{length-counter-mode, counter-mode-twice, counter-mode-take}
 use Rattle.page.specs.Frame.{headerSize, payloadSize, closingSize, pageSize, closingAt, erased, closing, space}
 use Rattle.page.specs.Column.{spell}
-use Rattle.page.specs.Header.{partAt, partWidth, headerBytes, nodeFrame, cutOffFrame, keysFrame, commitFrame}
+use Rattle.page.specs.Form.{secondOf, formOf}
+use Rattle.page.specs.Header.{partAt, partWidth, headerBytes, lengthOf, nodeFrame, cutOffFrame, keysFrame, commitFrame}
 use Rattle.page.specs.Key.{keySize, keysInPage, keyInPage}
-use Rattle.page.specs.Page.{pageBytes, pageLike, enciphered, nodePage, cutOffPage, keysPage, commitPage, payloadOf, cutPage}
+use Rattle.page.specs.Page.{pageBytes, pageLike, enciphered, padded, deciphered, nodePage, cutOffPage, keysPage, commitPage, payloadOf, cutPage}
 use Rattle.page.specs.declared.Frame.{Frame}
 use Rattle.page.proofs.Column.{length-spell}
 use Rattle.page.proofs.HeaderLaws.{length-header}
@@ -92,25 +94,59 @@ module _ (header : List ℕ) (n : ℕ) (payload : List ℕ) (l : length header �
   like-written x = closed-parts (splice header partAt (spell partWidth n)) payload x put-part-length h
 
 -- ---- the pages of each kind
-pub node-length : (sequence file offset position : ℕ) (key payload : List ℕ) → length payload ≡ payloadSize → length (nodePage sequence file offset position key payload) ≡ pageSize
+pub node-length : (sequence file offset position second : ℕ) (key bytes : List ℕ) → length bytes ≡ payloadSize → length (nodePage sequence file offset position second key bytes) ≡ pageSize
 unfolding nodePage
-node-length sequence file offset position key payload h =
-    page-length (nodeFrame sequence file offset position) (enciphered key payload) (enciphered-length key payload ∙ h)
+node-length sequence file offset position second key bytes h =
+    page-length (nodeFrame sequence file offset position second) (enciphered key bytes) (enciphered-length key bytes ∙ h)
 
--- a node's payload, deciphered under its key
-pub node-back : (sequence file offset position : ℕ) (key payload : List ℕ) → length payload ≡ payloadSize
-    → enciphered key (payloadOf (nodePage sequence file offset position key payload)) ≡ payload
+-- a node's 224 bytes, deciphered under its key
+pub node-back : (sequence file offset position second : ℕ) (key bytes : List ℕ) → length bytes ≡ payloadSize
+    → enciphered key (payloadOf (nodePage sequence file offset position second key bytes)) ≡ bytes
 unfolding nodePage
-node-back sequence file offset position key payload h =
-    rw (payload-back (nodeFrame sequence file offset position) (enciphered key payload) (enciphered-length key payload ∙ h)) (enciphered-twice key payload)
+node-back sequence file offset position second key bytes h =
+    rw (payload-back (nodeFrame sequence file offset position second) (enciphered key bytes) (enciphered-length key bytes ∙ h)) (enciphered-twice key bytes)
 
--- a node's page, written with the payload plain and then enciphered in place
-pub node-written : (sequence file offset position : ℕ) (key payload : List ℕ) → length payload ≡ payloadSize
-    → (f : Frame) (page page' : List ℕ) → f ≡ nodeFrame sequence file offset position → page ≡ pageBytes f payload → page' ≡ splice page headerSize (enciphered key (payloadOf page))
-    → page' ≡ nodePage sequence file offset position key payload
+-- a node's page, written with its bytes plain and then enciphered in place
+pub node-written : (sequence file offset position second : ℕ) (key bytes : List ℕ) → length bytes ≡ payloadSize
+    → (f : Frame) (page page' : List ℕ) → f ≡ nodeFrame sequence file offset position second → page ≡ pageBytes f bytes → page' ≡ splice page headerSize (enciphered key (payloadOf page))
+    → page' ≡ nodePage sequence file offset position second key bytes
 unfolding nodePage
-node-written sequence file offset position key payload h f page page' e p q =
-    q ∙ rw (p, payload-back f payload h, page-splice f payload h (enciphered key payload) (enciphered-length key payload ∙ h), e)
+node-written sequence file offset position second key bytes h f page page' e p q =
+    q ∙ rw (p, payload-back f bytes h, page-splice f bytes h (enciphered key bytes) (enciphered-length key bytes ∙ h), e)
+
+-- ---- payloads shorter than a page
+module _ (payload : List ℕ) where
+  pub padded-length : length payload ≤ payloadSize → length (padded payload) ≡ payloadSize
+  unfolding padded
+  padded-length h = simp (length-append, length-replicate) (omega arith)
+
+  -- what is read back of a padded payload
+  pub padded-back : 1 ≤ length payload → take (lengthOf (length payload)) (padded payload) ≡ payload
+  unfolding padded
+  padded-back h = rw (ne-eqb (length payload) 0 (λ z. omega arith)) (take-at payload _ (length payload) refl)
+
+  -- the payload copied to the front, the rest filled
+  pub padded-written : (x zs ys : List ℕ) → length x ≡ payloadSize → length payload ≤ payloadSize → zs ≡ payload
+      → ys ≡ replicate (length (take (payloadSize - length payload) (drop (length payload) (zs ++ drop (length payload - 0) x)))) space
+      → putMid (length payload) (payloadSize - length payload) (zs ++ drop (length payload - 0) x) ys ≡ padded payload
+  unfolding padded
+  padded-written x zs ys l h e f =
+      let n : length (take (payloadSize - length payload) (drop (length payload) (payload ++ drop (length payload - 0) x))) ≡ payloadSize - length payload = simp (length-take, length-drop, length-append) (omega arith) in
+      let g : ys ≡ replicate (payloadSize - length payload) space = f ∙ rw (e, n) in
+      rw e
+      (put-next payload (drop (length payload - 0) x) ys (length payload) (payloadSize - length payload) refl
+      ∙ rw (drop-of-length-le (drop (length payload - 0) x) {i = payloadSize - length payload} (simp length-drop (omega arith)), g) (append-nil _))
+
+-- the first bytes of a page's payload, deciphered alone
+pub front-enciphered : (key w page s zs : List ℕ) (n : ℕ) → n ≤ payloadSize → zs ≡ counterMode w s → w ≡ keyExpansion key → s ≡ part page headerSize n → zs ≡ take n (enciphered key (payloadOf page))
+unfolding enciphered payloadOf part
+front-enciphered key w page s zs n h e k f =
+    e ∙ rw (k, f, counter-mode-take (keyExpansion key) (part page headerSize payloadSize) n) (ap (counterMode (keyExpansion key)) (sym (part-part page headerSize payloadSize 0 n (omega arith))))
+
+-- what a page holds under a key, where its second number and its 224 bytes are known
+pub deciphered-is : (key bytes page : List ℕ) (second : ℕ) → secondOf (formOf page) ≡ second → payloadOf page ≡ enciphered key bytes → deciphered key page ≡ take (lengthOf second) bytes
+unfolding deciphered
+deciphered-is key bytes page second s e = rw (s, e, enciphered-twice key bytes)
 
 pub cut-off-length : (sequence file offset : ℕ) → length (cutOffPage sequence file offset) ≡ pageSize
 unfolding cutOffPage

@@ -7,6 +7,7 @@ use mathlib.Core.Bool.{Bool, true, false, cond, _&&_, _||_}
 use lib.Dec.{eqb, leb, ltb}
 use borrow.Author.Tests.{eqb-true, eq-eqb, leb-true, le-leb, ltb-true, lt-ltb}
 use Rattle.base.proofs.Choice.{and-true, and-intro, true-false}
+use Rattle.page.specs.Frame.{payloadSize}
 use Rattle.page.specs.Plan.{filePlan, lastFile, places, countOf, startOf}
 use Rattle.page.specs.Header.{nodeLetter, cutOffLetter, keysLetter, commitLetter, lastNumber, lastPosition, lastKeyBlock, lastKeyPage, lastPart, within, nodeFrame, cutOffFrame, keysFrame, commitFrame, inPlan, nodeRanges, cutOffRanges, keysRanges, commitRanges, inRange, isKind, isEventLetter}
 use Rattle.page.specs.declared.Frame.{Frame}
@@ -19,7 +20,7 @@ pub record NodeRange (f : Frame) : Type 0 where
   pub file : f .unit ≤ lastFile
   pub offset : f .part < countOf filePlan (f .unit)
   pub position : f .key ≤ lastPosition
-  pub second : f .second ≡ 0
+  pub second : f .second ≤ payloadSize
 
 pub record CutOffRange (f : Frame) : Type 0 where
   pub from-one : 1 ≤ f .number
@@ -83,7 +84,7 @@ module _ (f : Frame) where
     where
       to : nodeRanges f ≡ true → NodeRange f
       to e =
-          let t = and4 (within 1 lastNumber (f .number)) (inPlan f) (leb (f .key) lastPosition) (eqb (f .second) 0) e in
+          let t = and4 (within 1 lastNumber (f .number)) (inPlan f) (leb (f .key) lastPosition) (leb (f .second) payloadSize) e in
           let n = within-true 1 lastNumber (f .number) (t .0) in
           let p = plan-true f (t .1) in
           record {
@@ -92,7 +93,7 @@ module _ (f : Frame) where
             file = p .0;
             offset = p .1;
             position = leb-true (f .key) lastPosition (t .2);
-            second = eqb-true (f .second) 0 (t .3);
+            second = leb-true (f .second) payloadSize (t .3);
           }
 
       from : NodeRange f → nodeRanges f ≡ true
@@ -101,7 +102,7 @@ module _ (f : Frame) where
             within-intro 1 lastNumber (f .number) (r .from-one) (r .number),
             plan-intro f (r .file) (r .offset),
             le-leb (f .key) lastPosition (r .position),
-            eq-eqb (f .second) 0 (r .second),
+            le-leb (f .second) payloadSize (r .second),
           )
 
   pub cut-off-range : f .kind ≡ cutOffLetter → (inRange f ≡ true) ↔ CutOffRange f
@@ -211,21 +212,19 @@ module _ (f : Frame) where
       go false false false true p q r s e = inr (inr (inr (eqb-true (f .kind) commitLetter s)))
       go false false false false p q r s e = absurd (true-false e refl)
 
-  -- the second number of a node and of a cut-off is 0
-  pub event-second : isEventLetter (f .kind) ≡ true → inRange f ≡ true → f .second ≡ 0
+  -- the second number of a node is at most 224, that of a cut-off is 0
+  pub event-second : isEventLetter (f .kind) ≡ true → inRange f ≡ true → f .second ≤ payloadSize
   event-second h e = go (kinds e)
     where
-      go : (f .kind ≡ nodeLetter) ⊎ (f .kind ≡ cutOffLetter) ⊎ (f .kind ≡ keysLetter) ⊎ (f .kind ≡ commitLetter) → f .second ≡ 0
+      go : (f .kind ≡ nodeLetter) ⊎ (f .kind ≡ cutOffLetter) ⊎ (f .kind ≡ keysLetter) ⊎ (f .kind ≡ commitLetter) → f .second ≤ payloadSize
       go (inl k) = node-range k .0 e .second
-      go (inr (inl k)) = cut-off-range k .0 e .second
+      go (inr (inl k)) = let r = cut-off-range k .0 e in omega (arith, r .second)
       go (inr (inr (inl k))) = absurd (true-false (rw k at h) refl)
       go (inr (inr (inr k))) = absurd (true-false (rw k at h) refl)
 
   -- a header in range is that of its kind and fields
-  pub node-is : f .kind ≡ nodeLetter → inRange f ≡ true → f ≡ nodeFrame (f .number) (f .unit) (f .part) (f .key)
-  node-is k e =
-      let r = node-range k .0 e in
-      λ i. record { kind = k i; number = f .number; unit = f .unit; part = f .part; key = f .key; second = r .second i }
+  pub node-is : f .kind ≡ nodeLetter → inRange f ≡ true → f ≡ nodeFrame (f .number) (f .unit) (f .part) (f .key) (f .second)
+  node-is k e = λ i. record { kind = k i; number = f .number; unit = f .unit; part = f .part; key = f .key; second = f .second }
 
   pub cut-off-is : f .kind ≡ cutOffLetter → inRange f ≡ true → f ≡ cutOffFrame (f .number) (f .unit) (f .part)
   cut-off-is k e =

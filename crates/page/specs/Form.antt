@@ -29,6 +29,13 @@ formBy Invalid page = cond (isEmpty page) Empty Spoilt
 unfoldable pub formOf : List ℕ → Form
 formOf page = formBy (headerOf (part page 0 headerSize)) page
 
+-- the second number in the header of a form, 0 where it has none
+abbrev pub secondOf : Form → ℕ
+secondOf Empty = 0
+secondOf (Whole f) = f .second
+secondOf (Torn f) = f .second
+secondOf Spoilt = 0
+
 -- ---- tests of a form
 -- a whole page with a given header
 abbrev pub wholeWith : Frame → Form → Bool

@@ -6,7 +6,7 @@ use lib.ListN.{length, getD}
 use lib.Dec.{eqb, leb, ltb}
 use Rattle.base.specs.Part.{part}
 use Rattle.base.specs.Each.{same}
-use Rattle.page.specs.Frame.{colonSpace}
+use Rattle.page.specs.Frame.{payloadSize, colonSpace}
 use Rattle.page.specs.Column.{spell, numberIn, numberThen}
 use Rattle.page.specs.Plan.{filePlan, lastFile, countOf}
 use Rattle.page.specs.declared.Number.{Number}
@@ -45,14 +45,18 @@ lastKeyPage = 15
 abbrev pub lastPart : ℕ
 lastPart = 9
 
+-- a node's second number is the length of its payload, at most 224; an older recorder's is 0 and means 224
+abbrev pub lengthOf : ℕ → ℕ
+lengthOf second = cond (eqb second 0) payloadSize second
+
 -- n is from low to high
 abbrev pub within : ℕ → ℕ → ℕ → Bool
 within low high n = leb low n && leb n high
 
 -- ---- the headers of each kind, from their fields; an unused field is 0
-abbrev pub nodeFrame : ℕ → ℕ → ℕ → ℕ → Frame
-nodeFrame sequence file offset key =
-    record { kind = nodeLetter; number = sequence; unit = file; part = offset; key = key; second = 0 }
+abbrev pub nodeFrame : ℕ → ℕ → ℕ → ℕ → ℕ → Frame
+nodeFrame sequence file offset key second =
+    record { kind = nodeLetter; number = sequence; unit = file; part = offset; key = key; second = second }
 
 abbrev pub cutOffFrame : ℕ → ℕ → ℕ → Frame
 cutOffFrame sequence file offset =
@@ -72,7 +76,7 @@ abbrev pub inPlan : Frame → Bool
 inPlan f = leb (f .unit) lastFile && ltb (f .part) (countOf filePlan (f .unit))
 
 abbrev pub nodeRanges : Frame → Bool
-nodeRanges f = within 1 lastNumber (f .number) && inPlan f && leb (f .key) lastPosition && eqb (f .second) 0
+nodeRanges f = within 1 lastNumber (f .number) && inPlan f && leb (f .key) lastPosition && leb (f .second) payloadSize
 
 abbrev pub cutOffRanges : Frame → Bool
 cutOffRanges f = within 1 lastNumber (f .number) && inPlan f && eqb (f .key) 0 && eqb (f .second) 0
@@ -174,6 +178,23 @@ headerWith h Invalid = false
 abbrev pub nodeWith : ℕ → ℕ → ℕ → Header → Bool
 nodeWith file offset p (Is f) = eqb (f .kind) nodeLetter && eqb (f .unit) file && eqb (f .part) offset && eqb (f .key) p
 nodeWith file offset p Invalid = false
+
+-- 30 bytes as a node with these fields has them, whatever its sequence and its second number
+abbrev pub nodeSpelt : ℕ → ℕ → ℕ → List ℕ → Bool
+nodeSpelt file offset p xs =
+    eqb (getD xs kindAt 0) nodeLetter
+    && same (part xs unitAt 7) (spell unitWidth file ++ spell partWidth offset)
+    && same (part xs keyAt keyWidth) (spell keyWidth p)
+    && same (part xs colonAt (length colonSpace)) colonSpace
+    && numberThen (numberIn (part xs numberAt numberWidth)) false (leb 1)
+
+-- columns that hold a second number that a node may have
+abbrev pub secondRight : List ℕ → Bool
+secondRight columns = numberThen (numberIn columns) false (λ n. leb n payloadSize)
+
+-- where the last four columns of the second number start: those before them are spaces in a node and a cut-off
+abbrev pub secondLastAt : ℕ
+secondLastAt = 24
 
 -- a header with another part
 abbrev pub withPart : ℕ → Frame → Frame

@@ -1,13 +1,14 @@
 -- The 256 bytes of each kind of page (document 01, "Page forms" and "Cipher"), and what a program that is cut leaves of them.
 use Prim.Native.Nat.{ℕ, _-_}
 use mathlib.Core.List.{List, _++_}
-use lib.ListN.{take, replicate}
+use lib.ListN.{length, take, replicate}
 use Rattle.base.specs.Part.{part, splice}
 use Rattle.cipher.specs.KeyExpansion.{keyExpansion}
 use Rattle.cipher.specs.CounterMode.{counterMode}
 use Rattle.page.specs.Frame.{headerSize, payloadSize, pageSize, closing, erased, space}
 use Rattle.page.specs.Column.{spell}
-use Rattle.page.specs.Header.{partAt, partWidth, headerBytes, nodeFrame, cutOffFrame, keysFrame, commitFrame}
+use Rattle.page.specs.Header.{partAt, partWidth, headerBytes, lengthOf, nodeFrame, cutOffFrame, keysFrame, commitFrame}
+use Rattle.page.specs.Form.{secondOf, formOf}
 use Rattle.page.specs.declared.Frame.{Frame}
 
 -- header, payload, closing
@@ -22,9 +23,13 @@ pageLike header n payload = splice header partAt (spell partWidth n) ++ (payload
 unfoldable pub enciphered : List ℕ → List ℕ → List ℕ
 enciphered key payload = counterMode (keyExpansion key) payload
 
--- N: a node of a sequence, file, offset and key position, its payload enciphered under a key
-unfoldable pub nodePage : ℕ → ℕ → ℕ → ℕ → List ℕ → List ℕ → List ℕ
-nodePage sequence file offset position key payload = pageBytes (nodeFrame sequence file offset position) (enciphered key payload)
+-- a payload of at most 224 bytes, with spaces after it
+unfoldable pub padded : List ℕ → List ℕ
+padded payload = payload ++ replicate (payloadSize - length payload) space
+
+-- N: a node of a sequence, file, offset, key position and second number, its 224 bytes enciphered under a key
+unfoldable pub nodePage : ℕ → ℕ → ℕ → ℕ → ℕ → List ℕ → List ℕ → List ℕ
+nodePage sequence file offset position second key bytes = pageBytes (nodeFrame sequence file offset position second) (enciphered key bytes)
 
 -- D: a cut-off of a sequence, file and first offset removed; its payload is spaces
 unfoldable pub cutOffPage : ℕ → ℕ → ℕ → List ℕ
@@ -41,6 +46,10 @@ commitPage epoch i covered payload = pageBytes (commitFrame epoch i covered) pay
 -- the payload of a page's 256 bytes
 unfoldable pub payloadOf : List ℕ → List ℕ
 payloadOf page = part page headerSize payloadSize
+
+-- the payload of a node's page, deciphered under a key: as many bytes as its header says
+unfoldable pub deciphered : List ℕ → List ℕ → List ℕ
+deciphered key page = take (lengthOf (secondOf (formOf page))) (enciphered key (payloadOf page))
 
 -- what a program leaves that was cut at byte k
 unfoldable pub cutPage : ℕ → List ℕ → List ℕ

@@ -35,7 +35,7 @@ const EVEN_BYTES: u64 = 0x00ff00ff00ff00ff;
 const EVEN_PAIRS: u64 = 0x0000ffff0000ffff;
 
 // Four columns of spaces, and the number 0 in four columns and in eight, as words.
-const SPACES: u32 = 0x20202020;
+pub(crate) const SPACES: u32 = 0x20202020;
 
 pub(crate) const SPELT_ZERO4: u32 = 0x30202020;
 
@@ -102,6 +102,22 @@ pub fn spelt4(n: u32) -> u32
         return tail + 0x3020 + high * 0x100;
     }
     tail + 0x3030 + high / 10 + high % 10 * 0x100
+}
+
+// The same of a number below 1,000.
+pub(crate) fn spelt_three(n: u32) -> u32
+    requires { ⌜ n < 1000 ⌝ }
+    ensures { λ r. ⌜ wordBytes 4 r ≡ spell 4 n ⌝ }
+{
+    if n < 10 {
+        return SPELT_ZERO4 + n * 0x1000000;
+    }
+    let low = n % 100;
+    let last_two = 0x30300000 + low / 10 * 0x10000 + low % 10 * 0x1000000;
+    if n < 100 {
+        return last_two + 0x2020;
+    }
+    last_two + 0x3020 + n / 100 * 0x100
 }
 
 // Four columns of any number, as one word: of a longer one its last four digits.

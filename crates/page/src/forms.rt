@@ -2,19 +2,21 @@
 use crate::Form;
 use crate::Frame;
 use crate::Header;
+use crate::Number;
+use crate::columns;
 use crate::headers;
 use crate::words;
 ghost use mathlib.Core.Path.{_≡_};
 ghost use mathlib.Core.Bool.{true};
-ghost use Prim.Native.Nat.{_<_};
+ghost use Prim.Native.Nat.{_<_, _≤_};
 ghost use lib.ListN.{length, getD};
 ghost use Rattle.base.specs.Lent.{old};
-ghost use Rattle.page.specs.Frame.{pageSize};
+ghost use Rattle.page.specs.Frame.{payloadSize, pageSize};
 ghost use Rattle.page.specs.declared.Frame.{Frame as HeaderFrame};
-ghost use Rattle.page.specs.Header.{nodeFrame, inRange, withPart, isEventLetter, kindAt};
+ghost use Rattle.page.specs.Header.{nodeLetter, lengthOf, nodeFrame, inRange, secondRight, withPart, isEventLetter, kindAt};
 ghost use Rattle.page.specs.Column.{spell};
 ghost use Rattle.page.specs.Word.{wordBytes};
-ghost use Rattle.page.specs.Form.{isEmpty, closed, formOf, wholeNode, wholeLike};
+ghost use Rattle.page.specs.Form.{isEmpty, closed, formOf, secondOf, wholeNode, wholeLike};
 
 // Whether all bytes are FFh. The loop has no other way out, so that it goes over many bytes at once.
 fn all_erased(bytes: &[u8]) -> bool
@@ -90,13 +92,38 @@ pub fn event_form(page: &[u8]) -> Form
     }
 }
 
-// Whether a page is a whole node with these fields, of any sequence. The file's columns are given as they are spelt.
-pub fn is_whole_node(page: &[u8], file: u32, text: u32, offset: u32, position: u32) -> bool
-    requires { ⌜ (length (now page) ≡ pageSize) × (inRange (nodeFrame 1 file offset position) ≡ true)
-        × (wordBytes 4 text ≡ spell 4 file) ⌝ }
+// Whether a page is a whole node with these fields, of any sequence and second number. The file's columns are given as they
+// are spelt, and the columns of some second number, as other nodes have it: the same ones are quickly told.
+pub fn is_whole_node(
+    page: &[u8],
+    file: u32,
+    text: u32,
+    offset: u32,
+    position: u32,
+    known: u64,
+) -> bool
+    requires { ⌜ (length (now page) ≡ pageSize) × (inRange (nodeFrame 1 file offset position 0) ≡ true)
+        × (wordBytes 4 text ≡ spell 4 file) × (secondRight (wordBytes 8 known) ≡ true) ⌝ }
     ensures { λ r. ⌜ r ≡ wholeNode file offset position (formOf (old page)) ⌝ }
 {
-    headers::is_node_of(&page[0..Frame::HEADER], file, text, offset, position) & is_closed(page)
+    let header = &page[0..Frame::HEADER];
+    let spelt = headers::is_node_of(header, file, text, offset, position) & is_closed(page);
+    if !spelt {
+        return false;
+    }
+    headers::has_second(header, known)
+}
+
+// How long the payload of a whole node is.
+pub fn node_length(page: &[u8]) -> usize
+    requires { ⌜ (length (now page) ≡ pageSize)
+        × ((f : HeaderFrame) × (formOf (now page) ≡ Form.Whole f) × (f .kind ≡ nodeLetter)) ⌝ }
+    ensures { λ r. ⌜ (r ≡ lengthOf (secondOf (formOf (old page)))) × (r ≤ payloadSize) ⌝ }
+{
+    let Number::Is(n) = columns::get4(page, Frame::SECOND_LAST_AT) else {
+        return Frame::PAYLOAD;
+    };
+    if n == 0 { Frame::PAYLOAD } else { n as usize }
 }
 
 // Whether a page is whole, with the header of the first page, which is whole, but for the part.

@@ -11,7 +11,13 @@ impl Frame {
 
     pub const PAYLOAD: usize = 224;
 
+    // The longest payload of a node, as its header spells it.
+    pub const LONGEST: u32 = 224;
+
     pub const CLOSING_AT: usize = 254;
+
+    // Where the last four columns of a header's second number start.
+    pub const SECOND_LAST_AT: usize = 24;
 
     // An erased byte.
     pub const ERASED: u8 = 0xff;
@@ -25,8 +31,8 @@ impl Frame {
 
     pub const COMMIT_LETTER: u8 = b'C';
 
-    pub fn node(sequence: u32, file: u32, offset: u32, key: u32) -> Frame
-        ensures { λ r. ⌜ r ≡ nodeFrame sequence file offset key ⌝ }
+    pub fn node(sequence: u32, file: u32, offset: u32, key: u32, second: u32) -> Frame
+        ensures { λ r. ⌜ r ≡ nodeFrame sequence file offset key second ⌝ }
     {
         Frame {
             kind: Frame::NODE_LETTER,
@@ -34,7 +40,7 @@ impl Frame {
             unit: file,
             part: offset,
             key: key,
-            second: 0,
+            second: second,
         }
     }
 

@@ -16,8 +16,8 @@ ghost use lib.ListN.{length, getD};
 ghost use Rattle.base.specs.Lent.{old, new};
 ghost use Rattle.base.specs.Part.{part, splice};
 ghost use Rattle.base.specs.Each.{same};
-ghost use Rattle.page.specs.Frame.{headerSize, colonSpace};
-ghost use Rattle.page.specs.Header.{lastNumber, isKind, isEventLetter, kindAt, within, inPlan, nodeRanges, cutOffRanges, keysRanges, commitRanges, inRange, nodeFrame, headerBytes, headerOf, nodeWith, unitAt, unitWidth, partAt, partWidth, withPart, headerLike};
+ghost use Rattle.page.specs.Frame.{headerSize, pageSize, colonSpace};
+ghost use Rattle.page.specs.Header.{lastNumber, isKind, isEventLetter, kindAt, within, inPlan, nodeRanges, cutOffRanges, keysRanges, commitRanges, inRange, nodeFrame, headerBytes, headerOf, nodeSpelt, secondRight, keyAt, keyWidth, secondAt, secondWidth, secondLastAt, unitAt, unitWidth, partAt, partWidth, withPart, headerLike};
 ghost use Rattle.page.specs.Word.{wordBytes};
 ghost use Rattle.page.specs.Column.{spell, pairIn};
 ghost use Rattle.page.specs.declared.Frame.{Frame as HeaderFrame};
@@ -37,6 +37,11 @@ const KEY_AT: usize = 16;
 const SECOND_AT: usize = 20;
 
 const END_AT: usize = 28;
+
+// The second number 224 in its eight columns, and in the last four of them, as words.
+pub const SPELT_LONGEST: u64 = 0x3432322020202020;
+
+const SPELT_LONGEST4: u32 = 0x34323220;
 
 // The last number of each kind of field.
 pub const LAST_NUMBER: u32 = 99_999_999;
@@ -65,7 +70,7 @@ fn in_plan(f: Frame) -> bool
 fn is_node(f: Frame) -> bool
     ensures { λ r. ⌜ r ≡ nodeRanges f ⌝ }
 {
-    is_number(f.number) & in_plan(f) & (f.key <= keys::LAST_POSITION) & (f.second == 0)
+    is_number(f.number) & in_plan(f) & (f.key <= keys::LAST_POSITION) & (f.second <= Frame::LONGEST)
 }
 
 // Whether the fields are those of a cut-off.
@@ -210,15 +215,32 @@ fn read_place(src: &[u8]) -> Pair
     columns::pair_of(file, words::word4(src, PART_AT))
 }
 
-// The header that 30 bytes are whose kind letter is that of a node or a cut-off: the second number is 0.
+// Key position and second number of a node's or a cut-off's header, of the second number the last four columns. That of the
+// longest payload is told at once.
+fn read_key(src: &[u8]) -> Pair
+    requires { ⌜ length (now src) ≡ headerSize ⌝ }
+    ensures { λ r. ⌜ r ≡ pairIn (part (old src) keyAt keyWidth) (part (old src) secondLastAt 4) ⌝ }
+{
+    let last = words::word4(src, Frame::SECOND_LAST_AT);
+    if last != SPELT_LONGEST4 {
+        return columns::pair_of(words::word4(src, KEY_AT), last);
+    }
+    let Pair::Are(key, _) = columns::pair_of(words::word4(src, KEY_AT), columns::SPELT_ZERO4) else {
+        return Pair::Misspelt;
+    };
+    Pair::Are(key, Frame::LONGEST)
+}
+
+// The header that 30 bytes are whose kind letter is that of a node or a cut-off: the second number is below 10,000, so that
+// its first four columns are spaces.
 pub(crate) fn read_event(src: &[u8]) -> Header
     requires { ⌜ (length (now src) ≡ headerSize) × (isEventLetter (getD (now src) kindAt 0) ≡ true) ⌝ }
     ensures { λ r. ⌜ r ≡ headerOf (old src) ⌝ }
 {
-    if !words::same8(src, SECOND_AT, b"       0: ", 0) {
+    if !words::is_word4(src, SECOND_AT, columns::SPACES) {
         return Header::Invalid;
     }
-    if !words::same2(src, END_AT, b"       0: ", 8) {
+    if !words::same2(src, END_AT, b": ", 0) {
         return Header::Invalid;
     }
     let Number::Is(number) = columns::get8(src, NUMBER_AT) else {
@@ -227,8 +249,7 @@ pub(crate) fn read_event(src: &[u8]) -> Header
     let Pair::Are(unit, part) = read_place(src) else {
         return Header::Invalid;
     };
-    let Pair::Are(key, second) = columns::pair_of(words::word4(src, KEY_AT), columns::SPELT_ZERO4)
-    else {
+    let Pair::Are(key, second) = read_key(src) else {
         return Header::Invalid;
     };
     let kind = src[KIND_AT];
@@ -249,25 +270,66 @@ pub(crate) fn read_event(src: &[u8]) -> Header
 
 // Whether the columns of a header are those of a file and an offset. The file's are given as they are spelt.
 fn is_place(src: &[u8], file: u32, text: u32, offset: u32) -> bool
-    requires { ⌜ (length (now src) ≡ headerSize) × (wordBytes 4 text ≡ spell 4 file) × (offset < 10_000) ⌝ }
+    requires { ⌜ (length (now src) ≡ headerSize) × (wordBytes 4 text ≡ spell 4 file) × (offset < 1000) ⌝ }
     ensures { λ r. ⌜ r ≡ same (part (old src) unitAt 7) (spell unitWidth file ++ spell partWidth offset) ⌝ }
 {
-    let place = (text / 0x100) as u64 + (columns::spelt4(offset) as u64) * 0x1000000;
+    let place = (text / 0x100) as u64 + (columns::spelt_three(offset) as u64) * 0x1000000;
     words::word8(src, UNIT_AT - 1) / 0x100 == place
 }
 
-// Whether 30 bytes are the header of a node with these fields: only the sequence is read. The file's columns are given
-// as they are spelt.
+// Whether a header's second number is one that a node may have.
+fn is_second(src: &[u8]) -> bool
+    requires { ⌜ length (now src) ≡ headerSize ⌝ }
+    ensures { λ r. ⌜ r ≡ secondRight (part (old src) secondAt secondWidth) ⌝ }
+{
+    if !words::is_word4(src, SECOND_AT, columns::SPACES) {
+        return false;
+    }
+    let second = words::word4(src, Frame::SECOND_LAST_AT);
+    let Pair::Are(n, _) = columns::pair_of(second, columns::SPELT_ZERO4) else {
+        return false;
+    };
+    n <= Frame::LONGEST
+}
+
+// The columns of the second number in a page's header, if a node may have it, else those of 224.
+pub fn second_columns(page: &[u8]) -> u64
+    requires { ⌜ length (now page) ≡ pageSize ⌝ }
+    ensures { λ r. ⌜ secondRight (wordBytes 8 r) ≡ true ⌝ }
+{
+    let columns = words::word8(page, SECOND_AT);
+    if columns == SPELT_LONGEST {
+        return SPELT_LONGEST;
+    }
+    if is_second(&page[0..Frame::HEADER]) {
+        return columns;
+    }
+    SPELT_LONGEST
+}
+
+// Whether a header's second number is one that a node may have. It is read only where its columns are other than these, which
+// are known to hold such a number.
+pub(crate) fn has_second(src: &[u8], known: u64) -> bool
+    requires { ⌜ (length (now src) ≡ headerSize) × (secondRight (wordBytes 8 known) ≡ true) ⌝ }
+    ensures { λ r. ⌜ r ≡ secondRight (part (old src) secondAt secondWidth) ⌝ }
+{
+    if words::word8(src, SECOND_AT) == known {
+        return true;
+    }
+    is_second(src)
+}
+
+// Whether 30 bytes are spelt as the header of a node with these fields, whatever their sequence and second number. The file's
+// columns are given as they are spelt.
 pub(crate) fn is_node_of(src: &[u8], file: u32, text: u32, offset: u32, position: u32) -> bool
-    requires { ⌜ (length (now src) ≡ headerSize) × (inRange (nodeFrame 1 file offset position) ≡ true)
+    requires { ⌜ (length (now src) ≡ headerSize) × (inRange (nodeFrame 1 file offset position 0) ≡ true)
         × (wordBytes 4 text ≡ spell 4 file) ⌝ }
-    ensures { λ r. ⌜ r ≡ nodeWith file offset position (headerOf (old src)) ⌝ }
+    ensures { λ r. ⌜ r ≡ nodeSpelt file offset position (old src) ⌝ }
 {
     (src[KIND_AT] == Frame::NODE_LETTER)
         & is_place(src, file, text, offset)
-        & words::is_word4(src, KEY_AT, columns::spelt4(position))
-        & words::same8(src, SECOND_AT, b"       0: ", 0)
-        & words::same2(src, END_AT, b"       0: ", 8)
+        & words::is_word4(src, KEY_AT, columns::spelt_three(position))
+        & words::same2(src, END_AT, b": ", 0)
         & columns::is_counted(words::word8(src, NUMBER_AT))
 }
 

@@ -5,14 +5,14 @@ use crate::entries;
 use crate::headers;
 ghost use mathlib.Core.Path.{_≡_};
 ghost use mathlib.Core.List.{_++_};
-ghost use Prim.Native.Nat.{_<_};
+ghost use Prim.Native.Nat.{_<_, _≤_};
 ghost use lib.ListN.{length, take};
 ghost use Rattle.base.specs.Lent.{old, new};
 ghost use Rattle.base.specs.Part.{splice};
 ghost use Rattle.page.specs.Frame.{headerSize, payloadSize, pageSize, closingAt, closing};
 ghost use Rattle.page.specs.Key.{positions};
 ghost use Rattle.page.specs.Entry.{parts, mapSize, commitPayload};
-ghost use Rattle.page.specs.Page.{pageBytes, pageLike, enciphered, nodePage, payloadOf, cutPage};
+ghost use Rattle.page.specs.Page.{pageBytes, pageLike, enciphered, padded, nodePage, payloadOf, cutPage};
 
 // Writes a page's closing.
 fn close(page: &mut [u8])
@@ -86,7 +86,27 @@ pub fn write_part(page: &mut [u8], header: &[u8], i: usize, map: &[u16], letters
     cut(page, k);
 }
 
-// Writes a node's page, its payload enciphered under its key.
+// Writes a payload and spaces after it over the 224 bytes of dst.
+fn put_padded(dst: &mut [u8], payload: &[u8])
+    requires { ⌜ (length (now dst) ≡ payloadSize) × (length (now payload) ≤ payloadSize) ⌝ }
+    ensures { λ _. ⌜ new dst ≡ padded (old payload) ⌝ }
+{
+    let n = payload.len();
+    bytes::copy(&mut dst[0..n], payload);
+    bytes::fill(&mut dst[n..Frame::PAYLOAD], b' ');
+}
+
+// Writes a page whole: header, payload with spaces after it, closing.
+fn write_padded(page: &mut [u8], f: Frame, payload: &[u8])
+    requires { ⌜ (length (now page) ≡ pageSize) × (length (now payload) ≤ payloadSize) ⌝ }
+    ensures { λ _. ⌜ new page ≡ pageBytes f (padded (old payload)) ⌝ }
+{
+    headers::write_header(&mut page[0..Frame::HEADER], f);
+    put_padded(&mut page[Frame::HEADER..Frame::CLOSING_AT], payload);
+    close(page);
+}
+
+// Writes a node's page: its payload, with spaces after it, is enciphered under its key.
 pub fn write_node(
     page: &mut [u8],
     sequence: u32,
@@ -97,19 +117,26 @@ pub fn write_node(
     payload: &[u8],
     k: usize,
 )
-    requires { ⌜ (length (now page) ≡ pageSize) × (length (now payload) ≡ payloadSize) ⌝ }
-    ensures { λ _. ⌜ new page ≡ cutPage k (nodePage sequence file offset position key (old payload)) ⌝ }
+    requires { ⌜ (length (now page) ≡ pageSize) × (length (now payload) ≤ payloadSize) ⌝ }
+    ensures { λ _. ⌜ new page
+        ≡ cutPage k (nodePage sequence file offset position (length (old payload)) key (padded (old payload))) ⌝ }
 {
-    write_whole(page, Frame::node(sequence, file, offset, position), payload);
+    let second = payload.len() as u32;
+    write_padded(
+        page,
+        Frame::node(sequence, file, offset, position, second),
+        payload,
+    );
     encipher(page, key);
     cut(page, k);
 }
 
-// Reads the payload of a node under its key.
+// Reads the first bytes of a node's payload under its key, as many as out has.
 pub fn read_payload(page: &[u8], key: [u8; 16], out: &mut [u8])
-    requires { ⌜ (length (now page) ≡ pageSize) × (length (now out) ≡ payloadSize) ⌝ }
-    ensures { λ _. ⌜ new out ≡ enciphered key (payloadOf (old page)) ⌝ }
+    requires { ⌜ (length (now page) ≡ pageSize) × (length (now out) ≤ payloadSize) ⌝ }
+    ensures { λ _. ⌜ new out ≡ take (length (old out)) (enciphered key (payloadOf (old page))) ⌝ }
 {
-    bytes::copy(out, &page[Frame::HEADER..Frame::CLOSING_AT]);
+    let n = out.len();
+    bytes::copy(out, &page[Frame::HEADER..Frame::HEADER + n]);
     cipher::apply_stream(cipher::expand(key), out);
 }

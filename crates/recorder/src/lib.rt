@@ -10,12 +10,13 @@ use store::replies;
 use store::wipe;
 use store::write;
 ghost use mathlib.Core.Path.{_≡_};
-ghost use mathlib.Core.List.{[]};
+ghost use mathlib.Core.List.{[], _∷_};
 ghost use Rattle.base.specs.Lent.{old, new};
 ghost use Rattle.store.specs.Reply.{numberOf};
 ghost use Rattle.store.specs.Outcome.{left, leftWhole};
 ghost use Rattle.store.specs.Format.{formatLeaves};
-ghost use Rattle.store.specs.Read.{readLeaves};
+ghost use Rattle.store.specs.Record.{recordOf};
+ghost use Rattle.store.specs.Read.{readLength, readLeaves};
 ghost use Rattle.store.specs.Mount.{mountLeaves};
 ghost use Rattle.store.specs.CutOff.{cutOffLeaves};
 ghost use Rattle.store.specs.Commit.{commitLeaves};
@@ -120,7 +121,7 @@ pub extern "C" fn johvimaru_write_cut(
     hand_over(answer, five)
 }
 
-// Reads the payload at a file's offset into the output.
+// Reads the payload at a file's offset into the first bytes of the output, and tells its length, 0 where it is refused.
 #[no_mangle]
 pub extern "C" fn johvimaru_read(
     image: &[u8],
@@ -130,12 +131,17 @@ pub extern "C" fn johvimaru_read(
     file: u32,
     offset: u32,
     output: &mut [u8],
+    length: &mut [usize; 1],
 ) -> u32
-    ensures { λ r. ⌜ faced r (old image) (old map) (old letters) (old five) (new output) ≡ face (readLeaves leftWhole
-        (old image) (old map) (old letters) (numbersOf (old five)) file offset (old output)) ⌝ }
+    ensures { λ r. ⌜ (faced r (old image) (old map) (old letters) (old five) (new output) ≡ face (readLeaves leftWhole
+        (old image) (old map) (old letters) (numbersOf (old five)) file offset (old output)))
+        × (new length ≡ readLength (old image) (recordOf (old map) (old letters) (numbersOf (old five))) file offset
+        (old output) ∷ []) ⌝ }
 {
     let before = numbers_of(five);
-    let reply = read::read(image, map, letters, before, file, offset, output);
+    let reading = read::read(image, map, letters, before, file, offset, output);
+    *length = [reading.length];
+    let reply = reading.reply;
     replies::number(reply)
 }
 

@@ -17,7 +17,7 @@ use Rattle.base.proofs.Choice.{cond-ap, cond-same, and-true, and-intro, true-fa
 use Rattle.base.proofs.Parts.{part-at}
 use Rattle.base.proofs.Searches.{all-holds, all-intro, all-agree, any-agree, any-all-fail}
 use Rattle.base.proofs.Eachs.{same-true}
-use Rattle.page.specs.Frame.{pageSize, headerSize, closingAt, closingSize, closing, erased}
+use Rattle.page.specs.Frame.{payloadSize, pageSize, headerSize, closingAt, closingSize, closing, erased}
 use Rattle.page.specs.Header.{nodeLetter, cutOffLetter, keysLetter, commitLetter, lastNumber, lastPosition, lastKeyBlock, lastKeyPage, lastPart, within, inPlan, nodeRanges, cutOffRanges, keysRanges, commitRanges, keysFrame, commitFrame, inRange, headerOf, isEventLetter}
 use Rattle.page.specs.Form.{isEmpty, closed, formBy, formOf}
 use Rattle.page.specs.Entry.{parts, validPayload}
@@ -115,7 +115,7 @@ number-range f = go (eqb (f .kind) nodeLetter) (eqb (f .kind) cutOffLetter) (eqb
 
     go : (n d k c : Bool) → cond n (nodeRanges f) (cond d (cutOffRanges f) (cond k (keysRanges f) (cond c (commitRanges f) false))) ≡ true
         → (1 ≤ f .number) × (f .number ≤ lastNumber)
-    go true d k c e = from-test (of-four (within 1 lastNumber (f .number)) (inPlan f) (leb (f .key) lastPosition) (eqb (f .second) 0) e)
+    go true d k c e = from-test (of-four (within 1 lastNumber (f .number)) (inPlan f) (leb (f .key) lastPosition) (leb (f .second) payloadSize) e)
     go false true k c e = from-test (of-four (within 1 lastNumber (f .number)) (inPlan f) (eqb (f .key) 0) (eqb (f .second) 0) e)
     go false false true c e =
         from-test (of-five (within 1 lastNumber (f .number)) (leb (f .unit) lastKeyBlock) (leb (f .part) lastKeyPage) (eqb (f .key) 0) (eqb (f .second) 0) e)

@@ -1,21 +1,28 @@
 -- What the code of write, cut-off, read and format needs where a call is taken, and that it leaves what the call's definition says.
-use Prim.Native.Nat.{ℕ, _+_, _*_, _<_, _≤_}
+use Prim.Native.Nat.{ℕ, _+_, _*_, _-_, _<_, _≤_}
 use native.Mathlib.Omega.{arith}
+use native.Mathlib.Nat.{sub-zero}
 use native.Mathlib.Decide.{decLt}
 use mathlib.Core.Path.{_≡_, refl, sym, ap, fun-ext, _∙_}
 use mathlib.Core.Bool.{Bool, true, false, cond}
 use mathlib.Core.List.{List, [], _++_}
-use lib.ListN.{length, getD, replicate, length-replicate, getD-replicate, List·getD-eq-default}
+use lib.ListN.{length, getD, take, drop, replicate, length-replicate, length-take, getD-replicate, List·getD-eq-default}
 use borrow.Author.Tests.{ne-eqb}
 use Rattle.base.specs.Fold.{listFrom}
-use Rattle.page.specs.Frame.{pageSize}
+use Rattle.base.proofs.Parts.{part-length}
+use Rattle.page.specs.Frame.{headerSize, payloadSize, pageSize}
 use Rattle.page.specs.Plan.{filePlan, places}
 use Rattle.page.specs.Key.{positions, keyInNoise}
 use Rattle.page.specs.Entry.{none, freeLetter, usedLetter}
-use Rattle.page.specs.Page.{nodePage, cutOffPage}
+use Rattle.page.specs.Header.{nodeLetter, lengthOf}
+use Rattle.page.specs.Form.{secondOf, formOf}
+use Rattle.page.specs.Page.{enciphered, padded, deciphered, nodePage, cutOffPage, payloadOf}
+use Rattle.page.specs.declared.Frame.{Frame}
+use Rattle.page.specs.declared.Form.the-variants.{Whole}
+use Rattle.page.proofs.Pages.{enciphered-length}
 use Rattle.page.proofs.Plans.{place-at, plan-below}
 use Rattle.image.specs.Size.{blockSize, blocks}
-use Rattle.image.specs.Look.{blockAt}
+use Rattle.image.specs.Look.{blockAt, formAt}
 use Rattle.image.specs.Step.{program, erase, playAll}
 use Rattle.image.specs.Power.{device, powerFor, act, run}
 use Rattle.image.specs.Block.{erasesFrom, renewedKey, keyBlockSteps, commitBlockSteps}
@@ -27,18 +34,18 @@ use Rattle.store.specs.Record.{Record, recordOf, withNumbers, pageOf, ke
 use Rattle.store.specs.Outcome.{Outcome, left, leftWhole, mostSteps}
 use Rattle.store.specs.Find.{lowestFree, newPage, foundAt}
 use Rattle.store.specs.Format.{noNumbers, formatted, formatTests, formatSteps, formatOf}
-use Rattle.store.specs.Write.{placeAt, keyHeld, nextSequence, placed, writeTests, takingOf, writeSteps, writeOf}
+use Rattle.store.specs.Write.{placeAt, keyHeld, nextSequence, placed, payloadRight, writeTests, takingOf, appendSteps, writeOf}
 use Rattle.store.specs.CutOff.{cutOffTests, removed, cutOffSteps, cutOffOf}
-use Rattle.store.specs.Read.{contentOf, readTests, readOf}
+use Rattle.store.specs.Read.{contentOf, filled, readTests, readOf, readLength}
 use Rattle.store.specs.Taken.{Ready, Planned, FormatTaken, WriteTaken, ReadTaken, CutOffTaken}
 use Rattle.store.specs.declared.Reply.{Reply}
 use Rattle.store.specs.declared.Reply.the-variants.{Done, PowerCut}
 use Rattle.store.specs.declared.write.Taking.the-variants.{Take, Refuse}
-use Rattle.store.proofs.Verdicts.{done-true, format-reply, format-taken, format-done, write-reply, write-taken, write-done, read-reply, read-taken, cut-off-reply, cut-off-taken, cut-off-done}
-use Rattle.store.proofs.Outcomes.{stepless, leaves, left-stepless, format-outcome, format-refused, write-outcome, write-refused, read-outcome, read-refused, cut-off-outcome, cut-off-refused}
+use Rattle.store.proofs.Verdicts.{done-true, format-reply, format-taken, format-done, write-reply, write-right, write-taken, write-done, payload-filling, read-reply, read-taken, cut-off-reply, cut-off-taken, cut-off-done}
+use Rattle.store.proofs.Outcomes.{stepless, leaves, left-stepless, format-outcome, format-refused, write-outcome, write-refused, read-outcome, read-length, read-no-length, read-refused, cut-off-outcome, cut-off-refused}
 use Rattle.store.proofs.Counts.{format-count, write-count, cut-off-count}
 use Rattle.store.proofs.Finds.{found-is, lowest-free, write-page-is-empty}
-use Rattle.store.proofs.Fits.{fits-is, fit-inside, live-key, live-page}
+use Rattle.store.proofs.Fits.{fits-is, fit-inside, live-named, live-key, live-page}
 use Rattle.store.proofs.Cuts.{run-left, taken-few}
 
 -- ---- a record that fits
@@ -68,7 +75,7 @@ pub record Writable (img : List ℕ) (p g : ℕ) : Type 0 where
   pub number : g < none
 
 module _ (img : List ℕ) (r : Record) (file offset : ℕ) (payload : List ℕ) where
-  pub writable : (p g : ℕ) → WriteTaken img r file offset payload → p ≡ foundAt (lowestFree (r .letters)) → g ≡ foundAt (newPage img (r .numbers)) → Writable img p g
+  pub writable : (p g : ℕ) → WriteTaken img r file offset (length payload) (padded payload) → p ≡ foundAt (lowestFree (r .letters)) → g ≡ foundAt (newPage img (r .numbers)) → Writable img p g
   writable p g t e f =
       let i = write-page-is-empty img (r .numbers) (foundAt (newPage img (r .numbers))) (found-is (newPage img (r .numbers)) (t .room)) .0 in
       let s = sized img (t .ready .size) in
@@ -79,12 +86,14 @@ module _ (img : List ℕ) (r : Record) (file offset : ℕ) (payload : List ℕ) 
       }
 
   -- what the tests hand on
-  pub write-take : (p g a b : ℕ) → takingOf (verdict (writeTests img r file offset payload)) a b ≡ Take p g → WriteTaken img r file offset payload × (p ≡ a) × (g ≡ b)
+  pub write-take : (p g a b : ℕ) → takingOf (verdict (writeTests img r file offset payload)) a b ≡ Take p g → WriteTaken img r file offset (length payload) (padded payload) × (payloadRight payload ≡ true) × (p ≡ a) × (g ≡ b)
   write-take p g a b = go (isDone (verdict (writeTests img r file offset payload))) refl
     where
       go : (d : Bool) → isDone (verdict (writeTests img r file offset payload)) ≡ d → cond d (Take a b) (Refuse (verdict (writeTests img r file offset payload))) ≡ Take p g
-          → WriteTaken img r file offset payload × (p ≡ a) × (g ≡ b)
-      go true d e = (write-taken img r file offset payload (write-reply img r file offset payload ∙ done-true _ d), cc, cc)
+          → WriteTaken img r file offset (length payload) (padded payload) × (payloadRight payload ≡ true) × (p ≡ a) × (g ≡ b)
+      go true d e =
+          let q = write-reply img r file offset (payloadRight payload) (length payload) (padded payload) ∙ done-true _ d in
+          (write-taken img r file offset (payloadRight payload) (length payload) (padded payload) (payload-filling payload) q, write-right img r file offset (payloadRight payload) (length payload) (padded payload) q, cc, cc)
       go false d e = absurd (let z : _≡_ {A = ℕ} 0 1 = cc in omega arith)
 
   pub write-refuse : (n k a b : ℕ) (v : Reply) → takingOf (verdict (writeTests img r file offset payload)) a b ≡ Refuse v
@@ -95,24 +104,24 @@ module _ (img : List ℕ) (r : Record) (file offset : ℕ) (payload : List ℕ) 
           → leaves v img r [] ≡ left n k (writeOf img r file offset payload) img
       go true d e = absurd (let z : _≡_ {A = ℕ} 0 1 = cc in omega arith)
       go false d e =
-          let q = write-reply img r file offset payload in
+          let q = write-reply img r file offset (payloadRight payload) (length payload) (padded payload) in
           let s : writeOf img r file offset payload .reply ≡ v = cc in
-          rw (← s) (sym (left-stepless n k img (write-refused img r file offset payload (ap isDone q ∙ d))))
+          rw (← s) (sym (left-stepless n k img (write-refused img r file offset (payloadRight payload) (length payload) (padded payload) (ap isDone q ∙ d))))
 
   -- what the work leaves
-  pub write-left : (n k p g : ℕ) (key img' : List ℕ) (q : Power) → WriteTaken img r file offset payload → p ≡ foundAt (lowestFree (r .letters)) → g ≡ foundAt (newPage img (r .numbers))
-      → key ≡ keyHeld img (r .numbers) p → device q img' ≡ act (program g (nodePage (r .numbers .sequence) file offset p key payload)) (device (powerFor n k) img)
+  pub write-left : (n k p g : ℕ) (key img' : List ℕ) (q : Power) → payloadRight payload ≡ true → WriteTaken img r file offset (length payload) (padded payload) → p ≡ foundAt (lowestFree (r .letters)) → g ≡ foundAt (newPage img (r .numbers))
+      → key ≡ keyHeld img (r .numbers) p → device q img' ≡ act (program g (nodePage (r .numbers .sequence) file offset p (length payload) key (padded payload))) (device (powerFor n k) img)
       → leaves (cond (q .on) Done PowerCut) img' (placed r (placeAt file offset) g p) [] ≡ left n k (writeOf img r file offset payload) img
-  unfolding writeSteps
-  write-left n k p g key img' q t e f h d =
-      let o = write-outcome img r file offset payload (write-done img r file offset payload t) in
-      let s = run-one (program g (nodePage (r .numbers .sequence) file offset p key payload)) (device (powerFor n k) img) in
+  unfolding appendSteps
+  write-left n k p g key img' q right t e f h d =
+      let o = write-outcome img r file offset (payloadRight payload) (length payload) (padded payload) (write-done img r file offset (payloadRight payload) (length payload) (padded payload) right t) in
+      let s = run-one (program g (nodePage (r .numbers .sequence) file offset p (length payload) key (padded payload))) (device (powerFor n k) img) in
       rw (e, f) (run-left n k img img' q o (rw (← e, ← f, ← h) (d ∙ sym s)))
 
   pub write-few : length (writeOf img r file offset payload .steps) ≤ mostSteps
   write-few =
-      taken-few mostSteps (writeOf img r file offset payload) (λ e. rw (write-outcome img r file offset payload e) (omega (arith, write-count img r file offset payload)))
-      (λ d. rw (write-refused img r file offset payload d))
+      taken-few mostSteps (writeOf img r file offset payload) (λ e. rw (write-outcome img r file offset (payloadRight payload) (length payload) (padded payload) e) (omega (arith, write-count img r file offset (length payload) (padded payload))))
+      (λ d. rw (write-refused img r file offset (payloadRight payload) (length payload) (padded payload) d))
 
 -- ---- cut-off
 -- a call whose tests refuse leaves all as it was
@@ -162,10 +171,33 @@ module _ (img : List ℕ) (r : Record) (file offset : ℕ) (output : List ℕ) w
   pub read-take : (v : Reply) → v ≡ verdict (readTests img r file offset output) → isDone v ≡ true → ReadTaken img r file offset output
   read-take v e d = read-taken img r file offset output (read-reply img r file offset output ∙ sym e ∙ done-true v d)
 
-  pub read-left : (v : Reply) (content : List ℕ) → v ≡ verdict (readTests img r file offset output) → isDone v ≡ true → content ≡ contentOf img r (placeAt file offset)
+  pub read-left : (v : Reply) (content : List ℕ) → v ≡ verdict (readTests img r file offset output) → isDone v ≡ true → content ≡ filled (contentOf img r (placeAt file offset)) output
       → leaves v img r content ≡ leftWhole (readOf img r file offset output) img
   read-left v content e d h =
       rw (done-true v d, h) (sym (whole-stepless img (read-outcome img r file offset output (read-reply img r file offset output ∙ sym e ∙ done-true v d))))
+
+  -- the length that is reported
+  pub read-reports : (v : Reply) (n : ℕ) → v ≡ verdict (readTests img r file offset output) → isDone v ≡ true → n ≡ length (contentOf img r (placeAt file offset)) → n ≡ readLength img r file offset output
+  read-reports v n e d h = h ∙ sym (read-length img r file offset output (read-reply img r file offset output ∙ sym e ∙ done-true v d))
+
+  pub read-reports-none : (v : Reply) → v ≡ verdict (readTests img r file offset output) → isDone v ≡ false → 0 ≡ readLength img r file offset output
+  read-reports-none v e d = sym (read-no-length img r file offset output (ap isDone (read-reply img r file offset output ∙ sym e) ∙ d))
+
+-- what is read of a whole node's page, over the first bytes of an output
+pub front-read : (key page output zs : List ℕ) (n : ℕ) → length page ≡ pageSize → n ≡ lengthOf (secondOf (formOf page)) → n ≤ payloadSize → length output ≡ payloadSize
+    → zs ≡ take (length (take (n - 0) output)) (enciphered key (payloadOf page))
+    → (zs ++ drop (n - 0) output ≡ filled (deciphered key page) output) × (n ≡ length (deciphered key page))
+unfolding deciphered payloadOf
+front-read key page output zs n l e h o f =
+    let k : length (enciphered key (payloadOf page)) ≡ payloadSize = enciphered-length key (payloadOf page) ∙ part-length page headerSize payloadSize (omega arith) in
+    let w : length (take (n - 0) output) ≡ n = simp length-take (omega arith) in
+    let c : length (take n (enciphered key (payloadOf page))) ≡ n = simp length-take (omega (arith, k)) in
+    (rw (← e, c, f, w, sub-zero n), rw (← e) (sym c))
+
+-- the page of a live place is a whole node's
+module _ (img : List ℕ) (r : Record) (ready : Ready img r) where
+  pub node-held : (x : ℕ) → x < places → live (r .map) x ≡ true → (f : Frame) × (formAt img (pageOf (r .map) x) ≡ Whole f) × (f .kind ≡ nodeLetter)
+  node-held x h l = let n = live-named img r (fits-is img r (ready .fit)) x h l in (n .header, n .whole, n .node)
 
 -- ---- format
 -- where no letter is u every key comes from the noise

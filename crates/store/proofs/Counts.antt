@@ -19,7 +19,7 @@ use Rattle.image.proofs.CommitBlock.{commit-block-count}
 use Rattle.store.specs.Record.{Record}
 use Rattle.store.specs.Format.{formatSteps, formatOf}
 use Rattle.store.specs.Mount.{mountNumbers, isStray, mountSteps, mountOf}
-use Rattle.store.specs.Write.{keysBlock, writeSteps, writeOf}
+use Rattle.store.specs.Write.{keysBlock, appendSteps, appendOf}
 use Rattle.store.specs.Read.{readOf}
 use Rattle.store.specs.CutOff.{removed, cutOffSteps, cutOffOf}
 use Rattle.store.specs.Commit.{Stage, begin, cleaned, replaceKeys, replaceCommit, keysReplaced, commitReplaced, isDead, deadErased, commitStages, commitOf}
@@ -55,9 +55,9 @@ mount-count img = erases-count (isStray img (mountNumbers img)) (blocks img)
 pub mount-few : (img : List ℕ) → length (mountSteps img) ≤ blocks img
 mount-few img = rw (mount-count img) (count-most (isStray img (mountNumbers img)) (blocks img) 0)
 
-pub write-count : (img : List ℕ) (r : Record) (file offset : ℕ) (payload : List ℕ) → length (writeSteps img r file offset payload) ≡ 1
-unfolding writeSteps
-write-count img r file offset payload = refl
+pub write-count : (img : List ℕ) (r : Record) (file offset second : ℕ) (bytes : List ℕ) → length (appendSteps img r file offset second bytes) ≡ 1
+unfolding appendSteps
+write-count img r file offset second bytes = refl
 
 pub cut-off-count : (img : List ℕ) (r : Record) (file offset : ℕ) → length (cutOffSteps img r file offset) ≡ 1
 unfolding cutOffSteps
@@ -113,9 +113,9 @@ pub mount-steps : (img map letters scratch : List ℕ) → mountOf img map lette
     → length (mountOf img map letters scratch .steps) ≡ countFrom (isStray img (mountNumbers img)) (blocks img) 0
 mount-steps img map letters scratch e = rw (mount-outcome img map letters scratch e) (mount-count img)
 
-pub write-steps : (img : List ℕ) (r : Record) (file offset : ℕ) (payload : List ℕ) → writeOf img r file offset payload .reply ≡ Done
-    → length (writeOf img r file offset payload .steps) ≡ 1
-write-steps img r file offset payload e = rw (write-outcome img r file offset payload e) (write-count img r file offset payload)
+pub write-steps : (img : List ℕ) (r : Record) (file offset : ℕ) (right : Bool) (second : ℕ) (bytes : List ℕ) → appendOf img r file offset right second bytes .reply ≡ Done
+    → length (appendOf img r file offset right second bytes .steps) ≡ 1
+write-steps img r file offset right second bytes e = rw (write-outcome img r file offset right second bytes e) (write-count img r file offset second bytes)
 
 pub read-steps : (img : List ℕ) (r : Record) (file offset : ℕ) (output : List ℕ) → length (readOf img r file offset output .steps) ≡ 0
 read-steps img r file offset output = rw (read-stepless img r file offset output)

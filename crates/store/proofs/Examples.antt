@@ -76,8 +76,8 @@ commit-example = refl
 -- ---- the deciding event among three pages after that commit: a node of file 0, offset 0, a later one, and a cut-off of file 0 from offset 1 on, later still
 pub events : List ℕ
 events =
-    pageBytes (nodeFrame 7 0 0 0) (replicate 224 0)
-    ++ (pageBytes (nodeFrame 9 0 0 1) (replicate 224 0) ++ cutOffPage 10 0 1)
+    pageBytes (nodeFrame 7 0 0 0 0) (replicate 224 0)
+    ++ (pageBytes (nodeFrame 9 0 0 1 40) (replicate 224 0) ++ cutOffPage 10 0 1)
 
 pub decided-by-node : decision (commitBytes ++ events) 0 0 ≡ record { sequence = 9; page = 17; key = 1 }
 unfolding events commitBytes decision coveredIn entryIn sets cuts removes kindOf commitBlockWhole validPayload commitPayload entriesFrom entryBytes entryOf payloadOf pageEmpty isEmpty allAre formAt formOf closed pageAt allFrom foldFrom commitPage cutOffPage pageBytes headerOf headerBytes numberIn valueAfter spell columns same part inRange placeOf countOf startOf

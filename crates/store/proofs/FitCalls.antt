@@ -26,9 +26,9 @@ use Rattle.image.proofs.Plays.{playAll-nil, playAll-cons}
 use Rattle.store.specs.Kind.{pageIn, kindOf}
 use Rattle.store.specs.Record.{Record, withNumbers, mapSize, pageOf, keyOf, live, fits}
 use Rattle.store.specs.Find.{newPage, isFound, foundAt, lowestFree}
-use Rattle.store.specs.Write.{placeAt, keyHeld, nextSequence, released, placed, writeSteps, writeOf}
+use Rattle.store.specs.Write.{placeAt, keyHeld, nextSequence, released, placed, appendSteps, appendOf}
 use Rattle.store.specs.CutOff.{emptied, removed, cutOffSteps, cutOffOf}
-use Rattle.store.specs.Taken.{WriteTaken, CutOffTaken}
+use Rattle.store.specs.Taken.{Filling, WriteTaken, CutOffTaken}
 use Rattle.store.specs.declared.Kind.the-variants.{Other}
 use Rattle.store.specs.declared.Numbers.{Numbers}
 use Rattle.store.specs.declared.Reply.the-variants.{Done}
@@ -104,7 +104,7 @@ cut-off-fits img r file offset e =
     rw (cut-off-outcome img r file offset e) (fit-fits _ _ (cut-off-record-fits img r file offset (cut-off-taken img r file offset e)))
 
 -- ---- write
-module _ (img : List ℕ) (r : Record) (file offset : ℕ) (payload : List ℕ) (t : WriteTaken img r file offset payload) where
+module _ (img : List ℕ) (r : Record) (file offset second : ℕ) (bytes : List ℕ) (t : WriteTaken img r file offset second bytes) where
   abbrev n : Numbers
   n = r .numbers
 
@@ -118,13 +118,13 @@ module _ (img : List ℕ) (r : Record) (file offset : ℕ) (payload : List ℕ) 
   p = foundAt (lowestFree (r .letters))
 
   abbrev node : List ℕ
-  node = nodePage (n .sequence) file offset p (keyHeld img n p) payload
+  node = nodePage (n .sequence) file offset p second (keyHeld img n p) bytes
 
   fit : Fit img r
   fit = fits-is img r (t .ready .fit)
 
   node-size : length node ≡ pageSize
-  node-size = node-length (n .sequence) file offset p (keyHeld img n p) payload (t .payloadFull)
+  node-size = node-length (n .sequence) file offset p second (keyHeld img n p) bytes (t .filling .bytesFull)
 
   abbrev after : List ℕ
   after = whole (program at node) img
@@ -152,12 +152,12 @@ module _ (img : List ℕ) (r : Record) (file offset : ℕ) (payload : List ℕ) 
   unfolding nodePage
   node-there =
       let w = write-page-is-empty img n at (found-is (newPage img n) (t .room)) .0 in
-      let range : NodeRange (nodeFrame (n .sequence) file offset p)
-      = record { from-one = fit .sequence .0; number = t .numbersLeft; file = t .planned .fileRight; offset = t .planned .offsetRight; position = omega (arith, free .0); second = refl } in
+      let range : NodeRange (nodeFrame (n .sequence) file offset p second)
+      = record { from-one = fit .sequence .0; number = t .numbersLeft; file = t .planned .fileRight; offset = t .planned .offsetRight; position = omega (arith, free .0); second = t .filling .secondMost } in
       record {
-        header = nodeFrame (n .sequence) file offset p;
+        header = nodeFrame (n .sequence) file offset p second;
         whole = rw (put-page (r .map) x at p full below)
-            (form-program at (nodeFrame (n .sequence) file offset p) (enciphered (keyHeld img n p) payload) img (node-range (nodeFrame (n .sequence) file offset p) refl .1 range) (enciphered-length (keyHeld img n p) payload ∙ t .payloadFull) (omega arith));
+            (form-program at (nodeFrame (n .sequence) file offset p second) (enciphered (keyHeld img n p) bytes) img (node-range (nodeFrame (n .sequence) file offset p second) refl .1 range) (enciphered-length (keyHeld img n p) bytes ∙ t .filling .bytesFull) (omega arith));
         node = refl;
         place = place-at filePlan file offset (t .planned .offsetRight);
         key = sym (put-key (r .map) x at p full below);
@@ -180,11 +180,11 @@ module _ (img : List ℕ) (r : Record) (file offset : ℕ) (payload : List ℕ) 
           go true e = omega arith
           go false e = omega (arith, free .1)
 
-  write-steps-fit : Fit (playAll (writeSteps img r file offset payload) img) (placed r x at p)
-  unfolding writeSteps
+  write-steps-fit : Fit (playAll (appendSteps img r file offset second bytes) img) (placed r x at p)
+  unfolding appendSteps
   write-steps-fit = rw (one-step (program at node) img) write-record-fits
 
-pub write-fits : (img : List ℕ) (r : Record) (file offset : ℕ) (payload : List ℕ) → writeOf img r file offset payload .reply ≡ Done
-    → fits (playAll (writeOf img r file offset payload .steps) img) (writeOf img r file offset payload .after) ≡ true
-write-fits img r file offset payload e =
-    rw (write-outcome img r file offset payload e) (fit-fits _ _ (write-steps-fit img r file offset payload (write-taken img r file offset payload e)))
+pub write-fits : (img : List ℕ) (r : Record) (file offset : ℕ) (right : Bool) (second : ℕ) (bytes : List ℕ) → (right ≡ true → Filling second bytes) → appendOf img r file offset right second bytes .reply ≡ Done
+    → fits (playAll (appendOf img r file offset right second bytes .steps) img) (appendOf img r file offset right second bytes .after) ≡ true
+write-fits img r file offset right second bytes fills e =
+    rw (write-outcome img r file offset right second bytes e) (fit-fits _ _ (write-steps-fit img r file offset second bytes (write-taken img r file offset right second bytes fills e)))

@@ -12,6 +12,7 @@ use Rattle.base.specs.Search.{allFrom}
 use Rattle.base.proofs.Choice.{cond-same, and-true, and-intro, and-assoc, true-false, both-ways}
 use Rattle.base.proofs.Searches.{all-agree, all-holds, all-intro, any-holds, count-any, count-some, count-unique, unique-count}
 use Rattle.page.specs.Plan.{filePlan, places, placeOf}
+use Rattle.page.specs.Frame.{payloadSize}
 use Rattle.page.specs.Header.{nodeLetter, lastNumber, lastPosition, within, inPlan, nodeRanges, inRange}
 use Rattle.page.specs.Key.{positions}
 use Rattle.page.specs.Entry.{none, lastPage, freeLetter, usedLetter, deletedLetter, isLetter}
@@ -55,7 +56,7 @@ node-key : (f : Frame) → f .kind ≡ nodeLetter → inRange f ≡ true → f .
 unfolding inRange
 node-key f k r =
     let n : nodeRanges f ≡ true = rw k at r in
-    let a = and-true (within 1 lastNumber (f .number) && inPlan f && leb (f .key) lastPosition) (eqb (f .second) 0) n in
+    let a = and-true (within 1 lastNumber (f .number) && inPlan f && leb (f .key) lastPosition) (leb (f .second) payloadSize) n in
     leb-true _ _ (and-true (within 1 lastNumber (f .number) && inPlan f) (leb (f .key) lastPosition) (a .0) .1)
 
 -- a whole node with the file and the offset of place x is one of place x

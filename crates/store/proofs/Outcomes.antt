@@ -21,8 +21,8 @@ use Rattle.store.specs.Outcome.{Outcome, decided, Left, left}
 use Rattle.store.specs.Find.{lowestFree, newPage, foundAt}
 use Rattle.store.specs.Format.{noNumbers, formatted, formatSteps, formatTests, formatOf}
 use Rattle.store.specs.Mount.{chosenCommit, decision, mountMap, mountLetter, mountScratch, mounted, mountSteps, mountTests, fills, unmounted, mountOf}
-use Rattle.store.specs.Write.{placeAt, nextSequence, released, placed, writeSteps, writeTests, writeOf}
-use Rattle.store.specs.Read.{contentOf, readTests, readOf}
+use Rattle.store.specs.Write.{placeAt, nextSequence, released, placed, appendSteps, appendTests, appendOf}
+use Rattle.store.specs.Read.{contentOf, filled, readTests, readOf, readLength}
 use Rattle.store.specs.CutOff.{restOf, emptied, removed, cutOffSteps, cutOffTests, cutOffOf}
 use Rattle.store.specs.Commit.{Stage, begin, cleanLetter, cleaned, keysReplaced, commitReplaced, deadErased, commitStages, commitTests, commitOf}
 use Rattle.store.specs.Wipe.{removedFirst, wipeTests, wipeOf}
@@ -88,20 +88,20 @@ module _ (img map letters scratch : List ℕ) where
       ∙ rw (le-leb 12 (numberOf (mountOf img map letters scratch .reply)) h)
 
 -- ---- write, read, cut-off, commit, wipe: refused, the record and the output stay as they were
-module _ (img : List ℕ) (r : Record) (file offset : ℕ) (payload : List ℕ) where
-  pub write-outcome : writeOf img r file offset payload .reply ≡ Done
-      → writeOf img r file offset payload
-      ≡ taken (writeSteps img r file offset payload) (placed r (placeAt file offset) (foundAt (newPage img (r .numbers))) (foundAt (lowestFree (r .letters)))) []
-  unfolding writeOf
+module _ (img : List ℕ) (r : Record) (file offset : ℕ) (right : Bool) (second : ℕ) (bytes : List ℕ) where
+  pub write-outcome : appendOf img r file offset right second bytes .reply ≡ Done
+      → appendOf img r file offset right second bytes
+      ≡ taken (appendSteps img r file offset second bytes) (placed r (placeAt file offset) (foundAt (newPage img (r .numbers))) (foundAt (lowestFree (r .letters)))) []
+  unfolding appendOf
   write-outcome e = decided-taken _ _ _ _ _ _ e
 
-  pub write-refused : isDone (writeOf img r file offset payload .reply) ≡ false
-      → writeOf img r file offset payload ≡ stepless (writeOf img r file offset payload .reply) r []
-  unfolding writeOf
+  pub write-refused : isDone (appendOf img r file offset right second bytes .reply) ≡ false
+      → appendOf img r file offset right second bytes ≡ stepless (appendOf img r file offset right second bytes .reply) r []
+  unfolding appendOf
   write-refused e = decided-refused _ _ _ _ _ _ e
 
 module _ (img : List ℕ) (r : Record) (file offset : ℕ) (output : List ℕ) where
-  pub read-outcome : readOf img r file offset output .reply ≡ Done → readOf img r file offset output ≡ taken [] r (contentOf img r (placeAt file offset))
+  pub read-outcome : readOf img r file offset output .reply ≡ Done → readOf img r file offset output ≡ taken [] r (filled (contentOf img r (placeAt file offset)) output)
   unfolding readOf
   read-outcome e = decided-taken _ _ _ _ _ _ e
 
@@ -114,6 +114,15 @@ module _ (img : List ℕ) (r : Record) (file offset : ℕ) (output : List ℕ) w
         cond-same (isDone (verdict (readTests img r file offset output))) r,
         cond-same {A = List Step} (isDone (verdict (readTests img r file offset output))) [],
       )
+
+  -- the length that it reports
+  pub read-length : readOf img r file offset output .reply ≡ Done → readLength img r file offset output ≡ length (contentOf img r (placeAt file offset))
+  unfolding readOf readLength
+  read-length e = rw e
+
+  pub read-no-length : isDone (readOf img r file offset output .reply) ≡ false → readLength img r file offset output ≡ 0
+  unfolding readOf readLength
+  read-no-length e = rw e
 
   pub read-refused : isDone (readOf img r file offset output .reply) ≡ false
       → readOf img r file offset output ≡ stepless (readOf img r file offset output .reply) r output
@@ -277,10 +286,10 @@ first-as-long img r file offset =
       lettersKept = ap length (first-letters img r file offset) ∙ length-map (removed r file offset .letters) cleanLetter;
     })
 
-pub write-as-long : (img : List ℕ) (r : Record) (file offset : ℕ) (payload : List ℕ) → AsLong r (writeOf img r file offset payload .after)
-unfolding writeOf
-write-as-long img r file offset payload =
-    either (AsLong r) (isDone (verdict (writeTests img r file offset payload))) _ _
+pub write-as-long : (img : List ℕ) (r : Record) (file offset : ℕ) (right : Bool) (second : ℕ) (bytes : List ℕ) → AsLong r (appendOf img r file offset right second bytes .after)
+unfolding appendOf
+write-as-long img r file offset right second bytes =
+    either (AsLong r) (isDone (verdict (appendTests img r file offset right))) _ _
     (placed-as-long r (placeAt file offset) (foundAt (newPage img (r .numbers))) (foundAt (lowestFree (r .letters))))
     (unchanged r)
 

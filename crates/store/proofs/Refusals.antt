@@ -4,7 +4,7 @@ use mathlib.Core.Path.{_≡_, refl, sym, ap, _∙_}
 use mathlib.Core.Bool.{Bool, true, false, cond, not}
 use mathlib.Core.List.{List, [], _∷_, _++_}
 use native.Mathlib.Omega.{arith}
-use lib.Dec.{leb}
+use lib.Dec.{eqb, leb}
 use lib.ListN.{length, take, drop}
 use borrow.Author.Tests.{eqb-true, le-leb, lt-leb, leb-true, not-true, not-false}
 use Rattle.base.specs.Each.{Each}
@@ -17,7 +17,7 @@ use Rattle.image.proofs.Looks.{lowest-some, lowest-counted}
 use Rattle.store.specs.Reply.{Test, verdict, isDone}
 use Rattle.store.specs.Record.{Record}
 use Rattle.store.specs.Format.{formatTests, lentTests}
-use Rattle.store.specs.Write.{planTests, placeTests, nodeTests, writeTests, takingOf}
+use Rattle.store.specs.Write.{planTests, placeTests, nodeTests, appendTests, takingOf}
 use Rattle.store.specs.Read.{readTests}
 use Rattle.store.specs.CutOff.{cutOffTests}
 use Rattle.store.specs.Commit.{renewalTests, commitTests}
@@ -91,33 +91,35 @@ placeable img map letters file offset e d =
     record { size = t .0; buffers = buffers-true map letters (t .1 .0); planned = planned-true file offset (t .1 .1 .0) (t .1 .1 .1 .0) }
 
 -- ---- and after them the tests of the payload or the output and of the record
-module _ (img : List ℕ) (r : Record) (file offset : ℕ) (buffer : List ℕ) {v : Reply} where
-  pub node-refused-first : v ≡ verdict (placeTests img (r .map) (r .letters) file offset) → isDone v ≡ false → verdict (nodeTests img r file offset buffer) ≡ v
-  node-refused-first = refuses-first (placeTests img (r .map) (r .letters) file offset) (drop 4 (nodeTests img r file offset buffer))
+module _ (img : List ℕ) (r : Record) (file offset : ℕ) (right : Bool) {v : Reply} where
+  pub node-refused-first : v ≡ verdict (placeTests img (r .map) (r .letters) file offset) → isDone v ≡ false → verdict (nodeTests img r file offset right) ≡ v
+  node-refused-first = refuses-first (placeTests img (r .map) (r .letters) file offset) (drop 4 (nodeTests img r file offset right))
 
   pub node-goes-on : v ≡ verdict (placeTests img (r .map) (r .letters) file offset) → isDone v ≡ true
-      → verdict (nodeTests img r file offset buffer) ≡ verdict (drop 4 (nodeTests img r file offset buffer))
-  node-goes-on = passes-first (placeTests img (r .map) (r .letters) file offset) (drop 4 (nodeTests img r file offset buffer)) (refl, (refl, (refl, (refl, tt))))
+      → verdict (nodeTests img r file offset right) ≡ verdict (drop 4 (nodeTests img r file offset right))
+  node-goes-on = passes-first (placeTests img (r .map) (r .letters) file offset) (drop 4 (nodeTests img r file offset right)) (refl, (refl, (refl, (refl, tt))))
 
-  pub node-passed : v ≡ verdict (nodeTests img r file offset buffer) → isDone v ≡ true → Ready img r × Planned file offset × (length buffer ≡ payloadSize)
+  pub node-passed : v ≡ verdict (nodeTests img r file offset right) → isDone v ≡ true → Ready img r × Planned file offset × (right ≡ true)
   node-passed e d =
-      let t = verdict-done (nodeTests img r file offset buffer) (refl, (refl, (refl, (refl, (refl, (refl, tt)))))) (sym e ∙ done-true _ d) in
-      (ready-true img r (t .0) (t .1 .0) (t .1 .1 .1 .1 .1 .0), planned-true file offset (t .1 .1 .0) (t .1 .1 .1 .0), eqb-true _ _ (t .1 .1 .1 .1 .0))
+      let t = verdict-done (nodeTests img r file offset right) (refl, (refl, (refl, (refl, (refl, (refl, tt)))))) (sym e ∙ done-true _ d) in
+      (ready-true img r (t .0) (t .1 .0) (t .1 .1 .1 .1 .1 .0), planned-true file offset (t .1 .1 .0) (t .1 .1 .1 .0), t .1 .1 .1 .1 .0)
 
-  -- ---- write and read
-  pub write-refused-first : v ≡ verdict (nodeTests img r file offset buffer) → isDone v ≡ false → verdict (writeTests img r file offset buffer) ≡ v
-  write-refused-first = refuses-first (nodeTests img r file offset buffer) (drop 6 (writeTests img r file offset buffer))
+  -- ---- write
+  pub write-refused-first : v ≡ verdict (nodeTests img r file offset right) → isDone v ≡ false → verdict (appendTests img r file offset right) ≡ v
+  write-refused-first = refuses-first (nodeTests img r file offset right) (drop 6 (appendTests img r file offset right))
 
-  pub write-goes-on : v ≡ verdict (nodeTests img r file offset buffer) → isDone v ≡ true
-      → verdict (writeTests img r file offset buffer) ≡ verdict (drop 6 (writeTests img r file offset buffer))
-  write-goes-on = passes-first (nodeTests img r file offset buffer) (drop 6 (writeTests img r file offset buffer)) (refl, (refl, (refl, (refl, (refl, (refl, tt))))))
+  pub write-goes-on : v ≡ verdict (nodeTests img r file offset right) → isDone v ≡ true
+      → verdict (appendTests img r file offset right) ≡ verdict (drop 6 (appendTests img r file offset right))
+  write-goes-on = passes-first (nodeTests img r file offset right) (drop 6 (appendTests img r file offset right)) (refl, (refl, (refl, (refl, (refl, (refl, tt))))))
 
-  pub read-refused-first : v ≡ verdict (nodeTests img r file offset buffer) → isDone v ≡ false → verdict (readTests img r file offset buffer) ≡ v
-  read-refused-first = refuses-first (nodeTests img r file offset buffer) (drop 6 (readTests img r file offset buffer))
+-- ---- read
+module _ (img : List ℕ) (r : Record) (file offset : ℕ) (output : List ℕ) {v : Reply} where
+  pub read-refused-first : v ≡ verdict (nodeTests img r file offset (eqb (length output) payloadSize)) → isDone v ≡ false → verdict (readTests img r file offset output) ≡ v
+  read-refused-first = refuses-first (nodeTests img r file offset (eqb (length output) payloadSize)) (drop 6 (readTests img r file offset output))
 
-  pub read-goes-on : v ≡ verdict (nodeTests img r file offset buffer) → isDone v ≡ true
-      → verdict (readTests img r file offset buffer) ≡ verdict (drop 6 (readTests img r file offset buffer))
-  read-goes-on = passes-first (nodeTests img r file offset buffer) (drop 6 (readTests img r file offset buffer)) (refl, (refl, (refl, (refl, (refl, (refl, tt))))))
+  pub read-goes-on : v ≡ verdict (nodeTests img r file offset (eqb (length output) payloadSize)) → isDone v ≡ true
+      → verdict (readTests img r file offset output) ≡ verdict (drop 6 (readTests img r file offset output))
+  read-goes-on = passes-first (nodeTests img r file offset (eqb (length output) payloadSize)) (drop 6 (readTests img r file offset output)) (refl, (refl, (refl, (refl, (refl, (refl, tt))))))
 
 pub taking-refused : (v : Reply) (p g : ℕ) → isDone v ≡ false → takingOf v p g ≡ Refuse v
 taking-refused v p g e = rw e

@@ -10,21 +10,25 @@ use borrow.Author.Tests.{eqb-true, leb-true, ltb-true, not-true, eq-eqb, le-leb,
 use Rattle.base.specs.Each.{Each}
 use Rattle.base.proofs.Choice.{and-true, and-intro, true-false}
 use Rattle.base.proofs.Eachs.{each-at}
+use Rattle.page.specs.Frame.{payloadSize}
 use Rattle.page.specs.Plan.{places}
 use Rattle.page.specs.Header.{lastNumber}
 use Rattle.page.specs.Key.{positions}
+use Rattle.page.specs.Page.{padded}
+use Rattle.page.proofs.Ranges.{within-true}
+use Rattle.page.proofs.Pages.{padded-length}
 use Rattle.image.specs.Size.{sizeRight}
 use Rattle.store.specs.Reply.{Test, _else_, verdict, isDone, numberOf}
 use Rattle.store.specs.Record.{Record, mapSize, keysApart, fits}
 use Rattle.store.specs.Find.{isFound, foundAt}
 use Rattle.store.specs.Format.{buffersRight, formatTests, formatOf}
 use Rattle.store.specs.Mount.{chosenCommit, chosenKeys, mountMap, entriesFit, mountTests, mountOf}
-use Rattle.store.specs.Write.{fileRight, offsetRight, writeTests, writeOf}
+use Rattle.store.specs.Write.{fileRight, offsetRight, payloadRight, appendTests, appendOf}
 use Rattle.store.specs.Read.{readTests, readOf}
 use Rattle.store.specs.CutOff.{cutOffTests, cutOffOf}
 use Rattle.store.specs.Commit.{commitTests, commitOf}
 use Rattle.store.specs.Wipe.{wipeTests, wipeOf}
-use Rattle.store.specs.Taken.{Buffers, Ready, Planned, FormatTaken, MountTaken, WriteTaken, ReadTaken, CutOffTaken, CommitTaken, WipeTaken}
+use Rattle.store.specs.Taken.{Buffers, Ready, Planned, FormatTaken, MountTaken, Filling, WriteTaken, ReadTaken, CutOffTaken, CommitTaken, WipeTaken}
 use Rattle.store.specs.declared.Reply.{Reply}
 use Rattle.store.specs.declared.Reply.the-variants.{Done, ImageSize, BufferLength, NoiseLength, NoSuchFile, OffsetOutside, PayloadLength, RecordUnfit, NothingThere, NoFreeKey, NoRoom, NumbersSpent, NoKeyBlock, NoCommit, EntryUnfit, PowerCut}
 
@@ -251,33 +255,41 @@ module _ (img map letters scratch : List ℕ) where
       let f = and-intro (entriesFit img c) (keysApart (mountMap img c)) (t .entries) (t .apart) in
       mount-reply ∙ verdict-passed (mountTests img map letters scratch) (t .size, (b, (t .commitThere, (k, (f, tt)))))
 
--- ---- write
-module _ (img : List ℕ) (r : Record) (file offset : ℕ) (payload : List ℕ) where
-  pub write-reply : writeOf img r file offset payload .reply ≡ verdict (writeTests img r file offset payload)
-  unfolding writeOf
+-- ---- write, and whatever else appends a node; right says that its lengths are
+module _ (img : List ℕ) (r : Record) (file offset : ℕ) (right : Bool) (second : ℕ) (bytes : List ℕ) where
+  pub write-reply : appendOf img r file offset right second bytes .reply ≡ verdict (appendTests img r file offset right)
+  unfolding appendOf
   write-reply = refl
 
-  pub write-taken : writeOf img r file offset payload .reply ≡ Done → WriteTaken img r file offset payload
-  write-taken e =
-      let t = passed (writeTests img r file offset payload) refl (sym write-reply ∙ e) in
+  pub write-right : appendOf img r file offset right second bytes .reply ≡ Done → right ≡ true
+  write-right e = passed (appendTests img r file offset right) refl (sym write-reply ∙ e) 4
+
+  pub write-taken : (right ≡ true → Filling second bytes) → appendOf img r file offset right second bytes .reply ≡ Done → WriteTaken img r file offset second bytes
+  write-taken fills e =
+      let t = passed (appendTests img r file offset right) refl (sym write-reply ∙ e) in
       record {
         ready = ready-true img r (t 0) (t 1) (t 5);
         planned = planned-true file offset (t 2) (t 3);
-        payloadFull = eqb-true _ _ (t 4);
+        filling = fills (t 4);
         numbersLeft = leb-true _ _ (t 6);
         keyFree = t 7;
         room = t 8;
       }
 
-  pub write-done : WriteTaken img r file offset payload → writeOf img r file offset payload .reply ≡ Done
-  write-done t =
+  pub write-done : right ≡ true → WriteTaken img r file offset second bytes → appendOf img r file offset right second bytes .reply ≡ Done
+  write-done p t =
       let b = buffers-right (r .map) (r .letters) (t .ready .buffers) in
       let f = le-leb _ _ (t .planned .fileRight) in
       let o = lt-ltb _ _ (t .planned .offsetRight) in
-      let p = eq-eqb _ _ (t .payloadFull) in
       let s = le-leb _ _ (t .numbersLeft) in
       write-reply
-      ∙ verdict-passed (writeTests img r file offset payload) (t .ready .size, (b, (f, (o, (p, (t .ready .fit, (s, (t .keyFree, (t .room, tt)))))))))
+      ∙ verdict-passed (appendTests img r file offset right) (t .ready .size, (b, (f, (o, (p, (t .ready .fit, (s, (t .keyFree, (t .room, tt)))))))))
+
+-- a payload of a right length, padded
+pub payload-filling : (payload : List ℕ) → payloadRight payload ≡ true → Filling (length payload) (padded payload)
+payload-filling payload e =
+    let w = within-true 1 payloadSize (length payload) e in
+    record { secondMost = w .1; bytesFull = padded-length payload (w .1) }
 
 -- ---- read
 module _ (img : List ℕ) (r : Record) (file offset : ℕ) (output : List ℕ) where

@@ -60,10 +60,16 @@ pub record MountTaken (img map letters scratch : List ℕ) : Type 0 where
   pub entries : entriesFit img (foundAt (chosenCommit img)) ≡ true
   pub apart : keysApart (mountMap img (foundAt (chosenCommit img))) ≡ true
 
-pub record WriteTaken (img : List ℕ) (r : Record) (file offset : ℕ) (payload : List ℕ) : Type 0 where
+-- a second number and the bytes of a node's page
+pub record Filling (second : ℕ) (bytes : List ℕ) : Type 0 where
+  pub secondMost : second ≤ payloadSize
+  pub bytesFull : length bytes ≡ payloadSize
+
+-- a node appended. A write's second number is its payload's length, its bytes are the padded payload
+pub record WriteTaken (img : List ℕ) (r : Record) (file offset second : ℕ) (bytes : List ℕ) : Type 0 where
   pub ready : Ready img r
   pub planned : Planned file offset
-  pub payloadFull : length payload ≡ payloadSize
+  pub filling : Filling second bytes
   pub numbersLeft : r .numbers .sequence ≤ lastNumber
   pub keyFree : isFound (lowestFree (r .letters)) ≡ true
   pub room : isFound (newPage img (r .numbers)) ≡ true

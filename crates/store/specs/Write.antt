@@ -6,10 +6,10 @@ use lib.ListN.{length, set}
 use lib.Dec.{eqb, leb, ltb}
 use Rattle.page.specs.Frame.{payloadSize}
 use Rattle.page.specs.Plan.{filePlan, lastFile, places, countOf, startOf}
-use Rattle.page.specs.Header.{lastNumber}
+use Rattle.page.specs.Header.{within, lastNumber}
 use Rattle.page.specs.Key.{keyBlock}
 use Rattle.page.specs.Entry.{usedLetter, deletedLetter}
-use Rattle.page.specs.Page.{nodePage}
+use Rattle.page.specs.Page.{padded, nodePage}
 use Rattle.image.specs.Look.{blockAt}
 use Rattle.image.specs.Step.{Step, program}
 use Rattle.image.specs.Block.{keyInBlock}
@@ -43,18 +43,26 @@ placeTests img map letters file offset = lentTests img map letters ++ planTests 
 abbrev pub fitTests : List ℕ → Record → List Test
 fitTests img r = (fits img r else RecordUnfit) ∷ []
 
--- the tests that write and read begin with; the buffer is the payload or the output
-abbrev pub nodeTests : List ℕ → Record → ℕ → ℕ → List ℕ → List Test
-nodeTests img r file offset buffer =
-    placeTests img (r .map) (r .letters) file offset ++ (((eqb (length buffer) payloadSize else PayloadLength) ∷ []) ++ fitTests img r)
+-- the tests that write and read begin with; right says whether payload or output has a right length, refusal 6
+abbrev pub nodeTests : List ℕ → Record → ℕ → ℕ → Bool → List Test
+nodeTests img r file offset right =
+    placeTests img (r .map) (r .letters) file offset ++ (((right else PayloadLength) ∷ []) ++ fitTests img r)
 
-abbrev pub writeTests : List ℕ → Record → ℕ → ℕ → List ℕ → List Test
-writeTests img r file offset payload =
-    nodeTests img r file offset payload
+-- the tests of what appends a node
+abbrev pub appendTests : List ℕ → Record → ℕ → ℕ → Bool → List Test
+appendTests img r file offset right =
+    nodeTests img r file offset right
     ++ ((leb (r .numbers .sequence) lastNumber else NumbersSpent)
     ∷ (isFound (lowestFree (r .letters)) else NoFreeKey)
     ∷ (isFound (newPage img (r .numbers)) else NoRoom)
     ∷ [])
+
+-- a payload is of 1 to 224 bytes
+abbrev pub payloadRight : List ℕ → Bool
+payloadRight payload = within 1 payloadSize (length payload)
+
+abbrev pub writeTests : List ℕ → Record → ℕ → ℕ → List ℕ → List Test
+writeTests img r file offset payload = appendTests img r file offset (payloadRight payload)
 
 -- what the tests of a write hand on: the key position and the page that it takes, or the refusal
 abbrev pub takingOf : Reply → ℕ → ℕ → Taking
@@ -89,16 +97,21 @@ placed r x g p =
       numbers = nextSequence (r .numbers);
     }
 
-unfoldable pub writeSteps : List ℕ → Record → ℕ → ℕ → List ℕ → List Step
-writeSteps img r file offset payload =
+-- ---- one motion appends a node: a second number and all 224 bytes, under the lowest free key, on the page that is found
+unfoldable pub appendSteps : List ℕ → Record → ℕ → ℕ → ℕ → List ℕ → List Step
+appendSteps img r file offset second bytes =
     let p = foundAt (lowestFree (r .letters)) in
-    program (foundAt (newPage img (r .numbers))) (nodePage (r .numbers .sequence) file offset p (keyHeld img (r .numbers) p) payload) ∷ []
+    program (foundAt (newPage img (r .numbers))) (nodePage (r .numbers .sequence) file offset p second (keyHeld img (r .numbers) p) bytes) ∷ []
 
-unfoldable pub writeOf : List ℕ → Record → ℕ → ℕ → List ℕ → Outcome
-writeOf img r file offset payload =
-    decided (verdict (writeTests img r file offset payload)) (writeSteps img r file offset payload)
+unfoldable pub appendOf : List ℕ → Record → ℕ → ℕ → Bool → ℕ → List ℕ → Outcome
+appendOf img r file offset right second bytes =
+    decided (verdict (appendTests img r file offset right)) (appendSteps img r file offset second bytes)
     (placed r (placeAt file offset) (foundAt (newPage img (r .numbers))) (foundAt (lowestFree (r .letters)))) []
     r []
+
+-- a write appends its payload and spaces after it; the second number is the payload's length
+abbrev pub writeOf : List ℕ → Record → ℕ → ℕ → List ℕ → Outcome
+writeOf img r file offset payload = appendOf img r file offset (payloadRight payload) (length payload) (padded payload)
 
 -- what a write leaves, whole or cut: the equation of its contracts
 abbrev pub writeLeaves : (Outcome → List ℕ → Left) → List ℕ → List ℕ → List ℕ → Numbers → ℕ → ℕ → List ℕ → Left

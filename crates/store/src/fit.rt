@@ -5,6 +5,7 @@ use image::look;
 use page::columns;
 use page::entries;
 use page::forms;
+use page::headers;
 use page::keys;
 use page::keys::POSITIONS;
 use page::plan;
@@ -19,7 +20,7 @@ ghost use Rattle.base.specs.Search.{allFrom};
 ghost use Rattle.page.specs.Column.{spell};
 ghost use Rattle.page.specs.Word.{wordBytes};
 ghost use Rattle.page.specs.Plan.{filePlan, lastFile, places, countOf, startOf};
-ghost use Rattle.page.specs.Header.{lastNumber, within};
+ghost use Rattle.page.specs.Header.{lastNumber, within, secondRight};
 ghost use Rattle.page.specs.Key.{positions};
 ghost use Rattle.page.specs.Entry.{none, isLetter, usedLetter};
 ghost use Rattle.image.specs.Size.{blockSize, sizeRight};
@@ -78,11 +79,31 @@ fn blocks_fit(image: &[u8], numbers: Numbers) -> bool
     is_commit(image, numbers.commit)
 }
 
+// Columns of a second number that a node may have: those of a page, if it is one of the image and has such a number. The
+// nodes beside it often have the same.
+fn second_columns(image: &[u8], page: u16) -> u64
+    requires { ⌜ length (now image) % blockSize ≡ 0 ⌝ }
+    ensures { λ r. ⌜ secondRight (wordBytes 8 r) ≡ true ⌝ }
+{
+    if look::pages(image) <= page as usize {
+        return headers::SPELT_LONGEST;
+    }
+    headers::second_columns(look::page_at(image, page as usize))
+}
+
 // Whether a page is one of the image and a whole N page of this file, offset and key. The file's columns are given as
-// they are spelt.
-fn node_fits(image: &[u8], file: u32, text: u32, offset: u32, page: u16, key: u16) -> bool
+// they are spelt, and the columns of some second number.
+fn node_fits(
+    image: &[u8],
+    file: u32,
+    text: u32,
+    offset: u32,
+    page: u16,
+    key: u16,
+    known: u64,
+) -> bool
     requires { ⌜ (length (now image) % blockSize ≡ 0) × (file ≤ lastFile) × (offset < countOf filePlan file)
-        × (wordBytes 4 text ≡ spell 4 file) ⌝ }
+        × (wordBytes 4 text ≡ spell 4 file) × (secondRight (wordBytes 8 known) ≡ true) ⌝ }
     ensures { λ r. ⌜ r ≡ nodeAt (startOf filePlan file + offset) key (formAt (old image) page) ⌝ }
 {
     if look::pages(image) <= page as usize {
@@ -97,6 +118,7 @@ fn node_fits(image: &[u8], file: u32, text: u32, offset: u32, page: u16, key: u1
         text,
         offset,
         key as u32,
+        known,
     )
 }
 
@@ -112,7 +134,15 @@ pub fn place_fits(image: &[u8], map: &[u16], x: usize) -> bool
     }
     let file = plan::file_at(x);
     let text = columns::spelt4(file);
-    node_fits(image, file, text, x as u32 - plan::start(file), page, key)
+    node_fits(
+        image,
+        file,
+        text,
+        x as u32 - plan::start(file),
+        page,
+        key,
+        headers::SPELT_LONGEST,
+    )
 }
 
 // Whether the run of places from x on is vacant.
@@ -173,10 +203,11 @@ fn pass_place(
     text: u32,
     first: usize,
     x: usize,
+    known: u64,
 ) -> bool
     requires { ⌜ (length (now image) % blockSize ≡ 0) × (length (now map) ≡ mapSize)
         × InFile file first x (x + 1) × Tested (now image) (now map) (now named) x
-        × (wordBytes 4 text ≡ spell 4 file) ⌝ }
+        × (wordBytes 4 text ≡ spell 4 file) × (secondRight (wordBytes 8 known) ≡ true) ⌝ }
     ensures { λ r. ⌜ Testing (old image) (old map) (new named) (x + 1) r ⌝ }
 {
     let page = map[x];
@@ -184,7 +215,7 @@ fn pass_place(
     if (page == entries::NONE) & (key == entries::NONE) {
         return true;
     }
-    if !node_fits(image, file, text, (x - first) as u32, page, key) {
+    if !node_fits(image, file, text, (x - first) as u32, page, key, known) {
         return false;
     }
     name(named, key)
@@ -205,9 +236,10 @@ fn run_fits(
     ensures { λ r. ⌜ Testing (old image) (old map) (new named) end r ⌝ }
 {
     let text = columns::spelt4(file);
+    let known = second_columns(image, map[from]);
     let mut x: usize = from;
     while x < end {
-        if !pass_place(image, map, named, file, text, first, x) {
+        if !pass_place(image, map, named, file, text, first, x, known) {
             return false;
         }
         x += 1;

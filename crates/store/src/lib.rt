@@ -67,6 +67,12 @@ pub enum Reply {
     PowerCut,
 }
 
+// A read's answer: its reply, and how many bytes the payload has, 0 where it was refused.
+pub struct Reading {
+    pub reply: Reply,
+    pub length: usize,
+}
+
 // A call's answer: its reply, and the numbers of the record afterwards.
 pub struct Answer {
     pub reply: Reply,

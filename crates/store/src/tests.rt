@@ -107,7 +107,7 @@ pub fn refuse_renewal(
     Reply::Done
 }
 
-// The tests that write and read begin with, in order. The buffer is the payload or the output.
+// The tests that write and read begin with, in order; right says whether payload or output has a right length.
 pub fn refuse_node(
     image: &[u8],
     map: &[u16],
@@ -115,16 +115,16 @@ pub fn refuse_node(
     numbers: Numbers,
     file: u32,
     offset: u32,
-    buffer: &[u8],
+    right: bool,
 ) -> Reply
     ensures { λ r. ⌜ r
-        ≡ verdict (nodeTests (old image) (recordOf (old map) (old letters) numbers) file offset (old buffer)) ⌝ }
+        ≡ verdict (nodeTests (old image) (recordOf (old map) (old letters) numbers) file offset right) ⌝ }
 {
     let reply = refuse_place(image, map, letters, file, offset);
     if !replies::is_done(reply) {
         return reply;
     }
-    if buffer.len() != Frame::PAYLOAD {
+    if !right {
         return Reply::PayloadLength;
     }
     if !fit::fits(image, map, letters, numbers) {

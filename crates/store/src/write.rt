@@ -10,21 +10,32 @@ use crate::replies;
 use crate::tests;
 use image::Power;
 use image::steps;
+use page::Frame;
 use page::headers::LAST_NUMBER;
 ghost use mathlib.Core.Path.{_≡_};
+ghost use mathlib.Core.Bool.{true};
 ghost use mathlib.Core.List.{[]};
+ghost use lib.ListN.{length};
 ghost use Rattle.base.specs.Lent.{old, new};
+ghost use Rattle.page.specs.Page.{padded};
 ghost use Rattle.store.specs.Reply.{verdict};
 ghost use Rattle.store.specs.Record.{recordOf};
 ghost use Rattle.store.specs.Outcome.{left, leftWhole, standing};
 ghost use Rattle.store.specs.Find.{lowestFree, newPage, foundAt};
-ghost use Rattle.store.specs.Write.{writeTests, takingOf, writeLeaves};
+ghost use Rattle.store.specs.Write.{payloadRight, writeTests, takingOf, writeLeaves};
 ghost use Rattle.store.specs.Taken.{WriteTaken};
 
 // What the tests of a write find: the key position and the page that it takes, or the refusal.
 pub enum Taking {
     Take(usize, usize),
     Refuse(Reply),
+}
+
+// Whether a payload has 1 to 224 bytes.
+fn is_payload(payload: &[u8]) -> bool
+    ensures { λ r. ⌜ r ≡ payloadRight (old payload) ⌝ }
+{
+    (1 <= payload.len()) & (payload.len() <= Frame::PAYLOAD)
 }
 
 // The tests of a write, in order.
@@ -40,7 +51,8 @@ fn test_write(
     ensures { λ r. ⌜ r ≡ takingOf (verdict (writeTests (old image) (recordOf (old map) (old letters) numbers) file
         offset (old payload))) (foundAt (lowestFree (old letters))) (foundAt (newPage (old image) numbers)) ⌝ }
 {
-    let reply = tests::refuse_node(image, map, letters, numbers, file, offset, payload);
+    let right = is_payload(payload);
+    let reply = tests::refuse_node(image, map, letters, numbers, file, offset, right);
     if !replies::is_done(reply) {
         return Taking::Refuse(reply);
     }
@@ -70,7 +82,9 @@ fn write_taken(
     n: u64,
     k: usize,
 ) -> Answer
-    requires { ⌜ WriteTaken (now image) (recordOf (now map) (now letters) numbers) file offset (now payload) ⌝ }
+    requires { ⌜ WriteTaken (now image) (recordOf (now map) (now letters) numbers) file offset (length (now payload))
+        (padded (now payload)) ⌝ }
+    requires { ⌜ payloadRight (now payload) ≡ true ⌝ }
     requires { ⌜ (p ≡ foundAt (lowestFree (now letters))) × (g ≡ foundAt (newPage (now image) numbers)) ⌝ }
     ensures { λ r. ⌜ standing r (new image) (new map) (new letters) []
         ≡ writeLeaves (left n k) (old image) (old map) (old letters) numbers file offset (old payload) ⌝ }

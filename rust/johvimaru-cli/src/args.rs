@@ -49,7 +49,7 @@ pub enum Command {
         file: u32,
         /// The offset.
         offset: u32,
-        /// Print the 224 bytes as they are.
+        /// Add nothing to its bytes, on a terminal neither.
         raw: bool,
     },
     /// Print the nodes of a file, a line each.

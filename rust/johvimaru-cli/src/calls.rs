@@ -4,10 +4,10 @@ use crate::args::Call;
 use crate::image_file::{self, blocks_in_words, counted, name, ImageFile, BLOCKS};
 use crate::{say, Problem};
 use johvimaru::{
-    payload, Chip, Cut, CutChip, CutError, Driver, Failure, FileChip, MemoryChip, Noise, Offset,
-    Payload, Record, Refusal, Store, BLOCK, MAX_BLOCKS, MIN_BLOCKS, PAYLOAD,
+    Chip, Cut, CutChip, CutError, Driver, Failure, FileChip, MemoryChip, Noise, Offset, Payload,
+    Record, Refusal, Store, BLOCK, MAX_BLOCKS, MIN_BLOCKS, PAYLOAD,
 };
-use std::io::{self, Read, Write};
+use std::io::{self, IsTerminal, Read, Write};
 use std::path::Path;
 
 /// A recorder whose chip is a file, and whose power can be cut.
@@ -195,6 +195,9 @@ impl Ready {
 
 /// As many bytes as make it plain whether a payload is too long.
 fn standard_input() -> Result<Vec<u8>, Problem> {
+    if io::stdin().is_terminal() {
+        say("type the payload; Ctrl-D at the start of a line ends it");
+    }
     let mut bytes = Vec::new();
     io::stdin().lock().take(PAYLOAD as u64 + 1).read_to_end(&mut bytes)?;
     Ok(bytes)
@@ -210,10 +213,18 @@ pub fn offset_in(file: u32, offset: u32) -> Result<Offset, Problem> {
     })
 }
 
-/// The payload of these bytes. A refusal says how many there may be.
+/// The payload of these bytes. A refusal says how many there may be, and what to do.
 pub fn fitting(bytes: &[u8]) -> Result<Payload, Problem> {
-    payload(bytes).map_err(|refusal| {
-        let words = format!("a payload has at most {PAYLOAD} bytes, and this text has more");
+    Payload::new(bytes).map_err(|refusal| {
+        let words = match bytes.is_empty() {
+            true => format!(
+                "there is nothing to write: a payload has 1 to {PAYLOAD} bytes; cut-off or wipe \
+                 removes what is there"
+            ),
+            false => {
+                format!("a payload has at most {PAYLOAD} bytes, and this has more; use two offsets")
+            }
+        };
         Problem::Explained(refusal, words)
     })
 }
@@ -305,9 +316,10 @@ fn say_done(
         format!("{} of {} from offset {} on", counted(gone, "node"), from.file(), from.number())
     };
     match ready {
-        Ready::Write(at, _) => {
+        Ready::Write(at, payload) => {
             if let Some(node) = new.node(*at) {
-                writeln!(out, "written: {at}, page {}, key {}", node.page, node.key)?;
+                let bytes = counted(payload.len(), "byte");
+                writeln!(out, "written: {at}, {bytes}, page {}, key {}", node.page, node.key)?;
             }
         }
         Ready::CutOff(from) => {

@@ -286,7 +286,7 @@ pub fn listed(name: &str, numbers: &[usize]) -> String {
 #[cfg(test)]
 mod tests {
     use super::*;
-    use johvimaru::{payload, Noise, NOISE};
+    use johvimaru::{Noise, NOISE};
 
     type Image = Store<Vec<u8>>;
 
@@ -305,7 +305,7 @@ mod tests {
     }
 
     fn write(store: &mut Image, file: u32, offset: u32, text: &str) {
-        store.write(at(file, offset), &payload(text.as_bytes()).unwrap()).unwrap();
+        store.write(at(file, offset), text.as_bytes()).unwrap();
     }
 
     /// An image with three live nodes under keys 1 to 3, and key 0 deleted.

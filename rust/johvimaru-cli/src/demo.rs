@@ -5,8 +5,8 @@ use crate::picture::{self, Shown};
 use crate::seen::Seen;
 use crate::Problem;
 use johvimaru::{
-    payload, Cut, CutChip, CutError, Driver, Failure, File, MemoryChip, Misuse, Noise, Offset,
-    Record, Refusal, BLOCK, KEY,
+    Cut, CutChip, CutError, Driver, Failure, File, MemoryChip, Misuse, Noise, Offset, Record,
+    Refusal, BLOCK, KEY,
 };
 use std::io::Write;
 
@@ -99,8 +99,7 @@ impl Play<'_> {
         self.head(&format!("The power fails in a write, after {} of 256 bytes", CUT_WRITE.k))?;
         self.device.chip_mut().cut_at(CUT_WRITE);
         let at = Offset::new(file, offset)?;
-        let payload = payload(text.as_bytes())?;
-        let result = self.device.write(at, &payload);
+        let result = self.device.write(at, text.as_bytes());
         self.expect_cut(result)?;
         let deleted = self.record_after_mount()?.counts().deleted;
         let text = self.text(file, offset)?;
@@ -189,15 +188,15 @@ impl Play<'_> {
 
     fn write(&mut self, file: u32, offset: u32, text: &str) -> Result<(), Problem> {
         let at = Offset::new(file, offset)?;
-        self.device.write(at, &payload(text.as_bytes())?).map_err(told)?;
+        self.device.write(at, text.as_bytes()).map_err(told)?;
         let node = self.node(file, offset)?;
         self.say(&format!("{at}: {text:?} on page {} under key {}", node.page, node.key))
     }
 
-    /// A payload's text, without the spaces after it.
+    /// A payload's text.
     fn text(&self, file: u32, offset: u32) -> Result<String, Problem> {
         let payload = self.device.read(Offset::new(file, offset)?).map_err(told)?;
-        Ok(String::from_utf8_lossy(&payload).trim_end().to_string())
+        Ok(String::from_utf8_lossy(&payload).into_owned())
     }
 
     fn node(&self, file: u32, offset: u32) -> Result<johvimaru::Node, Problem> {

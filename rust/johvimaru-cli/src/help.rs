@@ -120,8 +120,8 @@ johvimaru: a flash page store that forgets, on an image file
 
   format [--blocks N]          make an empty store
   mount                        find the record, erase what cut calls have left
-  write FILE OFFSET [TEXT|-]   write a payload
-  read FILE OFFSET             print a payload
+  write FILE OFFSET [TEXT|-]   write a payload of 1 to 224 bytes
+  read FILE OFFSET             print a payload, byte for byte
   cut-off FILE OFFSET          remove the nodes of a file from an offset on
   commit                       replace the keys that no node has
   wipe FILE OFFSET             cut off and commit: it cannot be read again
@@ -189,9 +189,13 @@ To hand it over nevertheless, with nothing to save: `handover --force`.
 const WRITE: &str = "\
 johvimaru write FILE OFFSET [TEXT|-] [--cut n,k] [--image FILE]
 
-Writes a payload. What was there before is replaced. The text is at most 224
-bytes, and spaces follow it up to 224. Without a text, or where it is -, it is
-read from standard input. A text that begins with - comes after the word --.
+Writes a payload of 1 to 224 bytes. What was there before is replaced. It is
+the text, or without a text, or where that is -, what stands on standard
+input, byte for byte: nothing is added and nothing taken away, so an end of
+line is stored too. `printf %s 4.12 | johvimaru write 0 0` stores 4 bytes,
+with `echo` they are 5; what it says tells how many they were. A text that
+begins with - comes after the word --. No bytes or more than 224 are refused
+with 6, and nothing is written.
 
 It has one step. Cut at a k below 30 it leaves no header and the key is free;
 at 30 to 255 it leaves a torn page, and its key is deleted; in both cases what
@@ -201,8 +205,11 @@ was there before still is.
 const READ: &str = "\
 johvimaru read FILE OFFSET [--raw] [--image FILE]
 
-Prints the payload without the spaces at its end, and ends the line. With
---raw the 224 bytes are printed as they are. It mounts a copy, and leaves the
+Prints the payload's bytes, as many as were written, and nothing else, so that
+`johvimaru read 0 0 | cmp - FILE` holds for what `write 0 0 <FILE` has stored.
+Only on a terminal a line's end is added where they have none; with --raw not
+there either. A node of a recorder from before version 0.3.0 has no length: it
+has 224 bytes, mostly with spaces at the end. It mounts a copy, and leaves the
 image as it is.
 ";
 
@@ -256,18 +263,21 @@ A handover that was stopped is made again. Keep both reports then.
 const EXPORT: &str = "\
 johvimaru export FILE [--text] [--image FILE]
 
-Prints a line for each node of a file: its offset, a tab, and its payload in
-448 hexadecimal digits. With --text the payload is printed as text, without the
-spaces at its end; a tab, an end of line, a backslash and what is no text are
-printed as \\t, \\n, \\r, \\\\ and \\x with two digits. The image is left as it is.
+Prints a line for each node of a file: its offset, a tab, the length of its
+payload, a tab, and the payload in hexadecimal digits, two for each byte. With
+--text it is offset, tab, and the payload as text: a tab, an end of line, a
+backslash and what is no text are printed as \\t, \\n, \\r, \\\\ and \\x with two
+digits, and so is a space at the end (\\x20). The image is left as it is.
 ";
 
 const IMPORT: &str = "\
 johvimaru import FILE [--text] [--image FILE]
 
-Writes the nodes of such lines, read from standard input, into a file. All
-lines are tested first, and whether there are keys and pages for all of them:
-where one is wrong nothing is written. Nodes at other offsets stay.
+Writes the nodes of such lines, read from standard input, into a file, each
+as long as it was. All lines are tested first, and whether there are keys and
+pages for all of them: where one is wrong nothing is written. Nodes at other
+offsets stay. Lines of an export by version 0.2.0 are taken too: its digits
+are 224 bytes each, and its texts have no spaces at their end.
 ";
 
 const LIST: &str = "\
@@ -276,7 +286,8 @@ johvimaru list [--json] [--image FILE]
 Prints a line for each node: file, offset, page and key position in 4, 4, 6
 and 6 columns. Then how many keys are used, free and deleted, 6 columns each.
 It mounts a copy, and leaves the file as it is. Where the mount is refused it
-prints the number in 6 columns. With --json all of it is JSON.
+prints the number in 6 columns. With --json all of it is JSON, and each node
+has the length of its payload as well.
 ";
 
 const CHECK: &str = "\

@@ -3,14 +3,14 @@
 use crate::image_file;
 use crate::json::Json;
 use crate::Problem;
-use johvimaru::{KeyCounts, Node, Record, Refusal};
+use johvimaru::{KeyCounts, Node, Record, Refusal, Store};
 use std::io::Write;
 use std::path::Path;
 
 /// Prints the listing of an image file. Where its mount is refused, the number is printed.
 pub fn run(path: &Path, json: bool, out: &mut dyn Write) -> Result<(), Problem> {
     match image_file::look(path).and_then(|image| image_file::mount(path, &image)) {
-        Ok(store) if json => writeln!(out, "{}", as_json(store.record()))?,
+        Ok(store) if json => writeln!(out, "{}", as_json(&store)?)?,
         Ok(store) => out.write_all(text(store.record()).as_bytes())?,
         Err(problem) => {
             if let Problem::RefusedFile(_, refusal) = problem {
@@ -32,12 +32,16 @@ pub fn refused(refusal: Refusal) -> Json {
 
 /// A node as JSON.
 pub fn node(node: Node) -> Json {
-    Json::Object(vec![
+    Json::Object(fields(node))
+}
+
+fn fields(node: Node) -> Vec<(&'static str, Json)> {
+    vec![
         ("file", node.at.file().number().into()),
         ("offset", node.at.number().into()),
         ("page", node.page.into()),
         ("key", node.key.into()),
-    ])
+    ]
 }
 
 /// How many keys have each letter, as JSON.
@@ -49,9 +53,16 @@ pub fn keys(counts: KeyCounts) -> Json {
     ])
 }
 
-fn as_json(record: &Record) -> Json {
-    let nodes = record.nodes().map(node).collect();
-    Json::Object(vec![("nodes", Json::List(nodes)), ("keys", keys(record.counts()))])
+/// The listing as JSON, in which each node has the length of its payload too.
+fn as_json(store: &Store<Vec<u8>>) -> Result<Json, Problem> {
+    let record = store.record();
+    let with_length = |node: Node| {
+        let mut fields = fields(node);
+        fields.push(("length", store.read(node.at)?.len().into()));
+        Ok(Json::Object(fields))
+    };
+    let nodes = record.nodes().map(with_length).collect::<Result<_, Problem>>()?;
+    Ok(Json::Object(vec![("nodes", Json::List(nodes)), ("keys", keys(record.counts()))]))
 }
 
 /// A line for each node, by place, then how many keys have each letter.
@@ -68,7 +79,7 @@ pub fn text(record: &Record) -> String {
 #[cfg(test)]
 mod tests {
     use super::*;
-    use johvimaru::{Noise, Offset, Store};
+    use johvimaru::{Noise, Offset};
 
     #[test]
     fn the_case_of_document_01() -> Result<(), Refusal> {

@@ -1,17 +1,19 @@
-//! Payloads read, and the nodes of a file as lines: offset, tab, payload.
+//! Payloads read, and the nodes of a file as lines: offset, tab, length, tab, payload in hexadecimal digits; or
+//! offset, tab, payload as text.
 
 use crate::calls::{self, fitting, offset_in};
 use crate::check::pages_left;
 use crate::image_file::{self, counted, ImageFile};
 use crate::{say, Problem};
 use johvimaru::{File, Offset, Payload, Record, Refusal, PAYLOAD};
-use std::io::{self, Read, Write};
+use std::io::{self, IsTerminal, Read, Write};
 use std::path::Path;
 
 /// The first number that is no sequence.
 const SEQUENCES_END: u64 = 100_000_000;
 
-/// Reads a payload and prints it.
+/// Reads a payload and prints its bytes. On a terminal a line's end follows where they have none, so that what
+/// comes next stands on a line of its own, unless they are to be left as they are there too.
 pub fn read(
     path: &Path,
     file: u32,
@@ -21,18 +23,11 @@ pub fn read(
 ) -> Result<(), Problem> {
     let at = offset_in(file, offset)?;
     let payload = image_file::mount(path, &image_file::look(path)?)?.read(at)?;
-    if raw {
-        return Ok(out.write_all(&payload)?);
+    out.write_all(&payload)?;
+    if !raw && io::stdout().is_terminal() && !payload.ends_with(b"\n") {
+        writeln!(out)?;
     }
-    let text = trimmed(&payload);
-    let end: &[u8] = if text.ends_with(b"\n") { b"" } else { b"\n" };
-    Ok(out.write_all(text).and_then(|()| out.write_all(end))?)
-}
-
-/// A payload without the spaces at its end.
-fn trimmed(payload: &Payload) -> &[u8] {
-    let length = payload.iter().rposition(|&byte| byte != b' ').map_or(0, |last| last + 1);
-    &payload[..length]
+    Ok(())
 }
 
 /// Prints the nodes of a file, a line each.
@@ -42,8 +37,11 @@ pub fn export(path: &Path, file: u32, text: bool, out: &mut dyn Write) -> Result
     let nodes: Vec<_> = store.record().nodes().filter(|node| node.at.file() == file).collect();
     for node in &nodes {
         let payload = store.read(node.at)?;
-        let spelt = if text { as_text(trimmed(&payload)) } else { as_digits(&payload) };
-        writeln!(out, "{}\t{spelt}", node.at.number())?;
+        let offset = node.at.number();
+        match text {
+            true => writeln!(out, "{offset}\t{}", as_text(&payload))?,
+            false => writeln!(out, "{offset}\t{}\t{}", payload.len(), as_digits(&payload))?,
+        }
     }
     say(format!("{} of {file}", counted(nodes.len(), "node")));
     Ok(())
@@ -111,11 +109,11 @@ fn parsed(file: File, text: bool, lines: &[u8]) -> Result<Vec<(Offset, Payload)>
 
 /// A problem with a line of the input.
 fn in_line(number: usize, problem: Problem) -> Problem {
-    let at = |words: String| format!("line {number}: {words}");
+    let at = |words: String| format!("line {number}: {words}; nothing was written");
     match problem {
         Problem::Refused(refusal) => Problem::Explained(refusal, at(refusal.to_string())),
         Problem::Explained(refusal, words) => Problem::Explained(refusal, at(words)),
-        other => Problem::System(at(format!("{other}; nothing was written"))),
+        other => Problem::System(at(other.to_string())),
     }
 }
 
@@ -128,13 +126,31 @@ fn node_of(file: File, text: bool, line: &[u8]) -> Result<(Offset, Payload), Pro
     let offset =
         digits.and_then(|text| text.parse().ok()).ok_or(wrong("the offset is no number"))?;
     let at = offset_in(file.number(), offset)?;
-    let bytes = if text { from_text(&payload[1..]) } else { from_digits(&payload[1..]) };
-    let bytes = bytes.filter(|bytes| text || bytes.len() == PAYLOAD);
-    let bytes = bytes.ok_or(wrong(match text {
-        true => "a backslash stands before what it does not go with",
-        false => "the payload is not 448 hexadecimal digits; is it text? then give --text",
-    }))?;
+    let digits = from_length_and_digits(&payload[1..]);
+    let bytes = match (text, digits) {
+        (true, Some(_)) => return Err(wrong("these are hexadecimal digits: leave --text out")),
+        (true, None) => from_text(&payload[1..])
+            .ok_or(wrong("a backslash stands before what it does not go with"))?,
+        (false, digits) => digits.ok_or(wrong(
+            "after the offset stands no length, tab and two hexadecimal digits for each byte; \
+             is it text? then give --text",
+        ))?,
+    };
     Ok((at, fitting(&bytes)?))
+}
+
+/// The payload that an export without `--text` has spelt: its length, a tab and its digits. Version 0.2.0 left the
+/// length out, and had 224 bytes always.
+fn from_length_and_digits(payload: &[u8]) -> Option<Vec<u8>> {
+    let tab = payload.iter().position(|&byte| byte == b'\t');
+    let (length, digits) = match tab {
+        None => (PAYLOAD, payload),
+        Some(tab) => {
+            let length = std::str::from_utf8(&payload[..tab]).ok().filter(|text| is_number(text));
+            (length?.parse().ok()?, &payload[tab + 1..])
+        }
+    };
+    from_digits(digits).filter(|bytes| bytes.len() == length)
 }
 
 fn is_number(text: &str) -> bool {
@@ -151,8 +167,16 @@ fn from_digits(digits: &[u8]) -> Option<Vec<u8>> {
     pairs.iter().map(|&[a, b]| Some((16 * digit(a)? + digit(b)?) as u8)).collect()
 }
 
-/// Bytes as a text of one line, in which a backslash begins what stands for something else.
+/// Bytes as a text of one line, in which a backslash begins what stands for something else. A space at the end is
+/// spelt so too: it is seen then, and no editor takes it away.
 fn as_text(bytes: &[u8]) -> String {
+    if let Some((b' ', before)) = bytes.split_last() {
+        return inner_text(before) + &escaped(b" ");
+    }
+    inner_text(bytes)
+}
+
+fn inner_text(bytes: &[u8]) -> String {
     let mut text = String::new();
     for chunk in bytes.utf8_chunks() {
         for c in chunk.valid().chars() {
@@ -209,13 +233,31 @@ mod tests {
     #[test]
     fn payloads_go_to_text_and_back() {
         let all: Vec<u8> = (0..=255).collect();
-        for bytes in [&all[..200], &all[100..], "\u{85}öß \\x41\r\n".as_bytes(), b""] {
+        let odd = "\u{85}öß \\x41\r\n".as_bytes();
+        for bytes in [&all[..200], &all[100..], odd, b"a   ", b" ", b""] {
             let text = as_text(bytes);
-            assert!(!text.contains(['\n', '\t', '\r']), "{text}");
+            assert!(!text.contains(['\n', '\t', '\r']) && !text.ends_with(' '), "{text}");
             assert_eq!(from_text(text.as_bytes()).as_deref(), Some(bytes));
             assert_eq!(from_digits(as_digits(bytes).as_bytes()).as_deref(), Some(bytes));
         }
         assert_eq!(as_text(b"a\\b\x01\xff"), "a\\\\b\\x01\\xff");
+        assert_eq!(as_text(b" a  "), " a \\x20");
+    }
+
+    const NO_DIGITS: &str = "line 1: after the offset stands no length, tab and two hexadecimal \
+                             digits for each byte; is it text? then give --text; nothing was \
+                             written";
+
+    /// Lines of version 0.2.0, which had 224 bytes always and left spaces out of a text's end.
+    #[test]
+    fn lines_of_older_exports() {
+        let file = File::new(2).unwrap();
+        let digits = format!("3\t{}{}\n", "41".repeat(4), "20".repeat(220));
+        let nodes = parsed(file, false, digits.as_bytes()).unwrap();
+        assert_eq!(nodes[0].1, [&b"AAAA"[..], &[b' '; 220]].concat()[..]);
+        assert!(parsed(file, true, digits.as_bytes()).is_err(), "they are no text");
+        assert!(parsed(file, false, &digits.as_bytes()[..440]).is_err(), "a line without its end");
+        assert_eq!(parsed(file, true, b"3\tAAAA\n").unwrap()[0].1, b"AAAA");
     }
 
     #[test]
@@ -226,16 +268,16 @@ mod tests {
             (true, "0\ta\n\n", "line 2: there is no tab; nothing was written"),
             (false, "x\t00", "line 1: the offset is no number; nothing was written"),
             (false, "+1\t00", "line 1: the offset is no number; nothing was written"),
-            (
-                false,
-                "0\t0",
-                "line 1: the payload is not 448 hexadecimal digits; is it text? then give --text",
-            ),
-            (
-                false,
-                "0\t0g",
-                "line 1: the payload is not 448 hexadecimal digits; is it text? then give --text",
-            ),
+            (false, "0\t41", NO_DIGITS),
+            (false, "0\t1\t0g", NO_DIGITS),
+            (false, "0\t1\t4141", NO_DIGITS),
+            (false, "0\t2\t41", NO_DIGITS),
+            (false, "0\t+1\t41", NO_DIGITS),
+            (false, "0\t1\t41\t", NO_DIGITS),
+            (false, "0\tdraught", NO_DIGITS),
+            (true, "0\t1\t41", "line 1: these are hexadecimal digits: leave --text out; nothing"),
+            (true, "0\t", "refused 6: line 1: there is nothing to write"),
+            (false, "0\t0\t", "refused 6: line 1: there is nothing to write"),
             (true, "0\ta\n0\tb", "line 2: offset 0 stands twice; nothing was written"),
             (true, "24\ta", "refused 5: line 1: file 2 has 24 offsets, 0 to 23, and no 24"),
             (true, "0\ta\\b", "line 1: a backslash stands before what it does not go with"),
@@ -250,7 +292,7 @@ mod tests {
         assert!(problem.starts_with("refused 6: line 1: a payload has at most 224"), "{problem}");
         assert_eq!(parsed(file, true, b"").unwrap(), []);
         for lines in [&b"3\tx\n"[..], b"3\tx\r\n", b"3\tx"] {
-            let expected = (Offset::new(2, 3).unwrap(), johvimaru::payload(b"x").unwrap());
+            let expected = (Offset::new(2, 3).unwrap(), Payload::new(b"x").unwrap());
             assert_eq!(parsed(file, true, lines).unwrap(), [expected]);
         }
     }

@@ -251,7 +251,7 @@ fn standard_output_that_takes_nothing() {
     let full = fs::OpenOptions::new().write(true).open("/dev/full").unwrap();
     let output = folder.command(&["write", "0", "0", "kept"]).stdout(full).output().unwrap();
     assert_eq!(output.status.code(), Some(3));
-    assert_eq!(folder.done("read 0 0"), "kept\n");
+    assert_eq!(folder.done("read 0 0"), "kept");
     let full = fs::OpenOptions::new().write(true).open("/dev/full").unwrap();
     let output = folder.command(&["help"]).stdout(full).output().unwrap();
     let errors = String::from_utf8_lossy(&output.stderr);

@@ -3,7 +3,7 @@
 mod common;
 
 use common::{Folder, Numbers};
-use johvimaru::{payload, Cut, Form, Noise, Offset, Outcome, Refusal, Store, BLOCK, NOISE};
+use johvimaru::{Cut, Form, Noise, Offset, Outcome, Payload, Refusal, Store, BLOCK, NOISE};
 use std::fs;
 use std::io::Write;
 use std::path::Path;
@@ -23,10 +23,13 @@ fn a_day_of_calls() {
     let folder = Folder::new("day");
     assert_eq!(folder.done("format --blocks 8"), "formatted: 8 blocks, all keys new\n");
     assert_eq!(folder.image().len(), 8 * BLOCK);
-    assert_eq!(folder.done("write 0 0 one"), "written: file 0 offset 0, page 48, key 0\n");
-    assert_eq!(folder.done("write 2 5 two"), "written: file 2 offset 5, page 49, key 1\n");
-    assert_eq!(folder.done("write 0 0 three"), "written: file 0 offset 0, page 50, key 2\n");
-    assert_eq!(folder.done("read 0 0"), "three\n");
+    assert_eq!(folder.done("write 0 0 one"), "written: file 0 offset 0, 3 bytes, page 48, key 0\n");
+    assert_eq!(folder.done("write 2 5 two"), "written: file 2 offset 5, 3 bytes, page 49, key 1\n");
+    assert_eq!(
+        folder.done("write 0 0 three"),
+        "written: file 0 offset 0, 5 bytes, page 50, key 2\n"
+    );
+    assert_eq!(folder.done("read 0 0"), "three");
     let listing = "   0   0    50     2\n   2   5    49     1\n     2   445     1\n";
     assert_eq!(folder.done("list"), listing);
     let removed = "removed: 1 node of file 2 from offset 3 on\n\
@@ -66,17 +69,18 @@ fn a_write_and_a_format_make_the_image() {
 fn payloads_from_words_and_from_standard_input() {
     let folder = Folder::new("payloads");
     folder.done("write 0 0 word");
-    assert_eq!(mounted(folder.image()).read(at(0, 0)), Ok(payload(b"word").unwrap()));
+    assert_eq!(mounted(folder.image()).read(at(0, 0)), Payload::new(b"word"));
     assert_eq!(folder.run_with("write 0 1 -", b"from input\n").status, 0);
     assert_eq!(folder.done("read 0 1"), "from input\n");
     assert_eq!(folder.run_with("write 0 2", &[0xfe; 224]).status, 0);
-    assert_eq!(mounted(folder.image()).read(at(0, 2)), Ok([0xfe; 224]));
+    assert_eq!(mounted(folder.image()).read(at(0, 2)), Payload::new(&[0xfe; 224]));
     let raw = folder.command(&["read", "0", "2", "--raw"]).output().unwrap();
     assert_eq!(raw.stdout, [0xfe; 224]);
     folder.run_words(&["write", "0", "3", "--", "--force of two words"]);
-    assert_eq!(folder.done("read 0 3"), "--force of two words\n");
-    folder.run_words(&["write", "0", "4", ""]);
-    assert_eq!(folder.done("read 0 4"), "\n");
+    assert_eq!(folder.done("read 0 3"), "--force of two words");
+    let one = folder.run_words(&["write", "0", "4", " "]);
+    assert!(one.printed.starts_with("written: file 0 offset 4, 1 byte, page "), "{}", one.printed);
+    assert_eq!(folder.done("read 0 4"), " ");
     assert_eq!(folder.run_words(&["write", "0", "5", &"x".repeat(224)]).status, 0);
 }
 
@@ -121,7 +125,8 @@ fn what_list_and_check_say_as_json() {
       \"file\": 13,
       \"offset\": 7,
       \"page\": 48,
-      \"key\": 0
+      \"key\": 0,
+      \"length\": 1
     }
   ],
   \"keys\": {
@@ -181,7 +186,7 @@ fn a_link_to_the_image_is_followed() {
     std::os::unix::fs::symlink("chips/a.img", folder.path.join("recorder.img")).unwrap();
     folder.done("write 0 0 x");
     assert!(folder.path.join("recorder.img").is_symlink());
-    assert_eq!(folder.done("read 0 0 --image chips/a.img"), "x\n");
+    assert_eq!(folder.done("read 0 0 --image chips/a.img"), "x");
 }
 
 #[test]
@@ -221,7 +226,7 @@ fn cuts_in_every_call() {
     let image = start.image();
     type Form = fn(Store<Vec<u8>>, Cut) -> Outcome<Vec<u8>>;
     let calls: [(&str, Form); 5] = [
-        ("write 0 1 e", |s, cut| s.write_cut(at(0, 1), &payload(b"e").unwrap(), cut).unwrap()),
+        ("write 0 1 e", |s, cut| s.write_cut(at(0, 1), b"e", cut).unwrap()),
         ("cut-off 0 0", |s, cut| s.cut_off_cut(at(0, 0), cut).unwrap()),
         ("commit", |s, cut| s.commit_cut(other_noise(), cut).unwrap()),
         ("wipe 2 0", |s, cut| s.wipe_cut(at(2, 0), other_noise(), cut).unwrap()),
@@ -255,10 +260,9 @@ fn a_cut_write_byte_for_byte() {
         let bytes = k.min(256);
         let said = format!("the power failed after 0 whole steps and {bytes} bytes of one more\n");
         assert_eq!(printed, said);
-        let text = payload(b"new").unwrap();
-        let cut = mounted(image.clone()).write_cut(at(0, 0), &text, Cut { n: 0, k }).unwrap();
+        let cut = mounted(image.clone()).write_cut(at(0, 0), b"new", Cut { n: 0, k }).unwrap();
         assert!(folder.image() == cut.image(), "{k}");
-        assert_eq!(folder.done("read 0 0"), if k < 256 { "old\n" } else { "new\n" }, "{k}");
+        assert_eq!(folder.done("read 0 0"), if k < 256 { "old" } else { "new" }, "{k}");
     }
 }
 
@@ -323,7 +327,7 @@ fn list_is_the_proved_listing() {
                 0 => store.cut_off(from),
                 1 => store.commit(other_noise()),
                 2 => store.wipe(from, other_noise()),
-                _ => store.write(from, &[b'x'; 224]),
+                length => store.write(from, &[b'x'; 224][..20 * length as usize]),
             };
         }
         let cut = Cut { n: numbers.below(50), k: numbers.below(300) as usize };
@@ -427,14 +431,33 @@ fn refusals_of_calls() {
     }
     let outside = "johvimaru: refused 5: file 13 has 8 offsets, 0 to 7, and no 8\n";
     assert_eq!(folder.run("write 13 8 x").errors, outside);
-    let said = "johvimaru: refused 6: a payload has at most 224 bytes, and this text has more\n";
-    let long = folder.run_words(&["write", "0", "0", &"x".repeat(225)]);
-    assert_eq!((long.status, &long.errors[..]), (1, said));
-    let long = folder.run_with("write 0 0 -", &[b'x'; 100_000]);
-    assert_eq!((long.status, &long.errors[..]), (1, said));
     for write in 0..64 {
         folder.done(&format!("write 0 {} x", write % 32));
     }
     let full = folder.run("write 0 0 x");
     assert_eq!((full.status, &full.errors[..22]), (1, "johvimaru: refused 10:"));
+}
+
+/// No bytes and too many, from a word and from standard input.
+#[test]
+fn payloads_that_are_refused() {
+    let folder = Folder::new("payloads-refused");
+    folder.done("format --blocks 8");
+    let before = folder.image();
+    let many = "johvimaru: refused 6: a payload has at most 224 bytes, and this has more; \
+                use two offsets\n";
+    let none = "johvimaru: refused 6: there is nothing to write: a payload has 1 to 224 bytes; \
+                cut-off or wipe removes what is there\n";
+    let word = "x".repeat(225);
+    for (ran, said) in [
+        (folder.run_words(&["write", "0", "0", &word]), many),
+        (folder.run_with("write 0 0 -", &[b'x'; 100_000]), many),
+        (folder.run_with("write 0 0", word.as_bytes()), many),
+        (folder.run_words(&["write", "0", "0", ""]), none),
+        (folder.run_with("write 0 0 -", b""), none),
+        (folder.run("write 0 0"), none),
+    ] {
+        assert_eq!((ran.status, &ran.errors[..]), (1, said));
+        assert!(ran.printed.is_empty() && folder.image() == before);
+    }
 }

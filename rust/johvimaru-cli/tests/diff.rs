@@ -3,7 +3,7 @@
 mod common;
 
 use common::{Folder, Numbers};
-use johvimaru::{payload, Noise, Offset, Record, Store, BLOCK, KEY, KEYS, NOISE};
+use johvimaru::{Noise, Offset, Record, Store, BLOCK, KEY, KEYS, NOISE};
 use std::collections::HashSet;
 
 /// An image before a handover, and after it.
@@ -248,12 +248,12 @@ fn no_payload_and_no_key_is_printed() {
     let mut store = Store::format(vec![0; 8 * BLOCK], readable_noise(&mut numbers)).unwrap();
     let at = |offset| Offset::new(0, offset).unwrap();
     for offset in 0..4 {
-        store.write(at(offset), &payload(b"SECRET draught").unwrap()).unwrap();
+        store.write(at(offset), b"SECRET draught").unwrap();
     }
     folder.put("old.img", store.image());
     let old: Vec<Vec<u8>> =
         (0..KEYS).map(|p| key(store.image(), store.record(), p).to_vec()).collect();
-    store.write(at(1), &payload(b"SECRET of another").unwrap()).unwrap();
+    store.write(at(1), b"SECRET of another").unwrap();
     store.wipe(at(2), readable_noise(&mut numbers)).unwrap();
     folder.put("new.img", store.image());
     let new = (0..KEYS).map(|p| key(store.image(), store.record(), p).to_vec());

@@ -86,7 +86,7 @@ fn a_file_that_may_only_be_read() {
     let mut rights = fs::metadata(&path).unwrap().permissions();
     rights.set_readonly(true);
     fs::set_permissions(&path, rights).unwrap();
-    assert_eq!(folder.done("read 0 0"), "x\n");
+    assert_eq!(folder.done("read 0 0"), "x");
     // Whoever may write to any file is not stopped by the file's rights.
     if fs::OpenOptions::new().write(true).open(&path).is_err() {
         let before = folder.image();

@@ -3,7 +3,7 @@
 mod common;
 
 use common::{holds, Folder, Numbers};
-use johvimaru::{payload, Cut, Form, Noise, Offset, Store, BLOCK, KEY, KEYS, NOISE};
+use johvimaru::{Cut, Form, Noise, Offset, Store, BLOCK, KEY, KEYS, NOISE};
 
 fn at(file: u32, offset: u32) -> Offset {
     Offset::new(file, offset).unwrap()
@@ -155,7 +155,7 @@ What a reader of the chip can still learn
   next epoch 4: 2 epochs since the format, one for a commit, two for a wipe
   keys in blocks 2 and 0, commit in 1: something of how blocks were used
   file 3: the content of 1 node, whose keys are on the chip
-  3 headers beside live nodes: file, offset and sequence of what was removed, no content
+  3 headers beside live nodes: file, offset, length and sequence of what was removed, no content
 
 Recorder ______________  Handed over by ______________  Taken over by ______________
 ";
@@ -255,7 +255,7 @@ fn a_file_without_a_node_cannot_be_kept() {
 fn with_epoch(epoch: u32) -> Vec<u8> {
     let mut store = Store::format(vec![0; 8 * BLOCK], noise(1)).unwrap();
     for file in [0, 1, 3] {
-        store.write(at(file, 0), &payload(b"x").unwrap()).unwrap();
+        store.write(at(file, 0), b"x").unwrap();
     }
     let mut image = store.into_image();
     for page in image.chunks_mut(256).filter(|page| matches!(page[0], b'K' | b'C')) {
@@ -299,7 +299,7 @@ fn a_key_that_is_found_again_is_told() {
     let same = Noise::new(&[7; NOISE]).unwrap();
     let mut store = Store::format(vec![0; 8 * BLOCK], same).unwrap();
     // A page of a data block that looks like a key of the chip, beside a node that is kept.
-    store.write(at(1, 0), &payload(b"kept").unwrap()).unwrap();
+    store.write(at(1, 0), b"kept").unwrap();
     let mut image = store.into_image();
     let torn = 49 * 256;
     image[torn..torn + 30].copy_from_slice(b"N       2  0   0   1       0: ");
@@ -344,12 +344,12 @@ fn a_damaged_page_beside_a_kept_node() {
 fn a_cut_erase_beside_a_kept_node() {
     let mut store = Store::format(vec![0; 8 * BLOCK], noise(1)).unwrap();
     for offset in 0..10 {
-        store.write(at(0, offset), &payload(b"old").unwrap()).unwrap();
+        store.write(at(0, offset), b"old").unwrap();
     }
     store.cut_off(at(0, 0)).unwrap();
     let cut = Cut { n: 45, k: 600 };
     let mut store = store.commit_cut(noise(2), cut).unwrap().mounted().unwrap();
-    store.write(at(3, 0), &payload(b"kept").unwrap()).unwrap();
+    store.write(at(3, 0), b"kept").unwrap();
     let node = store.record().node(at(3, 0)).unwrap();
     assert_eq!((node.page, Form::all(store.image()).nth(50)), (59, Some(Form::Spoilt)));
     let folder = Folder::new("handover-erased");
@@ -362,7 +362,7 @@ fn a_cut_erase_beside_a_kept_node() {
         ran.printed
     );
     folder.done("handover --keep 3");
-    assert_eq!(folder.done("read 3 0"), "kept\n");
+    assert_eq!(folder.done("read 3 0"), "kept");
 }
 
 /// The report is there before anything is changed, and says that the handover is not finished until it is.

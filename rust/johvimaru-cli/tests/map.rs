@@ -380,11 +380,11 @@ fn titles_of_cells() {
         "page 31: keys 434 to 447, key block 1, epoch 1",
         "page 41: commit, part 9, epoch 1, covers 0",
         "pages 42 to 47: empty",
-        "page 48: node of file 0 offset 0, sequence 1, key 0, dead",
-        "page 49: node of file 0 offset 0, sequence 2, key 1, live",
-        "page 50: node of file 13 offset 7, sequence 3, key 2, live",
+        "page 48: node of file 0 offset 0, 224 bytes, sequence 1, key 0, dead",
+        "page 49: node of file 0 offset 0, 224 bytes, sequence 2, key 1, live",
+        "page 50: node of file 13 offset 7, 224 bytes, sequence 3, key 2, live",
         "page 52: cut-off of file 5 from offset 0 on, sequence 5",
-        "page 53: node of file 2 offset 5, sequence 6, key 31, torn",
+        "page 53: node of file 2 offset 5, 224 bytes, sequence 6, key 31, torn",
         "page 54: spoilt",
         "page 128: keys 0 to 13, key block 0, epoch 1, not in use",
         "key 0: deleted",
@@ -412,7 +412,7 @@ fn titles_of_marks() {
     let svg = String::from_utf8(folder.bytes("out.svg")).unwrap();
     assert_svg(&svg);
     for title in [
-        "page 49: node of file 0 offset 0, sequence 2, key 1, live, gone since, erased since",
+        "page 49: node of file 0 offset 0, 224 bytes, sequence 2, key 1, live, gone since, erased since",
         "page 54: spoilt, erased since",
         "pages 48 to 63: empty, erased since",
         "key 1: used by file 0 offset 0, replaced since",

@@ -3,7 +3,7 @@
 mod common;
 
 use common::Folder;
-use johvimaru::{payload, Noise, Offset, Store, BLOCK, NOISE};
+use johvimaru::{Noise, Offset, Store, BLOCK, NOISE};
 
 fn at(file: u32, offset: u32) -> Offset {
     Offset::new(file, offset).unwrap()
@@ -19,7 +19,7 @@ fn an_export_line_by_line() {
     let text = "0\ta\\ttab, a \\\\ and \u{e9}\\n\n7\tseven\n";
     assert_eq!(folder.done("export 0 --text"), text);
     let seven: String = b"seven".iter().map(|byte| format!("{byte:02x}")).collect();
-    let line = format!("7\t{seven}{}\n", "20".repeat(219));
+    let line = format!("7\t5\t{seven}\n");
     assert_eq!(folder.done("export 0").split_inclusive('\n').nth(1), Some(&line[..]));
     let ran = folder.run("export 13");
     assert_eq!(
@@ -34,8 +34,9 @@ fn an_import_brings_back_what_was_exported() {
     let folder = Folder::new("import");
     let mut store = Store::format(vec![0; 16 * BLOCK], Noise::new(&[3; NOISE]).unwrap()).unwrap();
     for offset in 0..32 {
-        let bytes: Vec<u8> = (0..224).map(|at| (7 * at + offset * offset) as u8).collect();
-        store.write(at(0, offset), &payload(&bytes).unwrap()).unwrap();
+        let length = if offset < 4 { 1 + 74 * offset } else { 1 + 223 * offset / 31 };
+        let bytes: Vec<u8> = (0..length).map(|at| (7 * at + offset * offset) as u8).collect();
+        store.write(at(0, offset), &bytes).unwrap();
     }
     folder.put("old.img", store.image());
     for form in ["", " --text"] {
@@ -47,7 +48,7 @@ fn an_import_brings_back_what_was_exported() {
         assert_eq!((ran.status, &ran.printed[..]), (0, "imported: 32 nodes of file 0\n"));
         let new = Store::mount(folder.image()).unwrap();
         assert!((0..32).all(|offset| new.read(at(0, offset)) == store.read(at(0, offset))));
-        assert_eq!(folder.done("read 1 5"), "kept\n");
+        assert_eq!(folder.done("read 1 5"), "kept");
     }
 }
 
@@ -64,7 +65,7 @@ fn an_import_is_tested_before_it_begins() {
             "import 0",
             "0\tbeef\n",
             3,
-            "line 1: the payload is not 448 hexadecimal digits; is it text?",
+            "line 1: after the offset stands no length, tab and two hexadecimal digits",
         ),
         (
             "import 0 --text",

@@ -3,7 +3,7 @@
 mod common;
 
 use common::{holds, Folder, Numbers};
-use johvimaru::{payload, Cut, Form, Noise, Offset, Outcome, Store, BLOCK, NOISE};
+use johvimaru::{Cut, Form, Noise, Offset, Outcome, Payload, Store, BLOCK, NOISE};
 use std::collections::HashSet;
 use std::process::Stdio;
 use std::time::{Duration, Instant};
@@ -83,10 +83,10 @@ fn killed(name: &str, line: &str, call: CutCall, look: impl Fn(&Folder, &[u8])) 
 
 #[test]
 fn a_write_that_is_killed() {
-    let write: CutCall = |s, cut| s.write_cut(at(0, 0), &payload(b"new").unwrap(), cut).unwrap();
+    let write: CutCall = |s, cut| s.write_cut(at(0, 0), b"new", cut).unwrap();
     killed("killed-write", "write 0 0 new", write, |_, image| {
         let read = Store::mount(image.to_vec()).unwrap().read(at(0, 0)).unwrap();
-        assert!(read == payload(b"old").unwrap() || read == payload(b"new").unwrap());
+        assert!(read == b"old" || read == b"new");
     });
 }
 
@@ -97,7 +97,7 @@ fn a_wipe_that_is_killed() {
     killed("killed-wipe", "wipe 0 0", wipe, |folder, image| {
         let store = Store::mount(image.to_vec()).unwrap();
         let read = store.read(at(0, 0));
-        assert!(read.is_err() || read == payload(b"old"));
+        assert!(read.is_err() || read == Payload::new(b"old"));
         let Some(node) = store.record().node(at(0, 0)) else { return };
         let old = image[store.record().key_bytes(node.key)].to_vec();
         folder.done("wipe 0 0");
@@ -156,7 +156,7 @@ fn a_disk_that_takes_no_more() {
                 .unwrap();
             let code = output.status.code();
             assert!(matches!(code, None | Some(3)), "{script}: {code:?}");
-            assert_eq!(folder.done("read 0 0"), "old\n", "{script}");
+            assert_eq!(folder.done("read 0 0"), "old", "{script}");
             assert!(!folder.names().contains(&"new.img".to_string()), "{script}");
         }
     }
@@ -181,7 +181,7 @@ fn many_at_once() {
     assert_eq!(store.record().nodes().count(), 32);
     assert_eq!(folder.image().len(), 32 * BLOCK);
     for offset in 0..32 {
-        assert_eq!(folder.done(&format!("read 1 {offset}")), format!("{offset}\n"));
+        assert_eq!(folder.done(&format!("read 1 {offset}")), offset.to_string());
     }
 }
 

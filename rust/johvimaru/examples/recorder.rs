@@ -11,7 +11,7 @@
 //! old keys: 4, on the chip: 0
 //! ```
 
-use johvimaru::{payload, Cut, CutChip, Driver, Failure, File, Letter, MemoryChip, Noise, Refusal};
+use johvimaru::{Cut, CutChip, Driver, Failure, File, Letter, MemoryChip, Noise, Refusal};
 use johvimaru::{Record, BLOCK, KEYS};
 use std::error::Error;
 
@@ -24,11 +24,10 @@ type Device = Driver<CutChip<MemoryChip>>;
 /// Writes a draught behind those that are there. Where keys or pages have run out, a commit brings more.
 fn log(device: &mut Device, text: &str) -> Result<(), Box<dyn Error>> {
     let at = File::new(DRAUGHTS)?.offset(draughts(device)?.len() as u32)?;
-    let payload = payload(text.as_bytes())?;
-    match device.write(at, &payload) {
+    match device.write(at, text.as_bytes()) {
         Err(Failure::Refused(Refusal::NoFreeKey | Refusal::NoRoom)) => {
             device.commit(Noise::from_system()?)?;
-            Ok(device.write(at, &payload)?)
+            Ok(device.write(at, text.as_bytes())?)
         }
         reply => Ok(reply?),
     }
@@ -40,7 +39,7 @@ fn draughts(device: &Device) -> Result<Vec<String>, Box<dyn Error>> {
     for at in File::new(DRAUGHTS)?.offsets() {
         match device.read(at) {
             Err(Failure::Refused(Refusal::NothingThere)) => break,
-            payload => texts.push(String::from_utf8_lossy(&payload?).trim_end().to_string()),
+            payload => texts.push(String::from_utf8_lossy(&payload?).into_owned()),
         }
     }
     Ok(texts)

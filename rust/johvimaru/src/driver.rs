@@ -92,13 +92,14 @@ impl<E> From<Refusal> for Failure<E> {
 /// A call is made on a copy as often as it has steps, and at least once.
 ///
 /// ```
-/// use johvimaru::{payload, Driver, File, MemoryChip, Noise};
+/// use johvimaru::{Driver, File, MemoryChip, Noise};
 ///
 /// let chip = MemoryChip::new(vec![0xff; 16 * johvimaru::BLOCK]);
 /// let mut driver = Driver::new(chip);
 /// driver.format(Noise::from_system()?)?;
 /// let at = File::new(0)?.offset(3)?;
-/// driver.write(at, &payload(b"draught 4.12 m")?)?;
+/// driver.write(at, b"draught 4.12 m")?;
+/// assert_eq!(driver.read(at)?, b"draught 4.12 m");
 /// driver.wipe(File::new(0)?.start(), Noise::from_system()?)?;
 /// assert_eq!(driver.chip().bytes(), driver.mirror());
 /// # Ok::<(), Box<dyn std::error::Error>>(())
@@ -179,16 +180,25 @@ impl<C: Chip> Driver<C> {
     }
 
     /// Writes a payload, as [`Store::write`].
-    pub fn write(&mut self, at: Offset, payload: &Payload) -> Result<(), Failure<C::Error>> {
+    pub fn write(&mut self, at: Offset, payload: &[u8]) -> Result<(), Failure<C::Error>> {
         self.call(|image, record, cut| ffi::write(image, record, at.pair(), payload, Some(cut)))
     }
 
     /// Reads a payload from the mirror, as [`Store::read`].
     pub fn read(&self, at: Offset) -> Result<Payload, Failure<C::Error>> {
         let record = self.record.as_ref().ok_or(Failure::NotMounted)?;
-        let mut output = [0; PAYLOAD];
-        Refusal::result(ffi::read(&self.mirror, &record.0, at.pair(), &mut output))?;
-        Ok(output)
+        Ok(Payload::filled(|output| record.read(&self.mirror, at, output))?)
+    }
+
+    /// Reads a payload from the mirror into the caller's bytes, as [`Store::read_into`].
+    pub fn read_into<'b>(
+        &self,
+        at: Offset,
+        buffer: &'b mut [u8; PAYLOAD],
+    ) -> Result<&'b [u8], Failure<C::Error>> {
+        let record = self.record.as_ref().ok_or(Failure::NotMounted)?;
+        let length = record.read(&self.mirror, at, buffer)?;
+        Ok(&buffer[..length])
     }
 
     /// Removes the nodes of a file from an offset on, as [`Store::cut_off`].

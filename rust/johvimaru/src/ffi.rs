@@ -62,6 +62,7 @@ extern "C" {
         offset: u32,
         output: *mut u8,
         output_length: usize,
+        length: *mut usize,
     ) -> u32;
 }
 
@@ -155,16 +156,23 @@ pub fn wipe(
     }
 }
 
-/// Reads the payload at a file's offset into `output`.
-pub fn read(image: &[u8], record: &Record, (file, offset): (u32, u32), output: &mut [u8]) -> u32 {
+/// Reads the payload at a file's offset into the first bytes of `output`. Gives the reply and how many bytes
+/// the payload has, 0 where it was refused.
+pub fn read(
+    image: &[u8],
+    record: &Record,
+    (file, offset): (u32, u32),
+    output: &mut [u8],
+) -> (u32, usize) {
     let Record { map, letters, numbers } = record;
-    let (bytes, length) = (image.as_ptr(), image.len());
+    let mut length = 0;
     // SAFETY: pointers and lengths are those of borrowed slices and of the five numbers. The output is
-    // borrowed mutably, so it overlaps none of the others, which the function does not write.
-    unsafe {
+    // borrowed mutably and the length is this function's own, so these two overlap none of the others,
+    // which the function does not write.
+    let reply = unsafe {
         johvimaru_read(
-            bytes,
-            length,
+            image.as_ptr(),
+            image.len(),
             map.as_ptr(),
             map.len(),
             letters.as_ptr(),
@@ -174,6 +182,8 @@ pub fn read(image: &[u8], record: &Record, (file, offset): (u32, u32), output: &
             offset,
             output.as_mut_ptr(),
             output.len(),
+            &mut length,
         )
-    }
+    };
+    (reply, length)
 }

@@ -1,12 +1,14 @@
 //! What stands on a page, for pictures and reports: document 01's page forms.
 
 use crate::step::{is_erased, Page};
-use crate::{Offset, HEADER, KEYS, PAGE};
+use crate::{Offset, HEADER, KEYS, PAGE, PAYLOAD};
 
 /// The closing of a whole page.
 const CLOSING: [u8; 2] = *b"\r\n";
 /// The highest sequence and the highest epoch.
 const LAST: u32 = 99_999_999;
+/// The longest payload, as a node's header has it.
+const LONGEST: u32 = PAYLOAD as u32;
 
 /// The form of a page.
 ///
@@ -14,11 +16,11 @@ const LAST: u32 = 99_999_999;
 /// use johvimaru::{Form, Header, Noise, Offset, Store};
 ///
 /// let mut store = Store::format(vec![0; 32_768], Noise::from_system()?)?;
-/// store.write(Offset::new(2, 5)?, &[b'x'; 224])?;
+/// store.write(Offset::new(2, 5)?, b"draught 4.12 m")?;
 /// let forms: Vec<Form> = Form::all(store.image()).collect();
 /// assert_eq!(forms[0], Form::Whole(Header::Keys { epoch: 1, block: 0, page: 0 }));
 /// assert!(matches!(forms[32], Form::Whole(Header::Commit { epoch: 1, part: 0, covered: 0, .. })));
-/// let Form::Whole(Header::Node { sequence: 1, at, key: 0, .. }) = forms[48] else {
+/// let Form::Whole(Header::Node { sequence: 1, at, key: 0, length: 14, .. }) = forms[48] else {
 ///     panic!("the first node, under the first key");
 /// };
 /// assert_eq!(at, Offset::new(2, 5)?);
@@ -77,6 +79,9 @@ pub enum Header {
         at: Offset,
         /// Its key position.
         key: usize,
+        /// How many bytes its payload has, 1 to 224. A node from before lengths were kept has 0 in its
+        /// header, which means 224.
+        length: usize,
     },
     /// D, a cut-off.
     CutOff {
@@ -120,8 +125,9 @@ impl Header {
         let (block, key_position) = (unit as usize, key as usize);
         let place = || Offset::new(unit, part).ok();
         match (header[0], unit, part, key, second) {
-            (b'N', _, _, _, 0) if key_position < KEYS => {
-                Some(Header::Node { sequence: first, at: place()?, key: key_position })
+            (b'N', _, _, _, 0..=LONGEST) if key_position < KEYS => {
+                let length = if second == 0 { PAYLOAD } else { second as usize };
+                Some(Header::Node { sequence: first, at: place()?, key: key_position, length })
             }
             (b'D', _, _, 0, 0) => Some(Header::CutOff { sequence: first, from: place()? }),
             (b'K', 0 | 1, 0..=15, 0, 0) => {
@@ -148,6 +154,7 @@ fn number(columns: &[u8]) -> Option<u32> {
 #[cfg(test)]
 mod tests {
     use super::*;
+    use alloc::format;
 
     fn page(header: &str, closing: &[u8; 2]) -> Page {
         let mut page = [b' '; PAGE];
@@ -156,9 +163,29 @@ mod tests {
         page
     }
 
+    /// The node of the cases, of a length.
+    fn node(length: usize) -> Header {
+        Header::Node { sequence: 7, at: Offset::new(2, 5).unwrap(), key: 31, length }
+    }
+
+    #[test]
+    fn the_second_number_of_a_node_is_its_length() {
+        for second in 0..=300 {
+            let spelt = page(&format!("N       7  2   5  31{second:8}: "), b"\r\n");
+            let expected = match second {
+                0 => Form::Whole(node(224)),
+                1..=224 => Form::Whole(node(second)),
+                _ => Form::Spoilt,
+            };
+            assert_eq!(Form::of(&spelt), expected, "{second}");
+        }
+        let torn = page("N       7  2   5  31      14: ", b"\xff\xff");
+        assert_eq!(Form::of(&torn), Form::Torn(node(14)));
+    }
+
     #[test]
     fn the_cases_of_document_01() {
-        let node = Header::Node { sequence: 7, at: Offset::new(2, 5).unwrap(), key: 31 };
+        let node = node(PAYLOAD);
         let right = "N       7  2   5  31       0: ";
         assert_eq!(Form::of(&page(right, b"\r\n")), Form::Whole(node));
         assert_eq!(Form::of(&page(right, b"\r\xff")), Form::Torn(node));
@@ -173,13 +200,21 @@ mod tests {
             "N       7 14   0  31       0: ",
             "N       7 13   8  31       0: ",
             "N       7  2   5 448       0: ",
-            "N       7  2   5  31       1: ",
+            "N       7  2   5  31     225: ",
+            "N       7  2   5  31      01: ",
+            "N       7  2   5  31       +: ",
+            "N       7  2   5  31        : ",
+            "N       7  2   5  31  1     : ",
+            "N       7  2   5  3199999999: ",
             "N       7  2   5  31       0:x",
             "N       7  2   5+ 31       0: ",
             "N       7  2   5    +1     0: ",
             "D       7  2   5   1       0: ",
+            "D       7  2   5   0       1: ",
+            "D       7  2   5   0     224: ",
             "K       7  2   5   0       0: ",
             "K       7  1  16   0       0: ",
+            "K       7  1   5   0       1: ",
             "C       7  1   5   0       0: ",
             "C       7  0  10   0       0: ",
             "X       7  0   0   0       0: ",

@@ -1,20 +1,20 @@
 //! Johvimaru: a store of small records on a flash chip, which can be made to forget.
 //!
-//! The store keeps payloads of 224 bytes in 14 files of fixed size on the image of a flash chip. Each is
-//! enciphered under a key of its own. The keys stand on the same chip, and a payload is forgotten by
+//! The store keeps payloads of 1 to 224 bytes in 14 files of fixed size on the image of a flash chip. Each
+//! is enciphered under a key of its own. The keys stand on the same chip, and a payload is forgotten by
 //! replacing its key. What every call does, and what the image is after a power cut at any byte, is
 //! proved; this crate is the safe way to that library from Rust. It has no dependencies.
 //!
 //! ```
-//! use johvimaru::{payload, File, Noise, Refusal, Store};
+//! use johvimaru::{File, Noise, Refusal, Store};
 //!
 //! // An image of 32 blocks, empty. For a chip it is the mirror in memory.
 //! let mut store = Store::format(vec![0xff; 32 * johvimaru::BLOCK], Noise::from_system()?)?;
 //!
 //! let draughts = File::new(0)?;
-//! store.write(draughts.offset(0)?, &payload(b"draught 4.12 m")?)?;
-//! store.write(draughts.offset(0)?, &payload(b"draught 6.80 m")?)?;
-//! assert!(store.read(draughts.offset(0)?)?.starts_with(b"draught 6.80 m"));
+//! store.write(draughts.offset(0)?, b"draught 4.12 m")?;
+//! store.write(draughts.offset(0)?, b"draught 6.80 m")?;
+//! assert_eq!(store.read(draughts.offset(0)?)?, b"draught 6.80 m");
 //! assert_eq!(store.read(draughts.offset(1)?), Err(Refusal::NothingThere));
 //!
 //! // What is there: the live nodes, the keys, the next numbers.
@@ -33,8 +33,8 @@
 //! # Ok::<(), Box<dyn std::error::Error>>(())
 //! ```
 //!
-//! - [`Store`] owns or borrows an image, and keeps its record. [`File`] and [`Offset`] name a node;
-//!   a [`Refusal`] has document 01's number and a sentence.
+//! - [`Store`] owns or borrows an image, and keeps its record. [`File`] and [`Offset`] name a node, whose
+//!   [`Payload`] reads back as long as it was written; a [`Refusal`] has document 01's number and a sentence.
 //! - [`Driver`] drives a [`Chip`]: each step of a call goes to the chip before the next, and the mirror is
 //!   brought along. [`FileChip`] is a chip in a file, [`CutChip`] one whose power fails where it is told.
 //! - With the feature `cut`, each call has a form that the power cuts after n steps and k bytes of one
@@ -52,8 +52,9 @@
 //!
 //! # What stays secret
 //!
-//! `{:?}` of a type of this crate shows no byte of a key or of a payload. A [`Payload`], a [`Page`] and an
-//! image are plain bytes, which are shown where they are printed themselves.
+//! `{:?}` of a type of this crate shows no byte of a key or of a payload. A [`Page`] and an image are plain
+//! bytes, which are shown where they are printed themselves. How long a payload is stands in its page's
+//! header, which is not enciphered.
 //!
 //! The library clears nothing behind it: what a call used stays on the stack, below the caller's frame, and
 //! in registers until something overwrites it. Found were the key of the node on the stack after a write
@@ -86,6 +87,7 @@ mod driver;
 mod ffi;
 mod form;
 mod noise;
+mod payload;
 mod plan;
 pub mod raw;
 mod record;
@@ -101,6 +103,7 @@ pub use cut::{Outcome, Unmounted};
 pub use driver::{Driver, Failure};
 pub use form::{Form, Header};
 pub use noise::Noise;
+pub use payload::Payload;
 pub use plan::{File, Offset};
 pub use record::{KeyCounts, Letter, Node, Record};
 pub use refusal::{Refusal, Refused};
@@ -119,7 +122,7 @@ pub const MIN_BLOCKS: usize = 8;
 pub const MAX_BLOCKS: usize = 256;
 /// Bytes in a page's header.
 pub const HEADER: usize = 30;
-/// Bytes in a payload.
+/// The most bytes that a payload has, and the bytes of an output for one.
 pub const PAYLOAD: usize = 224;
 /// Files.
 pub const FILES: usize = 14;
@@ -131,24 +134,6 @@ pub const KEYS: usize = 448;
 pub const KEY: usize = 16;
 /// Bytes of noise that format, commit and wipe take.
 pub const NOISE: usize = KEY * KEYS;
-
-/// What a node holds.
-pub type Payload = [u8; PAYLOAD];
-
-/// A payload of these bytes, with spaces after them; refused where there are more than 224.
-///
-/// ```
-/// use johvimaru::{payload, Refusal};
-///
-/// assert_eq!(payload(b"track")?[..6], *b"track ");
-/// assert_eq!(payload(&[0; 225]), Err(Refusal::PayloadLength));
-/// # Ok::<(), Refusal>(())
-/// ```
-pub fn payload(bytes: &[u8]) -> Result<Payload, Refusal> {
-    let mut payload = [b' '; PAYLOAD];
-    payload.get_mut(..bytes.len()).ok_or(Refusal::PayloadLength)?.copy_from_slice(bytes);
-    Ok(payload)
-}
 
 /// Where a power cut falls: after n whole steps and k bytes of one more.
 #[derive(Clone, Copy, Debug, PartialEq, Eq, Hash)]

@@ -12,9 +12,14 @@
 //! let mut record = Record::blank();
 //! let mut image = vec![0xff; 8 * johvimaru::BLOCK];
 //! assert_eq!(raw::format(&mut image, &mut record, &[1; johvimaru::NOISE]), raw::DONE);
-//! assert_eq!(raw::write(&mut image, &mut record, 13, 7, &[b'x'; johvimaru::PAYLOAD]), raw::DONE);
+//! assert_eq!(raw::write(&mut image, &mut record, 13, 7, b"track"), raw::DONE);
 //! // File 13 has no offset 8: that is document 01's refusal 5.
-//! assert_eq!(raw::write(&mut image, &mut record, 13, 8, &[b'x'; johvimaru::PAYLOAD]), 5);
+//! assert_eq!(raw::write(&mut image, &mut record, 13, 8, b"track"), 5);
+//!
+//! let mut output = [0; johvimaru::PAYLOAD];
+//! assert_eq!(raw::read(&image, &record, 13, 7, &mut output), (raw::DONE, 5));
+//! assert_eq!(output[..6], *b"track\0");
+//! assert_eq!(raw::read(&image, &record, 13, 6, &mut output), (8, 0));
 //! ```
 
 #[cfg(feature = "cut")]
@@ -76,13 +81,20 @@ pub fn mount(image: &mut [u8], record: &mut Record, scratch: &mut [u32]) -> u32 
     ffi::mount(image, record, scratch, None)
 }
 
-/// Writes a payload of 224 bytes at a file's offset.
+/// Writes a payload of 1 to 224 bytes at a file's offset.
 pub fn write(image: &mut [u8], record: &mut Record, file: u32, offset: u32, payload: &[u8]) -> u32 {
     ffi::write(image, record, (file, offset), payload, None)
 }
 
-/// Reads the payload at a file's offset into 224 bytes.
-pub fn read(image: &[u8], record: &Record, file: u32, offset: u32, output: &mut [u8]) -> u32 {
+/// Reads the payload at a file's offset into the first of 224 bytes, and leaves the others as they were. Gives
+/// the reply, and how many bytes the payload has, 0 where it was refused.
+pub fn read(
+    image: &[u8],
+    record: &Record,
+    file: u32,
+    offset: u32,
+    output: &mut [u8],
+) -> (u32, usize) {
     ffi::read(image, record, (file, offset), output)
 }
 

@@ -1,7 +1,7 @@
 //! What a store has: the view of its working record.
 
 use crate::raw::{self, NONE};
-use crate::{Offset, BLOCK, HEADER, KEY, PAGE, PLACES};
+use crate::{ffi, Offset, Refusal, BLOCK, HEADER, KEY, PAGE, PAYLOAD, PLACES};
 use core::fmt;
 use core::ops::Range;
 
@@ -63,7 +63,7 @@ pub struct KeyCounts {
 /// use johvimaru::{KeyCounts, Noise, Offset, Store};
 ///
 /// let mut store = Store::format(vec![0; 32_768], Noise::from_system()?)?;
-/// store.write(Offset::new(2, 5)?, &[b'x'; 224])?;
+/// store.write(Offset::new(2, 5)?, b"track")?;
 /// let record = store.record();
 /// let node = record.node(Offset::new(2, 5)?).expect("it was written");
 /// assert_eq!((node.page, node.key), (48, 0));
@@ -90,6 +90,17 @@ impl fmt::Debug for Record {
 }
 
 impl Record {
+    /// Reads a payload from the image of this record into the first of these bytes, and tells its length.
+    pub(crate) fn read(
+        &self,
+        image: &[u8],
+        at: Offset,
+        output: &mut [u8; PAYLOAD],
+    ) -> Result<usize, Refusal> {
+        let (reply, length) = ffi::read(image, &self.0, at.pair(), output);
+        Refusal::result(reply).map(|()| length)
+    }
+
     /// The live node at an offset, if there is one.
     pub fn node(&self, at: Offset) -> Option<Node> {
         let place = at.place();

@@ -29,7 +29,7 @@ pub enum Refusal {
     NoSuchFile = 4,
     /// The offset is not below the file's count.
     OffsetOutside = 5,
-    /// The payload, or the output for it, is not 224 bytes.
+    /// The payload is not 1 to 224 bytes, or its output not 224. The second only [`raw`] can meet.
     PayloadLength = 6,
     /// The record does not fit the image.
     RecordUnfit = 7,
@@ -120,7 +120,7 @@ impl fmt::Display for Refusal {
             Refusal::NoiseLength => "the noise is not 7,168 bytes",
             Refusal::NoSuchFile => "the file is above 13",
             Refusal::OffsetOutside => "the offset is not below the file's count of nodes",
-            Refusal::PayloadLength => "the payload, or the output for it, is not 224 bytes",
+            Refusal::PayloadLength => "the payload is not 1 to 224 bytes, or its output not 224",
             Refusal::RecordUnfit => "the record does not fit the image",
             Refusal::NothingThere => "there is no node there",
             Refusal::NoFreeKey => "no key is free; a commit replaces the deleted ones",

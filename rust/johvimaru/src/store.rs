@@ -14,17 +14,17 @@ use core::fmt;
 /// a call on an image that was changed behind it may be refused with [`Refusal::RecordUnfit`].
 ///
 /// ```
-/// use johvimaru::{payload, File, Noise, Refusal, Store};
+/// use johvimaru::{File, Noise, Refusal, Store};
 ///
 /// let mut image = vec![0; 32 * johvimaru::BLOCK];
 /// let mut store = Store::format(&mut image[..], Noise::from_system()?)?;
 /// let at = File::new(0)?.offset(3)?;
-/// store.write(at, &payload(b"draught 4.12 m")?)?;
-/// assert!(store.read(at)?.starts_with(b"draught 4.12 m"));
+/// store.write(at, b"draught 4.12 m")?;
+/// assert_eq!(store.read(at)?, b"draught 4.12 m");
 ///
 /// // Another day: the record is found again from the image alone.
 /// let mut store = Store::mount(image)?;
-/// assert!(store.read(at)?.starts_with(b"draught 4.12 m"));
+/// assert_eq!(store.read(at)?, b"draught 4.12 m");
 /// store.wipe(File::new(0)?.start(), Noise::from_system()?)?;
 /// assert_eq!(store.read(at), Err(Refusal::NothingThere));
 /// # Ok::<(), Box<dyn std::error::Error>>(())
@@ -103,36 +103,63 @@ impl<I: AsRef<[u8]> + AsMut<[u8]>> Store<I> {
         self.image.as_ref()
     }
 
-    /// Writes a payload. What was at the offset before is replaced, and its key deleted.
+    /// Writes a payload of 1 to 224 bytes. What was at the offset before is replaced, and its key deleted.
     ///
-    /// Refused with [`Refusal::NumbersSpent`], [`Refusal::NoFreeKey`] or [`Refusal::NoRoom`]. Nothing is
-    /// changed then; after the last two a commit may bring room.
+    /// Spaces follow it on the page up to 224 bytes. They are enciphered with it; the page's header, which is
+    /// not enciphered, has the length.
+    ///
+    /// Refused with [`Refusal::PayloadLength`], [`Refusal::NumbersSpent`], [`Refusal::NoFreeKey`] or
+    /// [`Refusal::NoRoom`]. Nothing is changed then; after the last two a commit may bring room.
     ///
     /// ```
-    /// # use johvimaru::{payload, Noise, Offset, Refusal, Store};
+    /// # use johvimaru::{Noise, Offset, Refusal, Store};
     /// // On 8 blocks, 64 writes are taken after a format.
     /// let mut store = Store::format(vec![0; 32_768], Noise::from_system()?)?;
     /// let at = Offset::new(0, 0)?;
     /// for _ in 0..64 {
-    ///     store.write(at, &payload(b"track")?)?;
+    ///     store.write(at, b"track")?;
     /// }
-    /// assert_eq!(store.write(at, &payload(b"track")?), Err(Refusal::NoRoom));
+    /// assert_eq!(store.write(at, b"track"), Err(Refusal::NoRoom));
     /// store.commit(Noise::from_system()?)?;
-    /// store.write(at, &payload(b"track")?)?;
+    /// store.write(at, b"track")?;
+    /// assert_eq!(store.write(at, b""), Err(Refusal::PayloadLength));
     /// # Ok::<(), Box<dyn std::error::Error>>(())
     /// ```
-    pub fn write(&mut self, at: Offset, payload: &Payload) -> Result<(), Refusal> {
+    pub fn write(&mut self, at: Offset, payload: &[u8]) -> Result<(), Refusal> {
         let Store { image, record } = self;
         Refusal::result(ffi::write(image.as_mut(), &mut record.0, at.pair(), payload, None))
     }
 
-    /// Reads a payload.
+    /// Reads a payload. That of a node from before lengths were kept has 224 bytes, with whatever its writer
+    /// put after the record.
     ///
     /// Refused with [`Refusal::NothingThere`].
     pub fn read(&self, at: Offset) -> Result<Payload, Refusal> {
-        let mut output = [0; PAYLOAD];
-        let reply = ffi::read(self.image(), &self.record.0, at.pair(), &mut output);
-        Refusal::result(reply).map(|()| output)
+        Payload::filled(|output| self.record.read(self.image(), at, output))
+    }
+
+    /// Reads a payload into the caller's bytes, and lends the part of them that it fills. The rest of them
+    /// stays as it was.
+    ///
+    /// Refused with [`Refusal::NothingThere`]. All of them then stay as they were.
+    ///
+    /// ```
+    /// # use johvimaru::{Noise, Offset, Store};
+    /// # let mut store = Store::format(vec![0; 32_768], Noise::from_system()?)?;
+    /// # let at = Offset::new(0, 0)?;
+    /// store.write(at, b"draught 4.12 m")?;
+    /// let mut buffer = [0; johvimaru::PAYLOAD];
+    /// assert_eq!(store.read_into(at, &mut buffer)?, b"draught 4.12 m");
+    /// assert_eq!(buffer[14..], [0; 210]);
+    /// # Ok::<(), Box<dyn std::error::Error>>(())
+    /// ```
+    pub fn read_into<'b>(
+        &self,
+        at: Offset,
+        buffer: &'b mut [u8; PAYLOAD],
+    ) -> Result<&'b [u8], Refusal> {
+        let length = self.record.read(self.image(), at, buffer)?;
+        Ok(&buffer[..length])
     }
 
     /// Removes the nodes of a file from an offset on. Their keys stay on the image until the next commit.
@@ -140,9 +167,9 @@ impl<I: AsRef<[u8]> + AsMut<[u8]>> Store<I> {
     /// Refused with [`Refusal::NothingThere`], [`Refusal::NumbersSpent`] or [`Refusal::NoRoom`].
     ///
     /// ```
-    /// # use johvimaru::{payload, Noise, Offset, Refusal, Store};
+    /// # use johvimaru::{Noise, Offset, Refusal, Store};
     /// let mut store = Store::format(vec![0; 32_768], Noise::from_system()?)?;
-    /// store.write(Offset::new(5, 2)?, &payload(b"track")?)?;
+    /// store.write(Offset::new(5, 2)?, b"track")?;
     /// assert_eq!(store.cut_off(Offset::new(5, 3)?), Err(Refusal::NothingThere));
     /// store.cut_off(Offset::new(5, 1)?)?;
     /// assert_eq!(store.record().nodes().count(), 0);
@@ -193,24 +220,24 @@ impl<I: AsRef<[u8]> + AsMut<[u8]>> Store<I> {
     /// A write that the power cuts.
     ///
     /// ```
-    /// # use johvimaru::{payload, Cut, Noise, Offset, Outcome, Store};
+    /// # use johvimaru::{Cut, Noise, Offset, Outcome, Store};
     /// let mut store = Store::format(vec![0; 32_768], Noise::from_system()?)?;
     /// let at = Offset::new(0, 0)?;
-    /// store.write(at, &payload(b"draught 4.12 m")?)?;
+    /// store.write(at, b"draught 4.12 m")?;
     /// let cut = Cut { n: 0, k: 30 };
-    /// let Outcome::Cut(image) = store.write_cut(at, &payload(b"lost")?, cut)? else {
+    /// let Outcome::Cut(image) = store.write_cut(at, b"lost", cut)? else {
     ///     panic!("a write has one step");
     /// };
     /// // Nothing but a mount can follow. It finds what was there before.
     /// let store = image.mount()?;
-    /// assert!(store.read(at)?.starts_with(b"draught 4.12 m"));
+    /// assert_eq!(store.read(at)?, b"draught 4.12 m");
     /// assert_eq!(store.record().counts().deleted, 1);
     /// # Ok::<(), Box<dyn std::error::Error>>(())
     /// ```
     pub fn write_cut(
         mut self,
         at: Offset,
-        payload: &Payload,
+        payload: &[u8],
         cut: Cut,
     ) -> Result<Outcome<I>, Refused<Store<I>>> {
         let Store { image, record } = &mut self;

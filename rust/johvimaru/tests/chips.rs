@@ -8,8 +8,8 @@ mod common;
 use common::cuts::{every_step, memory, rich, wipe_at_every_step, InMemory, Memory, NODES};
 use common::{at, noise};
 use johvimaru::{
-    Chip, Cut, CutError, Driver, Failure, File, MemoryChip, Misuse, Outcome, Page, Refusal, Store,
-    BLOCK,
+    Chip, Cut, CutError, Driver, Failure, File, MemoryChip, Misuse, Outcome, Page, Payload,
+    Refusal, Store, BLOCK,
 };
 
 /// The bytes of a step at which it is cut.
@@ -94,8 +94,8 @@ fn a_commit_cut_at_every_step() {
         |driver| driver.commit(noise(9)),
         |store, cut| store.commit_cut(noise(9), cut).unwrap(),
         |_, store| {
-            for (file, offset, byte) in NODES {
-                assert_eq!(store.read(at(file, offset)), Ok([byte; 224]));
+            for (file, offset, payload) in NODES {
+                assert_eq!(store.read(at(file, offset)), Payload::new(payload));
             }
             assert_eq!(store.record().nodes().count(), NODES.len());
         },
@@ -217,7 +217,7 @@ fn a_failing_chip_leaves_the_mirror_where_it_stands() {
         assert_eq!(driver.commit(noise(9)), Err(Failure::NotMounted));
         driver.chip_mut().left = 1_000;
         driver.mount().unwrap();
-        assert_eq!(driver.read(at(0, 0)), Ok([16; 224]), "{left}");
+        assert_eq!(driver.read(at(0, 0)).unwrap(), [16; 224], "{left}");
     }
 }
 

@@ -3,7 +3,7 @@
 
 use johvimaru::{
     raw, Cut, CutChip, CutError, Driver, Failure, File, FileChip, Form, MemoryChip, Misuse, Noise,
-    Offset, Outcome, Refusal, Refused, Step, Store, BLOCK, NOISE, PAGE,
+    Offset, Outcome, Payload, Refusal, Refused, Step, Store, BLOCK, NOISE, PAGE,
 };
 use std::collections::BTreeSet;
 use std::fmt::Debug;
@@ -106,6 +106,8 @@ fn small(image: &[u8]) -> Vec<(String, String)> {
         shown(store.record().letter(0)),
         shown(Offset::new(2, 5).unwrap()),
         shown(File::new(2).unwrap()),
+        shown(Payload::new(&[PAYLOAD_BYTE; 40]).unwrap()),
+        shown(store.read(Offset::new(2, 5).unwrap()).unwrap()),
         shown(Cut { n: 1, k: 2 }),
         shown(Failure::Chip(CutError::Chip(Misuse::NotEmpty))),
         shown(CutError::Chip(Misuse::Outside)),
@@ -173,4 +175,7 @@ fn counts_and_numbers_are_shown() {
     let step = Step::Program { page: 3, bytes: Box::new([0; PAGE]) };
     assert_eq!(format!("{step:?}"), "Program { page: 3, .. }");
     assert_eq!(format!("{:?}", noise()), "Noise");
+    for (bytes, shown) in [(&b"P"[..], "Payload(1 byte)"), (&[0; 224], "Payload(224 bytes)")] {
+        assert_eq!(format!("{:?}", Payload::new(bytes).unwrap()), shown);
+    }
 }

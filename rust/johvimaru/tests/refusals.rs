@@ -4,7 +4,7 @@
 mod common;
 
 use common::{at, noise};
-use johvimaru::{payload, raw, Noise, Offset, Refusal, Store, BLOCK, NOISE, PAGE};
+use johvimaru::{raw, Noise, Offset, Refusal, Store, BLOCK, NOISE, PAGE};
 
 fn formatted(blocks: usize) -> Store<Vec<u8>> {
     Store::format(vec![0; BLOCK * blocks], noise(1)).unwrap()
@@ -54,14 +54,17 @@ fn refusals_3_to_6_arguments() {
     assert_eq!(Noise::new(&[0; NOISE + 1]).unwrap_err(), Refusal::NoiseLength);
     assert_eq!(Offset::new(14, 0), Err(Refusal::NoSuchFile));
     assert_eq!(Offset::new(13, 8), Err(Refusal::OffsetOutside));
-    assert_eq!(payload(&[0; 225]), Err(Refusal::PayloadLength));
     let (mut image, mut record) = (vec![0; 8 * BLOCK], raw::Record::blank());
     assert_eq!(raw::format(&mut image, &mut record, &[0; NOISE + 1]), 3);
     assert_eq!(raw::format(&mut image, &mut record, &[0; NOISE]), raw::DONE);
     assert_eq!(raw::write(&mut image, &mut record, 14, 0, &[0; 224]), 4);
     assert_eq!(raw::write(&mut image, &mut record, 13, 8, &[0; 224]), 5);
-    assert_eq!(raw::write(&mut image, &mut record, 13, 7, &[0; 223]), 6);
-    assert_eq!(raw::read(&image, &record, 13, 7, &mut [0; 225]), 6);
+    for wrong in [0, 225, 1_000] {
+        assert_eq!(raw::write(&mut image, &mut record, 13, 7, &vec![0; wrong]), 6, "{wrong}");
+    }
+    for wrong in [0, 1, 223, 225] {
+        assert_eq!(raw::read(&image, &record, 13, 7, &mut vec![0; wrong]), (6, 0), "{wrong}");
+    }
     assert_eq!(raw::commit(&mut image, &mut record, &[]), 3);
     assert_eq!(raw::wipe(&mut image, &mut record, &[], 14, 0), 3);
     assert_eq!(raw::cut_off(&mut image, &mut record, 14, 0), 4);
@@ -98,7 +101,7 @@ fn refusal_7_the_record() {
     assert_eq!(store.commit(noise(2)), Err(Refusal::RecordUnfit));
     assert_eq!(store.wipe(at(0, 0), noise(2)), Err(Refusal::RecordUnfit));
     which.set(0);
-    assert_eq!(store.read(at(0, 0)), Ok([1; 224]));
+    assert_eq!(store.read(at(0, 0)).unwrap(), [1; 224]);
 }
 
 #[test]
@@ -108,7 +111,7 @@ fn refusal_8_nothing_there() {
     assert_eq!(store.read(at(0, 2)), Err(Refusal::NothingThere));
     assert_eq!(store.cut_off(at(0, 4)), Err(Refusal::NothingThere));
     assert_eq!(store.wipe(at(0, 4), noise(2)), Ok(()));
-    assert_eq!(store.read(at(0, 3)), Ok([1; 224]));
+    assert_eq!(store.read(at(0, 3)).unwrap(), [1; 224]);
 }
 
 #[test]

@@ -19,6 +19,9 @@ use std::cell::RefCell;
 const LIMITS: [(What, f64); 4] =
     [(What::Write, 1.00), (What::Read, 1.00), (What::Mount, 1.10), (What::Commit, 1.10)];
 
+/// Our read of 40 bytes over one of 224 is at most this.
+const SHORT_READ_LIMIT: f64 = 1.0;
+
 /// Our cut-off over our write less what enciphering one page takes is at most this.
 const CUT_OFF_LIMIT: f64 = 1.1;
 
@@ -39,11 +42,12 @@ pub fn compare_results() {
     }
 }
 
-/// Prints the times, ours over the floor's, and our cut-off's.
+/// Prints the times, ours over the floor's, and those of our short reads and our cut-off.
 pub fn times() {
     if let Some(floor) = Floor::open() {
         compare_times(floor);
     }
+    short_reads();
     cut_offs();
 }
 
@@ -110,7 +114,7 @@ fn compare_settings(floor: Floor) {
 /// How often a call is timed: rounds, and times in a round.
 fn often(setting: &Setting, what: What) -> (usize, usize) {
     match what {
-        What::Write | What::Read | What::CutOff => (1_000, 10),
+        What::Write | What::Read | What::ShortRead | What::CutOff => (1_000, 10),
         _ if setting.blocks > 32 => (200, 4),
         _ => (500, 8),
     }
@@ -143,6 +147,19 @@ fn compare_times(floor: Floor) {
     for ((what, limit), missed) in LIMITS.iter().zip(missed) {
         let word = if missed == 0 { "met".into() } else { format!("NOT met on {missed} of 4") };
         println!("{:<36}{word}", format!("{}, at most {limit:.2}", what.name()));
+    }
+}
+
+/// Our read of a short payload beside that of a long one.
+fn short_reads() {
+    println!("\nour read of 40 bytes / our read of 224");
+    for setting in &SETTINGS {
+        let [long, short] =
+            [What::Read, What::ShortRead].map(|what| RefCell::new(Bed::new(setting, what)));
+        let mut ways = [Bed::way(&long, Side::Ours), Bed::way(&short, Side::Ours)];
+        let ratio = run_ready(&mut ways, 1_000, 10).best_ratio(1, 0);
+        let word = if ratio <= SHORT_READ_LIMIT { "met" } else { "NOT met" };
+        println!("{:<36}{ratio:>9.2}   at most {SHORT_READ_LIMIT:.2}: {word}", setting.name);
     }
 }
 

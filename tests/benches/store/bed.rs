@@ -5,7 +5,7 @@ use johvimaru::raw::{self as recorder, Record, DONE};
 use johvimaru_tests::floor::Floor;
 use johvimaru_tests::model::files::PLACES;
 use johvimaru_tests::model::pages::{PAGE, PAYLOAD};
-use johvimaru_tests::settings::{payload, Setting, FORMAT_NOISE};
+use johvimaru_tests::settings::{payload, Setting, FORMAT_NOISE, SHORT};
 use johvimaru_tests::timing::Way;
 use std::cell::RefCell;
 
@@ -14,6 +14,8 @@ use std::cell::RefCell;
 pub enum What {
     Write,
     Read,
+    /// A read of 40 bytes.
+    ShortRead,
     Mount,
     Commit,
     Wipe,
@@ -21,11 +23,26 @@ pub enum What {
 }
 
 impl What {
-    pub const ALL: [What; 6] =
-        [What::Write, What::Read, What::Mount, What::Commit, What::Wipe, What::CutOff];
+    pub const ALL: [What; 7] = [
+        What::Write,
+        What::Read,
+        What::ShortRead,
+        What::Mount,
+        What::Commit,
+        What::Wipe,
+        What::CutOff,
+    ];
 
     pub fn name(self) -> &'static str {
-        ["write", "read", "mount", "commit", "wipe", "cut-off"][self as usize]
+        ["write", "read", "read 40", "mount", "commit", "wipe", "cut-off"][self as usize]
+    }
+
+    /// The length of the payload that the call finds at its place.
+    fn length(self) -> usize {
+        match self {
+            What::ShortRead => SHORT,
+            _ => PAYLOAD,
+        }
     }
 }
 
@@ -58,7 +75,7 @@ pub struct Bed {
 impl Bed {
     /// The image of a setting for a call, which must be taken.
     pub fn new(setting: &Setting, what: What) -> Bed {
-        let (image, record) = setting.lent();
+        let (image, record) = setting.lent_with(what.length());
         let before = Lent { image, record, scratch: vec![0; PLACES], output: vec![0; PAYLOAD] };
         let (payload, noise) = (payload(1_000_000).bytes(), FORMAT_NOISE.bytes());
         let changed = Vec::new();
@@ -73,11 +90,19 @@ impl Bed {
     /// Makes the call.
     pub fn make(&mut self, side: Side) {
         let Lent { image, record, scratch, output } = &mut self.now;
+        let read = |(reply, length)| {
+            assert_eq!(length, self.what.length());
+            reply
+        };
         let reply = match (self.what, side) {
             (What::Write, Side::Ours) => recorder::write(image, record, 0, 0, &self.payload),
             (What::Write, Side::Floor(floor)) => floor.write(image, record, 0, 0, &self.payload),
-            (What::Read, Side::Ours) => recorder::read(image, record, 0, 0, output),
-            (What::Read, Side::Floor(floor)) => floor.read(image, record, 0, 0, output),
+            (What::Read | What::ShortRead, Side::Ours) => {
+                read(recorder::read(image, record, 0, 0, output))
+            }
+            (What::Read | What::ShortRead, Side::Floor(floor)) => {
+                read(floor.read(image, record, 0, 0, output))
+            }
             (What::Mount, Side::Ours) => recorder::mount(image, record, scratch),
             (What::Mount, Side::Floor(floor)) => floor.mount(image, record, scratch),
             (What::Commit, Side::Ours) => recorder::commit(image, record, &self.noise),

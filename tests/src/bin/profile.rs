@@ -8,13 +8,14 @@ use johvimaru::raw::{self as recorder, Record, DONE};
 use johvimaru_tests::floor::Floor;
 use johvimaru_tests::model::files::PLACES;
 use johvimaru_tests::model::pages::PAYLOAD;
-use johvimaru_tests::settings::{payload, Setting, FORMAT_NOISE, SETTINGS};
+use johvimaru_tests::settings::{payload, Setting, FORMAT_NOISE, SETTINGS, SHORT};
 use std::collections::BTreeMap;
 use std::path::Path;
 use std::process::Command;
 
-/// The calls, as the library's functions end.
-const CALLS: [&str; 5] = ["write", "read", "mount", "commit", "cut_off"];
+/// The calls, as the library's functions end. A short read is one of 40 bytes.
+const CALLS: [&str; 6] = ["write", "read", SHORT_READ, "mount", "commit", "cut_off"];
+const SHORT_READ: &str = "short_read";
 
 /// The two sides.
 const OURS: &str = "ours";
@@ -53,14 +54,19 @@ fn main() {
     }
 }
 
+/// Image and record that a call finds.
+fn lent(call: &str, setting: &Setting) -> (Vec<u8>, Record) {
+    setting.lent_with(if call == SHORT_READ { SHORT } else { PAYLOAD })
+}
+
 /// Makes a call by the library, the only one in this run.
 fn ours(call: &str, setting: &Setting) -> u32 {
-    let (mut image, mut record) = setting.lent();
+    let (mut image, mut record) = lent(call, setting);
     let (noise, data) = (FORMAT_NOISE.bytes(), payload(1_000_000).bytes());
     let of: &mut Record = &mut record;
     match call {
         "write" => recorder::write(&mut image, of, 0, 0, &data),
-        "read" => recorder::read(&image, of, 0, 0, &mut [0; PAYLOAD]),
+        "read" | SHORT_READ => recorder::read(&image, of, 0, 0, &mut [0; PAYLOAD]).0,
         "mount" => recorder::mount(&mut image, of, &mut [0; PLACES]),
         "commit" => recorder::commit(&mut image, of, &noise),
         "cut_off" => recorder::cut_off(&mut image, of, 0, 0),
@@ -71,12 +77,12 @@ fn ours(call: &str, setting: &Setting) -> u32 {
 /// Makes a call by the floor.
 fn floor(call: &str, setting: &Setting) -> u32 {
     let floor = Floor::open().expect("a cipher: the Debian package libnettle8");
-    let (mut image, mut record) = setting.lent();
+    let (mut image, mut record) = lent(call, setting);
     let (noise, data) = (FORMAT_NOISE.bytes(), payload(1_000_000).bytes());
     let of: &mut Record = &mut record;
     match call {
         "write" => floor.write(&mut image, of, 0, 0, &data),
-        "read" => floor.read(&image, of, 0, 0, &mut [0; PAYLOAD]),
+        "read" | SHORT_READ => floor.read(&image, of, 0, 0, &mut [0; PAYLOAD]).0,
         "mount" => floor.mount(&mut image, of, &mut [0; PLACES]),
         "commit" => floor.commit(&mut image, of, &noise),
         "cut_off" => floor.cut_off(&mut image, of, 0, 0),
@@ -88,10 +94,11 @@ fn floor(call: &str, setting: &Setting) -> u32 {
 fn count(side: &str, call: &str, at: usize) -> BTreeMap<String, u64> {
     let this = std::env::current_exe().expect("the program has a path");
     let prefix = if side == OURS { "johvimaru" } else { side };
+    let function = if call == SHORT_READ { "read" } else { call };
     let out = std::env::temp_dir().join(format!("profile-{}-{call}-{at}", std::process::id()));
     let run = Command::new("valgrind")
         .args(["--tool=callgrind", "--compress-strings=no", "--compress-pos=no"])
-        .arg(format!("--toggle-collect={prefix}_{call}"))
+        .arg(format!("--toggle-collect={prefix}_{function}"))
         .arg(format!("--callgrind-out-file={}", out.display()))
         .arg(this)
         .args([side, call, &at.to_string()])
@@ -140,7 +147,7 @@ fn spell(number: u64) -> String {
     let digits = number.to_string();
     let mut text = String::new();
     for (at, digit) in digits.chars().enumerate() {
-        if at > 0 && (digits.len() - at) % 3 == 0 {
+        if at > 0 && (digits.len() - at).is_multiple_of(3) {
             text.push(',');
         }
         text.push(digit);

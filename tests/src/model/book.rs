@@ -11,7 +11,7 @@ use super::pages::{DELETED, FREE, HEADER, PAGE, USED};
 /// A payload with its key position.
 #[derive(Clone, Debug, PartialEq, Eq)]
 pub struct Content {
-    /// The payload.
+    /// The payload, of 1 to 224 bytes.
     pub payload: Vec<u8>,
     /// The key position.
     pub position: usize,
@@ -42,6 +42,17 @@ pub struct Book {
     pub marks: Vec<u8>,
     /// For each position the call that brought its key.
     pub bringers: Vec<usize>,
+}
+
+/// The payload that a write brings: what it is given, or so much of all its bytes as its second number
+/// says, 0 for 224.
+fn written(call: Call) -> Vec<u8> {
+    match call {
+        Call::Write { payload, .. } => payload.bytes(),
+        Call::Append { second: 0, bytes, .. } => bytes.bytes(),
+        Call::Append { second, bytes, .. } => bytes.bytes()[..second as usize].to_vec(),
+        _ => Vec::new(),
+    }
 }
 
 /// The steps, counted from 0, with which the copies of a commit are made whole.
@@ -89,9 +100,9 @@ impl Book {
         let made_whole = |step| reached(step) == PAGE;
         match call {
             Call::Mount { .. } | Call::Read { .. } => {}
-            Call::Write { file, offset, payload } => {
+            Call::Write { file, offset, .. } | Call::Append { file, offset, .. } => {
                 if made_whole(0) {
-                    self.write(file, offset, payload.bytes());
+                    self.write(file, offset, written(call));
                 } else if reached(0) >= HEADER {
                     self.take_free(DELETED);
                 }

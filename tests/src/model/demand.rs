@@ -1,17 +1,20 @@
 //! Document 01, demand 3 ("The plain book of demand 3", "Contracts and cases"): a list of calls with
 //! cuts, run on the model beside the book, and what must hold after each call.
 
+use super::aes;
+use super::blocks::page_to_take;
 use super::book::{Book, Key};
 use super::calls::{self, Refusal, CUT, DONE};
 use super::files::{self, PLACES};
-use super::image::{pages, Power, Step, BLOCK, PAGES_IN_BLOCK};
+use super::image::{blocks, pages, Power, Step, BLOCK, PAGES_IN_BLOCK};
 use super::keys::{in_noise, Slot, NOISE, POSITIONS};
 use super::list::{Call, Data, Event, Lent};
 use super::origin::{Origin, Origins};
-use super::pages::{Form, FREE, PAYLOAD};
+use super::pages::{Form, Header, FREE, HEADER, PAGE, PAYLOAD, SPACE};
 use super::record::{Record, LETTERS, MAP, SCRATCH};
 use super::store::Store;
 use crate::rng::Rng;
+use std::collections::HashMap;
 
 /// What does not hold, in words.
 pub type Broken = String;
@@ -28,7 +31,35 @@ pub struct Run {
     origins: Origins,
     /// For each call by its number the noise that it took.
     noises: Vec<Vec<u8>>,
+    /// For each key the node that it has enciphered, on whatever pages, erased ones too.
+    nodes: HashMap<Key, Node>,
     seed: u64,
+}
+
+/// A node: its file, offset and second number, and all bytes that its key enciphers.
+#[derive(Clone, Debug, PartialEq, Eq)]
+struct Node {
+    file: usize,
+    offset: usize,
+    second: u32,
+    bytes: Vec<u8>,
+}
+
+impl Node {
+    /// The node of a write; none for other calls.
+    fn of(call: Call) -> Option<Node> {
+        match call {
+            Call::Write { file, offset, payload } => {
+                let padding = vec![SPACE; PAYLOAD - payload.length];
+                let bytes = [payload.bytes(), padding].concat();
+                Some(Node { file, offset, second: payload.length as u32, bytes })
+            }
+            Call::Append { file, offset, second, bytes } => {
+                Some(Node { file, offset, second, bytes: bytes.bytes() })
+            }
+            _ => None,
+        }
+    }
 }
 
 /// Fails with this text where something does not hold.
@@ -53,7 +84,8 @@ impl Run {
         let mut origins = Origins::new(store.image.len());
         let key = |position| Key::new(position, 0);
         origins.follow(&steps.expect("the format was taken"), Power::STAYS, key, key);
-        Run { store, on: true, book: Book::new(), origins, noises: vec![noise], seed }
+        let (book, nodes) = (Book::new(), HashMap::new());
+        Run { store, on: true, book, origins, noises: vec![noise], nodes, seed }
     }
 
     /// Does one call and holds it to the book. Gives the reply, or none where the power is off and the
@@ -79,10 +111,46 @@ impl Run {
         let is_cut = power.steps < steps.len();
         ensure!((reply == CUT) == is_cut, "reply {reply}, the call has {} steps", steps.len());
         match reply {
-            DONE | CUT => self.enter(number, event, reply, before, &steps)?,
+            DONE | CUT => {
+                self.check_programs(event, &before, &steps)?;
+                self.enter(number, event, reply, before, &steps)?;
+            }
             refusal => self.check_refused(call, refusal, before)?,
         }
         Ok(Some(reply))
+    }
+
+    /// A write that is taken programs its node and that alone, under the key that the lowest f then has
+    /// and that has enciphered no node before.
+    fn check_programs(
+        &mut self,
+        event: &Event,
+        before: &Store,
+        steps: &[Step],
+    ) -> Result<(), Broken> {
+        let Some(node) = Node::of(event.call) else {
+            return Ok(());
+        };
+        let lowest = self.book.marks.iter().position(|&mark| mark == FREE);
+        let position = lowest.expect("the call was not refused");
+        let key = self.book.key(position);
+        let noise = &self.noises[key.call as usize][in_noise(position)];
+
+        let mut enciphered = node.bytes.clone();
+        aes::stream(noise.try_into().expect("16 bytes of noise"), &mut enciphered);
+        let Node { file, offset, second, .. } = node;
+        let sequence = before.record.numbers.sequence;
+        let header = Header::Node { sequence, file, offset, key: position, second };
+        let page = page_to_take(blocks(&before.image)).expect("the call was not refused");
+        let programs = Step::Program { page, bytes: Box::new(header.page(&enciphered)) };
+        ensure!(*steps == [programs], "another page than that of the node");
+
+        let old = self.nodes.get(&key);
+        ensure!(old.is_none(), "{key:?} has enciphered {old:?} before");
+        if event.power.reaches(0, PAGE) >= HEADER {
+            self.nodes.insert(key, node);
+        }
+        Ok(())
     }
 
     /// A generator for what the checks of the present call choose at random.
@@ -159,7 +227,7 @@ impl Run {
     fn check_reply(&self, image: &[u8], call: Call, reply: u32) -> Result<(), Broken> {
         let expected = self.expected_reply(call).map_or_else(Refusal::number, |()| DONE);
         let no_page = || {
-            matches!(call, Call::Write { .. } | Call::CutOff { .. })
+            matches!(call, Call::Write { .. } | Call::Append { .. } | Call::CutOff { .. })
                 && reply == Refusal::NoRoom.number()
                 && !has_page(image)
         };
@@ -177,9 +245,9 @@ impl Run {
         };
         match call {
             Call::Mount { scratch } => test(scratch == SCRATCH, Refusal::Lengths),
-            Call::Write { file, offset, payload } => {
+            Call::Write { file, offset, .. } | Call::Append { file, offset, .. } => {
                 test_node(file, offset)?;
-                test(payload.length == PAYLOAD, Refusal::Payload)?;
+                test(call.has_right_lengths(), Refusal::Payload)?;
                 test(self.book.marks.contains(&FREE), Refusal::NoKey)
             }
             Call::Read { file, offset, output } => {
@@ -265,6 +333,7 @@ impl Run {
         let mut places: Vec<usize> = (0..4).map(|_| rng.below(PLACES)).collect();
         match call {
             Call::Write { file, offset, .. }
+            | Call::Append { file, offset, .. }
             | Call::Read { file, offset, .. }
             | Call::CutOff { file, offset } => places.extend(files::place(file, offset)),
             Call::Mount { .. } | Call::Commit { .. } | Call::Wipe { .. } => {
@@ -279,15 +348,23 @@ impl Run {
         (0..PLACES).try_for_each(|place| self.check_read(place))
     }
 
+    /// A read reports the length of the book's payload and puts its bytes before the rest of the output,
+    /// or is refused with 8, reports 0 and leaves the output.
     fn check_read(&self, place: usize) -> Result<(), Broken> {
         let (file, offset) = files::node(place);
-        let read = self.store.payload(file, offset);
-        let expected = match &self.book.places[place] {
-            Some(content) => Ok(&content.payload),
-            None => Err(&Refusal::NoNode.number()),
+        let before = self.rng().bytes(PAYLOAD);
+        let mut output = before.clone();
+        let Store { image, record } = &self.store;
+        let (reply, length) = calls::read(image, record, file, offset, &mut output);
+        let (expected, payload) = match &self.book.places[place] {
+            Some(content) => (DONE, content.payload.as_slice()),
+            None => (Refusal::NoNode.number(), [].as_slice()),
         };
-        let lengths = (read.as_ref().map(Vec::len), expected.map(Vec::len));
-        ensure!(read.as_ref() == expected, "a read at place {place} differs: lengths {lengths:?}");
+        ensure!(reply == expected, "a read at place {place} replies {reply}, not {expected}");
+        let expected = payload.len();
+        ensure!(length == expected, "a read at place {place} reports {length}, not {expected}");
+        let right = output == [payload, &before[length..]].concat();
+        ensure!(right, "a read at place {place} leaves another output");
         Ok(())
     }
 

@@ -1,6 +1,7 @@
 //! Document 01, "Contracts and cases": a list of calls on one image and record, any of which may be
 //! cut, at any n and k.
 
+use super::calls::Node;
 use super::image::Power;
 use super::keys::NOISE;
 use super::pages::PAYLOAD;
@@ -24,6 +25,18 @@ pub enum Call {
         offset: usize,
         /// The payload.
         payload: Data,
+    },
+    /// A write by an older recorder, whose second number is 0, or by one that puts other bytes after a
+    /// payload than spaces.
+    Append {
+        /// The file.
+        file: usize,
+        /// The offset.
+        offset: usize,
+        /// The second number.
+        second: u32,
+        /// All bytes of the page's payload.
+        bytes: Data,
     },
     /// Read.
     Read {
@@ -67,9 +80,14 @@ pub struct Data {
 }
 
 impl Data {
-    /// A payload of the right length.
+    /// A payload that fills its page.
     pub fn payload(seed: u64) -> Data {
         Data { length: PAYLOAD, seed }
+    }
+
+    /// So many bytes.
+    pub fn of(length: usize, seed: u64) -> Data {
+        Data { length, seed }
     }
 
     /// Noise of the right length.
@@ -92,10 +110,31 @@ impl Call {
         match self {
             Call::Mount { .. } => "mount",
             Call::Write { .. } => "write",
+            Call::Append { .. } => "append",
             Call::Read { .. } => "read",
             Call::CutOff { .. } => "cut-off",
             Call::Commit { .. } => "commit",
             Call::Wipe { .. } => "wipe",
+        }
+    }
+
+    /// Whether what a write is given has the lengths that refusal 6 asks for; true of other calls.
+    pub fn has_right_lengths(self) -> bool {
+        match self {
+            Call::Write { payload, .. } => (1..=PAYLOAD).contains(&payload.length),
+            Call::Append { second, bytes, .. } => {
+                second as usize <= PAYLOAD && bytes.length == PAYLOAD
+            }
+            _ => true,
+        }
+    }
+
+    /// The node that a write stores; none where its lengths are wrong, and for other calls.
+    pub fn node(self) -> Option<Node> {
+        match self {
+            Call::Write { payload, .. } => Node::padded(&payload.bytes()),
+            Call::Append { second, bytes, .. } => Node::given(second, &bytes.bytes()),
+            _ => None,
         }
     }
 }

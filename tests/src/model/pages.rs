@@ -1,5 +1,5 @@
 //! Document 01, "Page forms": headers and the forms of a page, and the letters and entries in the
-//! payloads of commit pages.
+//! payloads of commit pages. Document 02, #101: how long a node's payload is.
 
 use super::{files, keys};
 use std::ops::Range;
@@ -10,6 +10,8 @@ pub const PAGE: usize = 256;
 pub const HEADER: usize = 30;
 /// Bytes in a payload, after the header.
 pub const PAYLOAD: usize = 224;
+/// What a write stores after a payload that does not fill its page.
+pub const SPACE: u8 = b' ';
 /// The closing, the last bytes of a page.
 pub const CLOSING: [u8; 2] = [0x0d, 0x0a];
 /// An erased byte.
@@ -124,6 +126,8 @@ pub enum Header {
         offset: usize,
         /// The key position, 0 to 447.
         key: usize,
+        /// The payload's length, 1 to 224; 0 in a page of an older recorder.
+        second: u32,
     },
     /// D, a cut-off.
     CutOff {
@@ -179,8 +183,10 @@ impl Header {
         }
         let has_place = || files::place(unit, part).is_some();
         match (kind, unit, part, key, second) {
-            (b'N', file, offset, key, 0) if has_place() && key < keys::POSITIONS => {
-                Some(Header::Node { sequence: number, file, offset, key })
+            (b'N', file, offset, key, second)
+                if has_place() && key < keys::POSITIONS && is_node_second(second) =>
+            {
+                Some(Header::Node { sequence: number, file, offset, key, second })
             }
             (b'D', file, offset, 0, 0) if has_place() => {
                 Some(Header::CutOff { sequence: number, file, offset })
@@ -198,13 +204,13 @@ impl Header {
     /// The bytes of the header.
     pub fn spell(&self) -> [u8; HEADER] {
         let fields = match *self {
-            Header::Node { sequence, file, offset, key } => Fields {
+            Header::Node { sequence, file, offset, key, second } => Fields {
                 kind: b'N',
                 number: sequence,
                 unit: file as u32,
                 part: offset as u32,
                 key: key as u32,
-                second: 0,
+                second,
             },
             Header::CutOff { sequence, file, offset } => Fields {
                 kind: b'D',
@@ -238,6 +244,21 @@ impl Header {
         page[PAYLOAD_BYTES].copy_from_slice(payload);
         page[CLOSING_BYTES].copy_from_slice(&CLOSING);
         page
+    }
+}
+
+// ---- Lengths
+
+/// Whether a node's header can have this second number.
+pub fn is_node_second(second: u32) -> bool {
+    second <= PAYLOAD as u32
+}
+
+/// The length of a node's payload by its second number: 0 is an older recorder's, for 224.
+pub fn length_of(second: u32) -> usize {
+    match second {
+        0 => PAYLOAD,
+        length => length as usize,
     }
 }
 

@@ -56,8 +56,11 @@ impl Store {
             Call::Write { file, offset, payload } => {
                 calls::write(image, record, file, offset, &payload.bytes(), power)
             }
+            Call::Append { file, offset, .. } => {
+                calls::append(image, record, file, offset, call.node(), power)
+            }
             Call::Read { file, offset, output } => {
-                calls::read(image, record, file, offset, &mut vec![0; output])
+                calls::read(image, record, file, offset, &mut vec![0; output]).0
             }
             Call::CutOff { file, offset } => calls::cut_off(image, record, file, offset, power),
             Call::Commit { noise } => calls::commit(image, record, &noise.bytes(), power),
@@ -71,8 +74,8 @@ impl Store {
     pub fn payload(&self, file: usize, offset: usize) -> Result<Vec<u8>, u32> {
         let mut output = vec![0; PAYLOAD];
         match calls::read(&self.image, &self.record, file, offset, &mut output) {
-            calls::DONE => Ok(output),
-            refusal => Err(refusal),
+            (calls::DONE, length) => Ok(output[..length].to_vec()),
+            (refusal, _) => Err(refusal),
         }
     }
 
@@ -85,8 +88,8 @@ impl Store {
                 calls::mount::outcome(image).map(|mounted| mounted.steps)
             }
             Call::Mount { .. } => Err(Refusal::Lengths),
-            Call::Write { file, offset, payload } => {
-                steps(calls::write::outcome(image, record, file, offset, &payload.bytes()))
+            Call::Write { file, offset, .. } | Call::Append { file, offset, .. } => {
+                steps(calls::append::outcome(image, record, file, offset, call.node()))
             }
             Call::Read { .. } => Ok(Vec::new()),
             Call::CutOff { file, offset } => {

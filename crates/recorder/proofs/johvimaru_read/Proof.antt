@@ -1,4 +1,7 @@
--- `johvimaru_read` leaves what the store's call leaves, its reply as a number.
+-- `johvimaru_read` leaves what the store's call leaves, its reply as a number, and the length that it tells.
+use Prim.Native.Nat.{ℕ}
+use mathlib.Core.Path.{ap}
+use mathlib.Core.List.{[], _∷_}
 use Rattle.recorder.proofs.Faces.{faced-reply}
 use borrow.Author.Needs.{needs}
 use Rattle.recorder.proofs.johvimaru_read.Statement.{statement}
@@ -18,9 +21,9 @@ same-length c = search needs
 
 returns : tie.Need-returns
 returns c =
-    let e = c .before .before .before in
+    let e = c .before .before .before .before in
     rw (← e .before .before .numbers-of .ensures)
-    (faced-reply _ _ _ _ _ _ _ _ (c .number .ensures) (e .read .ensures))
+    (faced-reply _ _ _ _ _ _ _ _ (c .number .ensures) (e .read .ensures .0), ap (λ (n : ℕ). n ∷ []) (e .read .ensures .1))
 
 pub johvimaru-read-spec : {M : Type 1} → statement M
 johvimaru-read-spec =

@@ -222,7 +222,8 @@ impl After {
         let dead = self.seen.dead_headers();
         if dead > 0 {
             lines.push(format!(
-                "{} beside live nodes: file, offset and sequence of what was removed, no content",
+                "{} beside live nodes: file, offset, length and sequence of what was removed, no \
+                 content",
                 counted(dead, "header")
             ));
         }

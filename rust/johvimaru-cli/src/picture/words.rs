@@ -1,6 +1,7 @@
 //! What is said of blocks, pages and keys in the picture.
 
 use super::cells::{Cells, Kind, KEYS_IN_PAGE};
+use crate::image_file::counted;
 use johvimaru::{Form, Header, KEYS, PAGES_IN_BLOCK};
 
 /// At most so many lines on the blocks of keys and commits.
@@ -117,8 +118,9 @@ impl Cells<'_> {
 /// What a header says.
 fn header_in_words(header: Header) -> String {
     match header {
-        Header::Node { sequence, at, key, .. } => {
-            format!("node of {at}, sequence {sequence}, key {key}")
+        Header::Node { sequence, at, key, length, .. } => {
+            let bytes = counted(length, "byte");
+            format!("node of {at}, {bytes}, sequence {sequence}, key {key}")
         }
         Header::CutOff { sequence, from } => {
             let (file, offset) = (from.file(), from.number());

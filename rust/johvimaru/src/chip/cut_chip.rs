@@ -35,21 +35,21 @@ impl<E: Error + 'static> Error for CutError<E> {
 /// until its power is on again.
 ///
 /// ```
-/// use johvimaru::{payload, Cut, CutChip, Driver, MemoryChip, Noise, Offset};
+/// use johvimaru::{Cut, CutChip, Driver, MemoryChip, Noise, Offset};
 ///
 /// let chip = MemoryChip::new(vec![0xff; 8 * johvimaru::BLOCK]);
 /// let mut driver = Driver::new(CutChip::new(chip));
 /// driver.format(Noise::from_system()?)?;
 /// let at = Offset::new(0, 0)?;
-/// driver.write(at, &payload(b"draught 4.12 m")?)?;
+/// driver.write(at, b"draught 4.12 m")?;
 ///
 /// driver.chip_mut().cut_at(Cut { n: 0, k: 100 });
-/// assert!(driver.write(at, &payload(b"draught 6.80 m")?).is_err());
+/// assert!(driver.write(at, b"draught 6.80 m").is_err());
 /// assert!(driver.chip().is_off());
 ///
 /// driver.chip_mut().power_on();
 /// driver.mount()?;
-/// assert!(driver.read(at)?.starts_with(b"draught 4.12 m"));
+/// assert_eq!(driver.read(at)?, b"draught 4.12 m");
 /// # Ok::<(), Box<dyn std::error::Error>>(())
 /// ```
 #[derive(Clone)]

@@ -1,7 +1,10 @@
 //! Calls that are cut at every step, on a chip and by the library's own form with n and k.
 
 use super::{at, noise};
-use johvimaru::{Chip, Cut, CutChip, CutError, Driver, Failure, MemoryChip, Outcome, Store, BLOCK};
+use johvimaru::BLOCK;
+use johvimaru::{
+    Chip, Cut, CutChip, CutError, Driver, Failure, MemoryChip, Outcome, Payload, Store,
+};
 
 pub type InMemory = Driver<CutChip<MemoryChip>>;
 
@@ -16,15 +19,17 @@ pub fn rich() -> InMemory {
     for write in 0..17 {
         driver.write(at(0, 0), &[write; 224]).unwrap();
     }
-    for (file, offset, byte) in [(0, 31, 20), (2, 5, 21), (2, 6, 22), (13, 7, 23)] {
-        driver.write(at(file, offset), &[byte; 224]).unwrap();
+    for (file, offset, payload) in [(0, 31, &[20; 1][..]), (2, 5, &[21; 40]), (2, 6, &[22; 223])] {
+        driver.write(at(file, offset), payload).unwrap();
     }
+    driver.write(at(13, 7), &[23; 223]).unwrap();
     driver.cut_off(at(2, 6)).unwrap();
     driver
 }
 
 /// The nodes of a rich store.
-pub const NODES: [(u32, u32, u8); 4] = [(0, 0, 16), (0, 31, 20), (2, 5, 21), (13, 7, 23)];
+pub const NODES: [(u32, u32, &[u8]); 4] =
+    [(0, 0, &[16; 224]), (0, 31, &[20; 1]), (2, 5, &[21; 40]), (13, 7, &[23; 223])];
 
 /// How a kind of chip is made and looked at.
 pub trait Bed {
@@ -93,7 +98,7 @@ pub fn wipe_at_every_step<B: Bed>(bed: &B, bytes: &[usize]) -> u64 {
         |n, store| {
             let left = store.record().nodes().count();
             assert!(if n < 9 { left == 4 } else { left == 2 || n == 9 && left == 4 }, "{n}");
-            assert_eq!(store.read(at(13, 7)), Ok([23; 224]));
+            assert_eq!(store.read(at(13, 7)), Payload::new(&[23; 223]));
         },
     )
 }

@@ -4,8 +4,10 @@
 //! Each module has two functions. `outcome` makes the call's tests in the document's order and tells,
 //! from the image and record that the call found, its steps on the flash and the record after them.
 //! The other one, with the call's name, does it. A call that the power cut leaves the record as a call
-//! that finished: the document fixes only its image.
+//! that finished: the document fixes only its image. A write is a case of [`append`], whose `outcome` is
+//! also its own.
 
+pub mod append;
 pub mod commit;
 pub mod cut_off;
 pub mod format;
@@ -14,6 +16,7 @@ pub mod read;
 pub mod wipe;
 pub mod write;
 
+pub use append::{append, Node};
 pub use commit::commit;
 pub use cut_off::cut_off;
 pub use format::format;
@@ -46,7 +49,7 @@ pub enum Refusal {
     File = 4,
     /// The offset is not below the file's count.
     Offset = 5,
-    /// The payload, or the output for it, is not 224 bytes.
+    /// The payload has no bytes or more than 224, or the output is not 224 bytes.
     Payload = 6,
     /// The record does not fit.
     Record = 7,

@@ -114,7 +114,7 @@ impl Survey {
         let mut decisions = vec![None; PLACES];
         for (page, form) in self.forms.iter().enumerate() {
             let (places, new) = match *form {
-                Form::Whole(Header::Node { sequence, file, offset, key }) => {
+                Form::Whole(Header::Node { sequence, file, offset, key, .. }) => {
                     let entry = Some(Entry { page: page as u16, key: key as u16 });
                     let place = files::rest(file, offset).start;
                     (place..place + 1, Decision { sequence, entry })

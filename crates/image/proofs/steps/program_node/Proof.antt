@@ -3,8 +3,9 @@ use mathlib.Core.Path.{sym}
 use denote.Ref.{now}
 use borrow.Author.Tests.{not-true, not-false}
 use Rattle.image.proofs.Runs.{act-off}
-use Rattle.page.specs.Page.{nodePage}
-use Rattle.page.proofs.Pages.{node-length}
+use lib.ListN.{length}
+use Rattle.page.specs.Page.{padded, nodePage}
+use Rattle.page.proofs.Pages.{node-length, padded-length}
 use Rattle.image.proofs.Lent.{lent-program}
 use borrow.Author.Needs.{needs}
 use Rattle.image.proofs.steps.program_node.Statement.{statement}
@@ -44,8 +45,8 @@ returns-2 : tie.Need-returns-2
 returns-2 c =
     let a = c .before .before .before .before .before .before .before .before .before .before .args in
     lent-program (now (a .image)) (a .p) (c .after-step .result) (not-false _ (c .before .before .before .before .before .before .if1 .left)) (c .after-step .ensures)
-    (c .before .before .before .before .reach-of .result) (c .before .before .before .before .reach-of .ensures) _ (a .g) (nodePage (a .sequence) (a .file) (a .offset) (a .position) (a .key) (now (a .payload)))
-    (search needs, node-length (a .sequence) (a .file) (a .offset) (a .position) (a .key) (now (a .payload)) (c .before .before .before .before .before .before .before .before .before .before .pre .1))
+    (c .before .before .before .before .reach-of .result) (c .before .before .before .before .reach-of .ensures) _ (a .g) (nodePage (a .sequence) (a .file) (a .offset) (a .position) (length (now (a .payload))) (a .key) (padded (now (a .payload))))
+    (search needs, node-length (a .sequence) (a .file) (a .offset) (a .position) (length (now (a .payload))) (a .key) (padded (now (a .payload))) (padded-length (now (a .payload)) (c .before .before .before .before .before .before .before .before .before .before .pre .1)))
     (c .before .before .before .write-node .ensures)
 
 pub program-node-spec : {M : Type 1} → statement M

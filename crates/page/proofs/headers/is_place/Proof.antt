@@ -8,8 +8,8 @@ use Rattle.page.proofs.headers.is_place.Tie as tie
 cast-place : tie.Need-cast-place
 cast-place c = search needs
 
-spelt4-requires : tie.Need-spelt4-requires
-spelt4-requires c κs = search needs
+spelt-three-requires : tie.Need-spelt-three-requires
+spelt-three-requires c κs = search needs
 
 cast-place-2 : tie.Need-cast-place-2
 cast-place-2 c = search needs
@@ -29,15 +29,15 @@ word8-requires c κs = search needs
 returns : tie.Need-returns
 returns c =
     let s = c .before .before .before in
-    place-decides (now (s .args .src)) (c .word8 .result) (s .args .text) (c .before .spelt4 .result) (s .args .file) (s .args .offset) (c .word8 .ensures) (s .pre .1)
-    (c .before .spelt4 .ensures) (search needs) (search needs) (search needs)
+    place-decides (now (s .args .src)) (c .word8 .result) (s .args .text) (c .before .spelt-three .result) (s .args .file) (s .args .offset) (c .word8 .ensures) (s .pre .1)
+    (c .before .spelt-three .ensures) (search needs) (search needs) (search needs)
 
 pub is-place-spec : {M : Type 1} → statement M
 is-place-spec =
     tie.close
     (tie.spec
     cast-place
-    spelt4-requires
+    spelt-three-requires
     cast-place-2
     mul-place
     add-place

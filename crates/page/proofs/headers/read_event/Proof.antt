@@ -1,4 +1,4 @@
--- `headers::read_event` compares the second number and the end with their spelling, and reads the other numbers, all but the first by pairs.
+-- `headers::read_event` compares four spaces and the end with their spelling, and reads the numbers, all but the first by pairs.
 use borrow.Author.Needs.{needs}
 use borrow.Author.Tests.{not-true, not-false}
 use mathlib.Core.Path.{_≡_, sym, _∙_}
@@ -8,30 +8,27 @@ use Prim.Native.Nat.{ℕ}
 use denote.Ref.{now}
 use Rattle.base.specs.Part.{part}
 use Rattle.base.specs.Each.{same}
-use Rattle.page.specs.Frame.{colonSpace}
-use Rattle.page.specs.Column.{spell, columns, pairIn}
+use lib.ListN.{length}
+use Rattle.page.specs.Frame.{headerSize, colonSpace}
+use Rattle.page.specs.Word.{wordBytes}
 use Rattle.page.specs.Header.{headerOf}
-use Rattle.page.proofs.ColumnValues.{spelt-zero-four}
-use Rattle.page.proofs.HeaderLaws.{no-second, no-colon, eventHeader, event-read}
+use Rattle.page.proofs.HeaderLaws.{fourSpaces, no-second, no-colon, eventHeader, event-read}
 use Rattle.page.proofs.headers.read_event.Statement.{statement}
 use Rattle.page.proofs.headers.read_event.Tie as tie
 
 -- past both tests the header is read by pairs
-past : (xs : List ℕ) (second colon : Bool) → second ≡ same (part xs 20 8) (spell 8 0) → not second ≡ false
+past : (xs : List ℕ) (second colon : Bool) → length xs ≡ headerSize → second ≡ same (part xs 20 4) fourSpaces → not second ≡ false
     → colon ≡ same (part xs 28 2) colonSpace → not colon ≡ false → headerOf xs ≡ eventHeader xs
-past xs second colon e p f q = event-read xs (sym e ∙ not-false second p) (sym f ∙ not-false colon q)
+past xs second colon l e p f q = event-read xs l (sym e ∙ not-false second p) (sym f ∙ not-false colon q)
 
-slice-aggregate-same8 : tie.Need-slice-aggregate-same8
-slice-aggregate-same8 c = search needs
-
-same8-requires : tie.Need-same8-requires
-same8-requires c κs = search needs
+is-word4-requires : tie.Need-is-word4-requires
+is-word4-requires c κs = search needs
 
 returns : tie.Need-returns
-unfolding part spell columns
+unfolding part wordBytes
 returns c =
-    let s = c .before .before .before .before in
-    sym (no-second (now (s .args .src)) (s .pre .0) (s .pre .1) (sym (c .before .same8 .ensures) ∙ not-true _ (c .if1 .taken)))
+    let s = c .before .before .before in
+    sym (no-second (now (s .args .src)) (s .pre .0) (s .pre .1) (sym (c .before .is-word4 .ensures) ∙ not-true _ (c .if1 .taken)))
 
 slice-aggregate-same2 : tie.Need-slice-aggregate-same2
 slice-aggregate-same2 c = search needs
@@ -42,7 +39,7 @@ same2-requires c κs = search needs
 returns-2 : tie.Need-returns-2
 unfolding part
 returns-2 c =
-    let s = c .before .before .before .before .before .before .before in
+    let s = c .before .before .before .before .before .before in
     sym (no-colon (now (s .args .src)) (sym (c .before .same2 .ensures) ∙ not-true _ (c .if2 .taken)))
 
 get8-requires : tie.Need-get8-requires
@@ -55,14 +52,14 @@ enum-told : tie.Need-enum-told
 enum-told c = search needs
 
 returns-3 : tie.Need-returns-3
-unfolding part spell columns
+unfolding part wordBytes
 returns-3 c =
     let number = c .before .before in
     let ends = number .before in
-    let s = ends .before .before .before .before .before .before .before in
+    let s = ends .before .before .before .before .before .before in
     let xs = now (s .args .src) in
     let second = ends .before .before .before in
-    let read = past xs _ _ (second .before .same8 .ensures) (second .if1 .left) (ends .before .same2 .ensures) (ends .if2 .left) in
+    let read = past xs _ _ (s .pre .0) (second .before .is-word4 .ensures) (second .if1 .left) (ends .before .same2 .ensures) (ends .if2 .left) in
     rw (read, ← number .get8 .ensures, c .enum-told .given .1)
 
 read-place-requires : tie.Need-read-place-requires
@@ -75,15 +72,15 @@ enum-told-2 : tie.Need-enum-told-2
 enum-told-2 c = search needs
 
 returns-4 : tie.Need-returns-4
-unfolding part spell columns
+unfolding part wordBytes
 returns-4 c =
     let place = c .before .before in
     let number = place .before .before in
     let ends = number .before .before .before in
-    let s = ends .before .before .before .before .before .before .before in
+    let s = ends .before .before .before .before .before .before in
     let xs = now (s .args .src) in
     let second = ends .before .before .before in
-    let read = past xs _ _ (second .before .same8 .ensures) (second .if1 .left) (ends .before .same2 .ensures) (ends .if2 .left) in
+    let read = past xs _ _ (s .pre .0) (second .before .is-word4 .ensures) (second .if1 .left) (ends .before .same2 .ensures) (ends .if2 .left) in
     rw (
       read,
       ← number .before .before .get8 .ensures,
@@ -92,11 +89,8 @@ returns-4 c =
       c .enum-told2 .given .1,
     )
 
-word4-requires : tie.Need-word4-requires
-word4-requires c κs = search needs
-
-pair-of-requires : tie.Need-pair-of-requires
-pair-of-requires c κs = search needs
+read-key-requires : tie.Need-read-key-requires
+read-key-requires c κs = search needs
 
 enum-known-key : tie.Need-enum-known-key
 enum-known-key c = search needs
@@ -105,25 +99,23 @@ enum-told-3 : tie.Need-enum-told-3
 enum-told-3 c = search needs
 
 returns-5 : tie.Need-returns-5
-unfolding part spell columns
+unfolding part wordBytes
 returns-5 c =
     let key = c .before .before in
-    let place = key .before .before .before in
+    let place = key .before .before in
     let number = place .before .before .before .before in
     let ends = number .before .before .before in
-    let s = ends .before .before .before .before .before .before .before in
+    let s = ends .before .before .before .before .before .before in
     let xs = now (s .args .src) in
     let second = ends .before .before .before in
-    let read = past xs _ _ (second .before .same8 .ensures) (second .if1 .left) (ends .before .same2 .ensures) (ends .if2 .left) in
-    let pair : key .pair-of .result ≡ pairIn (part xs 16 4) (spell 4 0) =
-    key .pair-of .ensures ∙ (λ i. pairIn (key .before .word4 .ensures i) (spelt-zero-four i)) in
+    let read = past xs _ _ (s .pre .0) (second .before .is-word4 .ensures) (second .if1 .left) (ends .before .same2 .ensures) (ends .if2 .left) in
     rw (
       read,
       ← number .before .before .get8 .ensures,
       number .number .given .1,
       ← place .before .before .read-place .ensures,
       place .unit .given .1,
-      ← pair,
+      ← key .read-key .ensures,
       c .enum-told3 .given .1,
     )
 
@@ -134,52 +126,48 @@ event-in-range-requires : tie.Need-event-in-range-requires
 event-in-range-requires c κs = search needs
 
 returns-6 : tie.Need-returns-6
-unfolding part spell columns
+unfolding part wordBytes
 returns-6 c =
     let numbers = c .before .before .before .before in
     let key = numbers .before .before in
-    let place = key .before .before .before in
+    let place = key .before .before in
     let number = place .before .before .before .before in
     let ends = number .before .before .before in
-    let s = ends .before .before .before .before .before .before .before in
+    let s = ends .before .before .before .before .before .before in
     let xs = now (s .args .src) in
     let second = ends .before .before .before in
-    let read = past xs _ _ (second .before .same8 .ensures) (second .if1 .left) (ends .before .same2 .ensures) (ends .if2 .left) in
-    let pair : key .pair-of .result ≡ pairIn (part xs 16 4) (spell 4 0) =
-    key .pair-of .ensures ∙ (λ i. pairIn (key .before .word4 .ensures i) (spelt-zero-four i)) in
+    let read = past xs _ _ (s .pre .0) (second .before .is-word4 .ensures) (second .if1 .left) (ends .before .same2 .ensures) (ends .if2 .left) in
     rw (
       read,
       ← number .before .before .get8 .ensures,
       number .number .given .1,
       ← place .before .before .read-place .ensures,
       place .unit .given .1,
-      ← pair,
+      ← key .read-key .ensures,
       numbers .key .given .1,
       ← c .before .event-in-range .ensures,
       c .if3 .taken,
     )
 
 returns-7 : tie.Need-returns-7
-unfolding part spell columns
+unfolding part wordBytes
 returns-7 c =
     let numbers = c .before .before .before .before in
     let key = numbers .before .before in
-    let place = key .before .before .before in
+    let place = key .before .before in
     let number = place .before .before .before .before in
     let ends = number .before .before .before in
-    let s = ends .before .before .before .before .before .before .before in
+    let s = ends .before .before .before .before .before .before in
     let xs = now (s .args .src) in
     let second = ends .before .before .before in
-    let read = past xs _ _ (second .before .same8 .ensures) (second .if1 .left) (ends .before .same2 .ensures) (ends .if2 .left) in
-    let pair : key .pair-of .result ≡ pairIn (part xs 16 4) (spell 4 0) =
-    key .pair-of .ensures ∙ (λ i. pairIn (key .before .word4 .ensures i) (spelt-zero-four i)) in
+    let read = past xs _ _ (s .pre .0) (second .before .is-word4 .ensures) (second .if1 .left) (ends .before .same2 .ensures) (ends .if2 .left) in
     rw (
       read,
       ← number .before .before .get8 .ensures,
       number .number .given .1,
       ← place .before .before .read-place .ensures,
       place .unit .given .1,
-      ← pair,
+      ← key .read-key .ensures,
       numbers .key .given .1,
       ← c .before .event-in-range .ensures,
       c .if3 .left,
@@ -189,8 +177,7 @@ pub read-event-spec : {M : Type 1} → statement M
 read-event-spec =
     tie.close
     (tie.spec
-    slice-aggregate-same8
-    same8-requires
+    is-word4-requires
     returns
     slice-aggregate-same2
     same2-requires
@@ -203,8 +190,7 @@ read-event-spec =
     enum-known-unit
     enum-told-2
     returns-4
-    word4-requires
-    pair-of-requires
+    read-key-requires
     enum-known-key
     enum-told-3
     returns-5

@@ -1,10 +1,15 @@
--- `page::writers::read_payload` meets its contract: the payload is copied out and deciphered there.
 use borrow.Author.Needs.{needs}
-use Rattle.base.specs.Part.{part}
-use Rattle.page.specs.Page.{payloadOf}
-use Rattle.page.proofs.Pages.{stream-enciphered}
 use Rattle.page.proofs.writers.read_payload.Statement.{statement}
 use Rattle.page.proofs.writers.read_payload.Tie as tie
+use denote.Ref.{now}
+use lib.ListN.{length}
+use mathlib.Core.Path.{_∙_}
+use Rattle.page.specs.Frame.{headerSize}
+use Rattle.page.proofs.Slices.{lent-part}
+use Rattle.page.proofs.Pages.{front-enciphered}
+
+add-copy : tie.Need-add-copy
+add-copy c = search needs
 
 sub-copy : tie.Need-sub-copy
 sub-copy c = search needs
@@ -28,14 +33,15 @@ same-length : tie.Need-same-length
 same-length c = search needs
 
 returns : tie.Need-returns
-unfolding payloadOf part
 returns c =
-    rw (← c .before .before .before .before .before .before .before .copy .ensures) (stream-enciphered _ _ _ _ (c .before .before .apply-stream .ensures) (c .before .before .before .before .expand .ensures))
+    let s = c .before .before .before .before .before .before .before .before .before .before .before .before in
+    front-enciphered (s .args .key) _ (now (s .args .page)) _ _ (length (now (s .args .out))) (s .pre .1) (c .before .before .apply-stream .ensures) (c .before .before .before .before .expand .ensures) (c .before .before .before .before .before .before .before .copy .ensures ∙ lent-part (now (s .args .page)) headerSize (length (now (s .args .out))))
 
 pub read-payload-spec : {M : Type 1} → statement M
 read-payload-spec =
     tie.close
     (tie.spec
+    add-copy
     sub-copy
     part-copy-start
     part-copy-end

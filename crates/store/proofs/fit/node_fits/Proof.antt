@@ -38,15 +38,16 @@ is-whole-node-requires : tie.Need-is-whole-node-requires
 is-whole-node-requires c κs =
     let s = c .before .before .before .before .before in (
       c .page-at .ensures .1,
-      node-range (nodeFrame 1 (s .args .file) (s .args .offset) (s .args .key)) refl .1 (record {
+      node-range (nodeFrame 1 (s .args .file) (s .args .offset) (s .args .key) 0) refl .1 (record {
         from-one = omega arith;
         number = omega arith;
         file = s .pre .1;
         offset = s .pre .2;
         position = omega arith;
-        second = refl;
+        second = omega arith;
       }),
       s .pre .3,
+      s .pre .4,
     )
 
 returns-3 : tie.Need-returns-3

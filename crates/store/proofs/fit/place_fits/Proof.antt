@@ -3,6 +3,7 @@ use Prim.Native.Nat.{_+_, _-_}
 use native.Mathlib.Omega.{arith}
 use mathlib.Core.Path.{_≡_, sym, _∙_}
 use Rattle.page.specs.Plan.{filePlan, startOf}
+use Rattle.page.proofs.HeaderParts.{longest-right}
 use Rattle.store.specs.Record.{placeFits}
 use Rattle.store.proofs.PlaceTests.{vacant-read, node-read}
 use borrow.Author.Needs.{needs}
@@ -47,7 +48,7 @@ sub-node-fits : tie.Need-sub-node-fits
 sub-node-fits c = search needs
 
 node-fits-requires : tie.Need-node-fits-requires
-node-fits-requires c κs = search needs
+node-fits-requires c κs = let right = longest-right in search needs
 
 returns-2 : tie.Need-returns-2
 returns-2 c =

@@ -6,29 +6,53 @@ use lib.ListN.{length}
 use borrow.Author.Tests.{not-true, not-false}
 use Rattle.base.proofs.Choice.{true-false}
 use Rattle.store.specs.Testing.{Tested}
+use Rattle.store.proofs.PlaceTests.{in-places}
 use borrow.Author.Needs.{needs}
 use Rattle.store.proofs.fit.run_fits.Statement.{statement}
 use Rattle.store.proofs.fit.run_fits.Tie as tie
 
 abbrev Inv-loop : tie.InvT-loop
-Inv-loop image map named₀ file first from end text x₀ named x =
+Inv-loop image map named₀ file first from end text known x₀ named x =
     (from ≤ x) × (x ≤ end) × (length named ≡ length named₀) × Tested image map named x
 
 abbrev μ-loop : tie.MeasureT-loop
-μ-loop image map named₀ file first from end text x₀ named x = end - x
+μ-loop image map named₀ file first from end text known x₀ named x = end - x
 
 spelt4-requires : tie.Need-spelt4-requires Inv-loop μ-loop
 spelt4-requires c κs = let i = c .before .before .before .pre .2 in omega (arith, i .known)
+
+mul-second-columns : tie.Need-mul-second-columns Inv-loop μ-loop
+mul-second-columns c =
+    let start : tie.Start Inv-loop μ-loop = search in
+    let h = in-places (start .args .file) (start .args .first) (start .args .from) (start .args .end) (start .pre .2) in
+    omega arith
+
+shared-slice-read-second-columns : tie.Need-shared-slice-read-second-columns Inv-loop μ-loop
+shared-slice-read-second-columns c =
+    let start : tie.Start Inv-loop μ-loop = search in
+    let h = in-places (start .args .file) (start .args .first) (start .args .from) (start .args .end) (start .pre .2) in
+    omega arith
+
+second-columns-requires : tie.Need-second-columns-requires Inv-loop μ-loop
+second-columns-requires c κs = search needs
 
 loop-holds : tie.Need-loop-holds Inv-loop μ-loop
 loop-holds c = search needs
 
 pass-place-requires : tie.Need-pass-place-requires Inv-loop μ-loop
 pass-place-requires c κs =
-    let s = c .before .before .before .before .before .before .before in
+    let start : tie.Start Inv-loop μ-loop = search in
+    let text : tie.After-spelt4 Inv-loop μ-loop = search in
+    let second : tie.After-second-columns Inv-loop μ-loop = search in
     let l = c .before .before .loop in
-    let i = s .pre .2 in
-    (s .pre .0, s .pre .1, record { known = i .known; start = i .start; after = omega arith; row = omega arith; before = omega arith }, l .inv .3, c .before .before .before .spelt4 .ensures)
+    let i = start .pre .2 in (
+      start .pre .0,
+      start .pre .1,
+      record { known = i .known; start = i .start; after = omega arith; row = omega arith; before = omega arith },
+      l .inv .3,
+      text .spelt4 .ensures,
+      second .second-columns .ensures,
+    )
 
 same-length : tie.Need-same-length Inv-loop μ-loop
 same-length c = search needs
@@ -56,8 +80,8 @@ same-length-2 c = search needs
 returns-2 : tie.Need-returns-2 Inv-loop μ-loop
 returns-2 c =
     let l = c .before .loop in
-    let s = c .before .before .before .before .before .before in
-    let e : l .x ≡ s .args .end = omega arith in
+    let start : tie.Start Inv-loop μ-loop = search in
+    let e : l .x ≡ start .args .end = omega arith in
     record { right = λ _. rw e at (l .inv .3); wrong = λ f. absurd (true-false refl f) }
 
 pub run-fits-spec : {M : Type 1} → statement M
@@ -67,6 +91,9 @@ run-fits-spec =
     Inv-loop
     μ-loop
     spelt4-requires
+    mul-second-columns
+    shared-slice-read-second-columns
+    second-columns-requires
     loop-holds
     pass-place-requires
     same-length

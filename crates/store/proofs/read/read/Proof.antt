@@ -1,9 +1,9 @@
--- Refused, it leaves all as it was; taken, the output is the place's content.
+-- Refused, it leaves all as it was; taken, the output begins with the place's content.
 use mathlib.Core.Path.{_∙_}
 use borrow.Author.Needs.{needs}
 use Rattle.store.specs.Record.{recordOf}
 use Rattle.store.proofs.Refusals.{passed, failed}
-use Rattle.store.proofs.Calls.{read-refuse, read-take, read-left}
+use Rattle.store.proofs.Calls.{read-refuse, read-take, read-left, read-reports, read-reports-none}
 use Rattle.store.proofs.read.read.Statement.{statement}
 use Rattle.store.proofs.read.read.Tie as tie
 
@@ -20,7 +20,9 @@ returns : tie.Need-returns
 returns c =
     let a = c .before .before .before .before .before .before .before .before .args in
     let r = recordOf (a .map .now) (a .letters .now) (a .numbers) in
-    read-refuse (a .image .now) r (a .file) (a .offset) (a .output .now) _ (c .before .before .refuse-read .ensures) (failed (c .before .is-done .ensures) (c .if1 .taken))
+    let e = c .before .before .refuse-read .ensures in
+    let d = failed (c .before .is-done .ensures) (c .if1 .taken) in
+    (read-refuse (a .image .now) r (a .file) (a .offset) (a .output .now) _ e d, read-reports-none (a .image .now) r (a .file) (a .offset) (a .output .now) _ e d)
 
 place-at-requires : tie.Need-place-at-requires
 place-at-requires c κs =
@@ -46,7 +48,10 @@ returns-2 c =
     let a = c .before .before .before .before .before .before .before .before .before .before .before .before .before .args in
     let r = recordOf (a .map .now) (a .letters .now) (a .numbers) in
     let w = c .before .before .before .before .place-at .ensures in
-    read-left (a .image .now) r (a .file) (a .offset) (a .output .now) _ _ (d .before .before .refuse-read .ensures) (passed (d .before .is-done .ensures) (d .if1 .left)) (c .before .before .read-place .ensures ∙ rw (w .0))
+    let e = d .before .before .refuse-read .ensures in
+    let p = passed (d .before .is-done .ensures) (d .if1 .left) in
+    let n = c .before .before .read-place .ensures in
+    (read-left (a .image .now) r (a .file) (a .offset) (a .output .now) _ _ e p (n .0 ∙ rw (w .0)), read-reports (a .image .now) r (a .file) (a .offset) (a .output .now) _ _ e p (n .1 ∙ rw (w .0)))
 
 pub read-spec : {M : Type 1} → statement M
 read-spec =

@@ -1,10 +1,10 @@
--- The page is lent to the cipher's reader.
-use Prim.Native.Nat.{ℕ}
-use mathlib.Core.List.{List}
+-- The page is lent to the cipher's reader, and as many bytes of the output as its header says.
+use denote.Ref.{now}
 use mathlib.Core.Path.{ap, _∙_}
+use Rattle.page.specs.Form.{formOf}
+use Rattle.image.specs.Look.{formAt}
+use Rattle.store.proofs.Calls.{front-read}
 use borrow.Author.Needs.{needs}
-use Rattle.page.specs.Page.{enciphered, payloadOf}
-use Rattle.store.specs.Write.{keyHeld}
 use Rattle.store.proofs.read.read_node.Statement.{statement}
 use Rattle.store.proofs.read.read_node.Tie as tie
 
@@ -14,20 +14,48 @@ key-held-requires c κs = search needs
 page-at-requires : tie.Need-page-at-requires
 page-at-requires c κs = search needs
 
+node-length-requires : tie.Need-node-length-requires
+unfolding formAt
+node-length-requires c κs =
+    let s = c .before .before .before .before in
+    let node = s .pre .1 .1 in
+    let page = c .page-at .ensures in
+    (page .1, (node .0, ap formOf (page .0) ∙ node .1, node .2))
+
+sub-read-payload : tie.Need-sub-read-payload
+sub-read-payload c = search needs
+
+part-read-payload-start : tie.Need-part-read-payload-start
+part-read-payload-start c = search needs
+
+part-read-payload-end : tie.Need-part-read-payload-end
+part-read-payload-end c = search needs
+
 read-payload-requires : tie.Need-read-payload-requires
-read-payload-requires c κs = (c .before .page-at .ensures .1, c .before .before .before .before .before .pre .0 .1)
+read-payload-requires c κs = search needs
 
 same-length : tie.Need-same-length
 same-length c = search needs
 
 returns : tie.Need-returns
 returns c =
-    let a = c .before .before .before .before .before .before .before .before .args in
-    let k = c .before .before .before .before .before .key-held .ensures in
-    c .before .before .read-payload .ensures
-    ∙ rw k (ap (λ (page : List ℕ). enciphered (keyHeld (a .image .now) (a .numbers) (a .p)) (payloadOf page)) (c .before .before .before .before .page-at .ensures .0))
+    let s = c .before .before .before .before .before .before .before .before .before in
+    let n = c .before .before .before .before .node-length .ensures in
+    let page = c .before .before .before .before .before .page-at in
+    let key = c .before .before .before .before .before .before .key-held in
+    let e = front-read (key .result) (now (page .result)) (s .args .output .now) _ _ (page .ensures .1) (n .0) (n .1) (s .pre .0 .1) (c .before .before .read-payload .ensures) in
+    (e .0 ∙ rw (key .ensures, page .ensures .0), e .1 ∙ rw (key .ensures, page .ensures .0))
 
 pub read-node-spec : {M : Type 1} → statement M
 read-node-spec =
     tie.close
-    (tie.spec key-held-requires page-at-requires read-payload-requires same-length returns)
+    (tie.spec
+    key-held-requires
+    page-at-requires
+    node-length-requires
+    sub-read-payload
+    part-read-payload-start
+    part-read-payload-end
+    read-payload-requires
+    same-length
+    returns)

@@ -9,7 +9,7 @@ use Rattle.page.specs.Plan.{places}
 use Rattle.page.specs.Entry.{none}
 use Rattle.store.specs.Read.{contentOf}
 use Rattle.store.proofs.Records.{page-read, key-read}
-use Rattle.store.proofs.Calls.{page-held, keys-held}
+use Rattle.store.proofs.Calls.{page-held, keys-held, node-held}
 use Rattle.store.proofs.read.read_place.Statement.{statement}
 use Rattle.store.proofs.read.read_place.Tie as tie
 
@@ -42,7 +42,7 @@ read-node-requires c κs =
     let ready = s .pre .0 in
     let here = lt-ltb (pageOf (a .map .now) (a .x)) none (s .pre .1 .1) in
     let full = ready .buffers .mapFull in
-    ((rw (page-read (a .map .now) (a .x) (omega arith)) (page-held (a .image .now) r ready (a .x) (s .pre .1 .0) here), s .pre .1 .2), keys-held (a .image .now) r ready)
+    ((rw (page-read (a .map .now) (a .x) (omega arith)) (page-held (a .image .now) r ready (a .x) (s .pre .1 .0) here), s .pre .1 .2), (keys-held (a .image .now) r ready, rw (page-read (a .map .now) (a .x) (omega arith)) (node-held (a .image .now) r ready (a .x) (s .pre .1 .0) here)))
 
 same-length : tie.Need-same-length
 same-length c = search needs
@@ -53,7 +53,8 @@ returns c =
     let s = c .before .before .before .before .before .before .before .before .before .before in
     let a = s .args in
     let full = s .pre .0 .buffers .mapFull in
-    c .before .before .read-node .ensures ∙ rw (page-read (a .map .now) (a .x) (omega arith), key-read (a .map .now) (a .x) (omega arith))
+    let e = c .before .before .read-node .ensures in
+    (e .0 ∙ rw (page-read (a .map .now) (a .x) (omega arith), key-read (a .map .now) (a .x) (omega arith)), e .1 ∙ rw (page-read (a .map .now) (a .x) (omega arith), key-read (a .map .now) (a .x) (omega arith)))
 
 pub read-place-spec : {M : Type 1} → statement M
 read-place-spec =

@@ -2,6 +2,9 @@
 use native.Mathlib.Omega.{arith}
 use mathlib.Core.Path.{sym, _∙_}
 use borrow.Author.Needs.{needs}
+use lib.Dec.{eqb}
+use lib.ListN.{length}
+use Rattle.page.specs.Frame.{payloadSize}
 use Rattle.store.specs.Record.{recordOf}
 use Rattle.store.proofs.Records.{read-vacant, read-live}
 use Rattle.store.proofs.Refusals.{passed, failed, node-passed, read-refused-first, read-goes-on}
@@ -26,7 +29,7 @@ place-at-requires c κs =
     let r = recordOf (a .map .now) (a .letters .now) (a .numbers) in
     let e = c .before .before .refuse-node .ensures in
     let p = passed (c .before .is-done .ensures) (c .if1 .left) in
-    node-passed (a .image .now) r (a .file) (a .offset) (a .output .now) e p .1
+    node-passed (a .image .now) r (a .file) (a .offset) (eqb (length (a .output .now)) payloadSize) e p .1
 
 mul-if2 : tie.Need-mul-if2
 mul-if2 c = search needs
@@ -38,7 +41,7 @@ shared-slice-read-if2 c =
     let r = recordOf (a .map .now) (a .letters .now) (a .numbers) in
     let e = d .before .before .refuse-node .ensures in
     let p = passed (d .before .is-done .ensures) (d .if1 .left) in
-    let n = node-passed (a .image .now) r (a .file) (a .offset) (a .output .now) e p in
+    let n = node-passed (a .image .now) r (a .file) (a .offset) (eqb (length (a .output .now)) payloadSize) e p in
     omega (arith, n .0 .buffers .mapFull, c .before .place-at .ensures .1)
 
 returns-2 : tie.Need-returns-2
@@ -48,7 +51,7 @@ returns-2 c =
     let r = recordOf (a .map .now) (a .letters .now) (a .numbers) in
     let e = d .before .before .refuse-node .ensures in
     let p = passed (d .before .is-done .ensures) (d .if1 .left) in
-    let n = node-passed (a .image .now) r (a .file) (a .offset) (a .output .now) e p in
+    let n = node-passed (a .image .now) r (a .file) (a .offset) (eqb (length (a .output .now)) payloadSize) e p in
     let w = c .before .before .place-at .ensures in
     let v = read-vacant (a .map .now) (c .before .before .place-at .result) (omega (arith, n .0 .buffers .mapFull, w .1)) (c .if2 .taken) in
     sym (read-goes-on (a .image .now) r (a .file) (a .offset) (a .output .now) e p ∙ rw (← w .0, v))
@@ -60,7 +63,7 @@ returns-3 c =
     let r = recordOf (a .map .now) (a .letters .now) (a .numbers) in
     let e = d .before .before .refuse-node .ensures in
     let p = passed (d .before .is-done .ensures) (d .if1 .left) in
-    let n = node-passed (a .image .now) r (a .file) (a .offset) (a .output .now) e p in
+    let n = node-passed (a .image .now) r (a .file) (a .offset) (eqb (length (a .output .now)) payloadSize) e p in
     let w = c .before .before .place-at .ensures in
     let x = c .before .before .place-at .result in
     let v = read-live (a .map .now) x (omega (arith, n .0 .buffers .mapFull, w .1)) (omega (arith, c .before .shared-slice-known5 .given x)) (c .if2 .left) in

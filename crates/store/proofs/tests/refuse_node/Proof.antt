@@ -1,5 +1,5 @@
--- The tests of the place come first; then the buffer's length and the record's fit.
-use borrow.Author.Tests.{eq-eqb, ne-eqb}
+-- The tests of the place come first; then the length and the record's fit.
+use borrow.Author.Tests.{not-true, not-false}
 use mathlib.Core.Path.{sym, _∙_}
 use borrow.Author.Needs.{needs}
 use Rattle.store.specs.Record.{recordOf}
@@ -15,23 +15,23 @@ is-done-requires c κs = search needs
 
 returns : tie.Need-returns
 returns c =
-    let a = c .before .before .before .before .before .before .before .args in
+    let a = c .before .before .before .before .before .before .args in
     let r = recordOf (a .map .now) (a .letters .now) (a .numbers) in
-    sym (node-refused-first (a .image .now) r (a .file) (a .offset) (a .buffer .now) (c .before .before .refuse-place .ensures) (failed (c .before .is-done .ensures) (c .if1 .taken)))
+    sym (node-refused-first (a .image .now) r (a .file) (a .offset) (a .right) (c .before .before .refuse-place .ensures) (failed (c .before .is-done .ensures) (c .if1 .taken)))
 
 returns-2 : tie.Need-returns-2
 returns-2 c =
     let d = c .before in
-    let a = c .before .before .before .before .before .before .before .before .args in
+    let a = c .before .before .before .before .before .before .before .args in
     let r = recordOf (a .map .now) (a .letters .now) (a .numbers) in
     let e = d .before .before .refuse-place .ensures in
     let p = passed (d .before .is-done .ensures) (d .if1 .left) in
-    sym (node-goes-on (a .image .now) r (a .file) (a .offset) (a .buffer .now) e p ∙ rw (ne-eqb _ _ (c .if2 .taken)))
+    sym (node-goes-on (a .image .now) r (a .file) (a .offset) (a .right) e p ∙ rw (not-true (a .right) (c .if2 .taken)))
 
 fits-requires : tie.Need-fits-requires
 fits-requires c κs =
     let d = c .before in
-    let a = c .before .before .before .before .before .before .before .before .args in
+    let a = c .before .before .before .before .before .before .before .args in
     let e = d .before .before .refuse-place .ensures in
     let p = passed (d .before .is-done .ensures) (d .if1 .left) in
     let t = placeable (a .image .now) (a .map .now) (a .letters .now) (a .file) (a .offset) e p in
@@ -40,20 +40,20 @@ fits-requires c κs =
 returns-3 : tie.Need-returns-3
 returns-3 c =
     let d = c .before .before .before in
-    let a = c .before .before .before .before .before .before .before .before .before .before .args in
+    let a = c .before .before .before .before .before .before .before .before .before .args in
     let r = recordOf (a .map .now) (a .letters .now) (a .numbers) in
     let e = d .before .before .refuse-place .ensures in
     let p = passed (d .before .is-done .ensures) (d .if1 .left) in
-    sym (node-goes-on (a .image .now) r (a .file) (a .offset) (a .buffer .now) e p ∙ rw (eq-eqb _ _ (c .before .before .if2 .left), failed (c .before .fits2 .ensures) (c .if3 .taken)))
+    sym (node-goes-on (a .image .now) r (a .file) (a .offset) (a .right) e p ∙ rw (not-false (a .right) (c .before .before .if2 .left), failed (c .before .fits2 .ensures) (c .if3 .taken)))
 
 returns-4 : tie.Need-returns-4
 returns-4 c =
     let d = c .before .before .before in
-    let a = c .before .before .before .before .before .before .before .before .before .before .args in
+    let a = c .before .before .before .before .before .before .before .before .before .args in
     let r = recordOf (a .map .now) (a .letters .now) (a .numbers) in
     let e = d .before .before .refuse-place .ensures in
     let p = passed (d .before .is-done .ensures) (d .if1 .left) in
-    sym (node-goes-on (a .image .now) r (a .file) (a .offset) (a .buffer .now) e p ∙ rw (eq-eqb _ _ (c .before .before .if2 .left), passed (c .before .fits2 .ensures) (c .if3 .left)))
+    sym (node-goes-on (a .image .now) r (a .file) (a .offset) (a .right) e p ∙ rw (not-false (a .right) (c .before .before .if2 .left), passed (c .before .fits2 .ensures) (c .if3 .left)))
 
 pub refuse-node-spec : {M : Type 1} → statement M
 refuse-node-spec =

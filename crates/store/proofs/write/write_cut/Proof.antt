@@ -17,7 +17,7 @@ write-taken-requires c κs =
     let a = c .before .before .before .before .before .before .before .before .before .before .before .before .before .before .args in
     let r = recordOf (a .map .now) (a .letters .now) (a .numbers) in
     let t = write-take (a .image .now) r (a .file) (a .offset) (a .payload .now) _ _ _ _ (sym (c .before .before .before .before .before .before .test-write .ensures) ∙ c .before .before .before .before .p .given .1) in
-    (t .0, (t .1, t .2))
+    (t .0, (t .1, (t .2, t .3)))
 
 enum-known-reply : tie.Need-enum-known-reply
 enum-known-reply c = search needs

@@ -18,7 +18,7 @@ cast-program-node c =
     let s = c .before .before .before .before .before .before .before in
     let a = s .args in
     let r = recordOf (a .map .now) (a .letters .now) (a .numbers) in
-    let w = writable (a .image .now) r (a .file) (a .offset) (a .payload .now) (a .p) (a .g) (s .pre .0) (s .pre .1 .0) (s .pre .1 .1) in
+    let w = writable (a .image .now) r (a .file) (a .offset) (a .payload .now) (a .p) (a .g) (s .pre .0) (s .pre .1 .1 .0) (s .pre .1 .1 .1) in
     omega (arith, w .position)
 
 program-node-requires : tie.Need-program-node-requires
@@ -26,8 +26,8 @@ program-node-requires c κs =
     let s = c .before .before .before .before .before .before .before in
     let a = s .args in
     let r = recordOf (a .map .now) (a .letters .now) (a .numbers) in
-    let w = writable (a .image .now) r (a .file) (a .offset) (a .payload .now) (a .p) (a .g) (s .pre .0) (s .pre .1 .0) (s .pre .1 .1) in
-    (w .inside, s .pre .0 .payloadFull)
+    let w = writable (a .image .now) r (a .file) (a .offset) (a .payload .now) (a .p) (a .g) (s .pre .0) (s .pre .1 .1 .0) (s .pre .1 .1 .1) in
+    (w .inside, s .pre .0 .filling .secondMost)
 
 place-at-requires : tie.Need-place-at-requires
 place-at-requires c κs = search needs
@@ -37,7 +37,7 @@ set-place-requires c κs =
     let s = c .before .before .before .before .before .before .before .before .before .before .before .before .before in
     let a = s .args in
     let r = recordOf (a .map .now) (a .letters .now) (a .numbers) in
-    let w = writable (a .image .now) r (a .file) (a .offset) (a .payload .now) (a .p) (a .g) (s .pre .0) (s .pre .1 .0) (s .pre .1 .1) in
+    let w = writable (a .image .now) r (a .file) (a .offset) (a .payload .now) (a .p) (a .g) (s .pre .0) (s .pre .1 .1 .0) (s .pre .1 .1 .1) in
     let b = s .pre .0 .ready .buffers in
     let x = c .place-at .ensures .1 in
     ((b .mapFull, b .lettersFull, x, key-below (a .image .now) r (s .pre .0 .ready) (c .place-at .result) x), (w .number, w .position))
@@ -65,7 +65,7 @@ returns c =
     let x = c .before .before .before .before .before .before .before .place-at .ensures .0 in
     let l = c .before .before .before .before .before .before .set-place .ensures in
     rw (c .before .taken .ensures, c .next-sequence .ensures, l .0, l .1, x)
-    (write-left (a .image .now) r (a .file) (a .offset) (a .payload .now) (a .n) (a .k) (a .p) (a .g) _ _ _ (s .pre .0) (s .pre .1 .0) (s .pre .1 .1) (c .before .before .before .before .before .before .before .before .before .before .before .before .before .before .key-held .ensures) (c .before .before .before .before .before .before .before .before .before .before .before .before .program-node .ensures))
+    (write-left (a .image .now) r (a .file) (a .offset) (a .payload .now) (a .n) (a .k) (a .p) (a .g) _ _ _ (s .pre .1 .0) (s .pre .0) (s .pre .1 .1 .0) (s .pre .1 .1 .1) (c .before .before .before .before .before .before .before .before .before .before .before .before .before .before .key-held .ensures) (c .before .before .before .before .before .before .before .before .before .before .before .before .program-node .ensures))
 
 pub write-taken-spec : {M : Type 1} → statement M
 write-taken-spec =

@@ -44,6 +44,8 @@ const char *johvimaru_reply_text(uint32_t reply)
     case JOHVIMARU_ENTRY_UNFIT:
         return "the image names a page for a place that is not a whole node of it, or one key for "
                "two places";
+    case JOHVIMARU_NOTHING_TO_GATHER:
+        return "the block is not a data block, or none of its pages is live";
     case JOHVIMARU_POWER_CUT:
         return "the power failed before the call's last step was whole";
     default:

@@ -30,7 +30,8 @@
  *     on the stack, below the caller's frame, and some of these 16 in general registers. After a read of 16
  *     bytes or more a vector register holds 16 bytes of the payload, from its end or close to it.
  *   - After a format, a commit or a wipe vector registers hold keys, and the stack holds none.
- *   - After a mount or a cut-off neither holds a key.
+ *   - After a mount, a cut-off or a gather neither holds a key. A gather copies a payload as it is stored,
+ *     enciphered, and uses no key.
  *   - No call puts a payload on the stack. What saves registers there while a call runs may do so: an
  *     interrupt, a signal, a dynamic linker that looks for memcpy at its first call.
  *
@@ -43,10 +44,10 @@
  * key, so its time tells of the key whoever shares the processor's cache with it. Nobody else's code
  * may run there while keys are in use.
  *
- * What a call costs: the time of a format grows with the bytes of the image, that of a mount, a write,
- * a cut-off, a commit or a wipe with its pages, and that of a read does not grow with it. Most of a
- * write or a read is the test of the record: it looks at the 42 pages of the three blocks that the
- * record names, at each page that the map names, and at all letters.
+ * What a call costs: the time of a format grows with the bytes of the image, that of a mount, a write, a
+ * cut-off, a gather, a commit or a wipe with its pages, and that of a read does not grow with it. Most of a
+ * write or a read is the test of the record: it looks at the 42 pages of the three blocks that the record
+ * names, at each page that the map names, and at all letters.
  *
  *
  * THE IMAGE
@@ -65,9 +66,9 @@
  * THE CHIP
  *
  * After a call on the mirror its steps are repeated on the chip, one after the other in the same order:
- * what a power failure leaves is right only in that order. A write has one step, the page that the map
- * now has at the place. For any call, its steps are learnt from its form with n and k, with k = 0, on
- * copies of image and record as they were before the call:
+ * what a power failure leaves is right only in that order. A write has one step, the page that the map now
+ * has at the place; a gather has one for each page that it copies. For any call, its steps are learnt from
+ * its form with n and k, with k = 0, on copies of image and record as they were before the call:
  *
  *   - The copy after n is what the image is after n steps. Where the reply is JOHVIMARU_POWER_CUT
  *     there are more; else there are no more than n.
@@ -93,10 +94,17 @@
  * end is taken for padding. On its page spaces (20h) follow it up to 224 bytes. They are enciphered as it
  * is, so that of the page's bytes nothing but the length in its header tells where it ends.
  *
+ * A gather copies pages: the same node then stands on several pages, under one key, with the same length and
+ * the same stored bytes. The page of the highest sequence is the live one, and the others are older copies,
+ * which go when their block is erased.
+ *
  * Version 1 of this library took payloads of 224 bytes only and kept no length. Its nodes are mounted, read
  * and removed as others are; their payloads have 224 bytes, with what their writer put after a record.
  * The other way does not go: version 1 finds no header on pages of nodes that have a length, and its mount
  * erases blocks of such pages. An image that this version has written must not be given to version 1.
+ * Version 2 has no gather, and mounts, reads, commits and wipes an image on which gathers were made, whole or
+ * cut, as this version does. A caller of version 2 has nothing to change but to compile anew: there are two
+ * calls more and the reply 15, which these alone give.
  *
  *
  * THE WORKING RECORD
@@ -127,7 +135,7 @@
  *
  * REPLIES
  *
- * Each call replies a number: 0 where it was done, 1 to 14 where it was refused, 255 where the power cut
+ * Each call replies a number: 0 where it was done, 1 to 15 where it was refused, 255 where the power cut
  * it. It makes its tests in the order that is given with it, and the first that fails gives the reply.
  * A refused call changes nothing at all, with these exceptions: a refused format or mount sets the five
  * numbers to 0, and a mount that is refused for what is on the image also fills map, letters and
@@ -178,7 +186,7 @@ extern "C" {
 #endif
 
 /* The version of the library's calls and constants: those of another one are others. */
-#define JOHVIMARU_VERSION 2
+#define JOHVIMARU_VERSION 3
 
 /* ---- Sizes, of a type in which an image's bytes can be counted whatever an int holds */
 
@@ -257,6 +265,8 @@ extern "C" {
 #define JOHVIMARU_NO_COMMIT 13
 /* The image names a page for a place that is not a whole node of it, or one key for two places. */
 #define JOHVIMARU_ENTRY_UNFIT 14
+/* The block is not a data block, or none of its pages is live. */
+#define JOHVIMARU_NOTHING_TO_GATHER 15
 /* The power failed before the call's last step was whole. Only the _cut forms reply it. */
 #define JOHVIMARU_POWER_CUT 255
 
@@ -308,11 +318,12 @@ uint32_t johvimaru_format_cut(uint8_t *image, size_t image_length,
  * JOHVIMARU_NO_COMMIT, JOHVIMARU_NO_KEY_BLOCK, JOHVIMARU_ENTRY_UNFIT.
  *
  * Of several whole copies of a key block or of the commit it takes the one of the highest epoch, and of
- * equal ones that in the lowest block. A place holds what the commit says, unless a whole page of a
- * later sequence than the commit covers says otherwise: a node that is written there, or a cut-off
- * that removes it. The page of the highest sequence decides, and of equal ones the highest page. Keys
- * that places have are used. Others are deleted where the commit does not say that they are free, or
- * where a later page, whole or torn, is one of a node under that key; all others are free.
+ * equal ones that in the lowest block. A place holds what the commit says, unless a whole page of a later
+ * sequence than the commit covers says otherwise: a node that is written there, or a cut-off that removes
+ * it. The page of the highest sequence decides, and of equal ones the highest page, so of several copies of
+ * a node the newest. Keys that places have are used. Others are deleted where the commit does not say that
+ * they are free, or where a later page, whole or torn, is one of a node under that key; all others are
+ * free.
  *
  * Done, it has erased, in order, every block that is not empty, is not one of the three that it took,
  * and is no data block (see write): a step for each. Map, letters and numbers are the record, both next
@@ -447,6 +458,52 @@ uint32_t johvimaru_cut_off_cut(uint8_t *image, size_t image_length,
                                uint32_t numbers[JOHVIMARU_NUMBERS_LENGTH],
                                uint32_t file, uint32_t offset,
                                uint64_t n, size_t k);
+
+/*
+ * Gathers a block: copies each of its live pages, those that the map has, to a page outside it, so that the
+ * next commit erases the block. A commit alone leaves a block as it is while one live page is on it.
+ *
+ *   image     the image.
+ *   map, letters, numbers
+ *             its record.
+ *   block     a data block (see write) with a live page. Which block has how many is told by the map: map[x]
+ *             divided by 16 is the block of place x.
+ *
+ * Tests, in order: JOHVIMARU_REFUSED_IMAGE, JOHVIMARU_REFUSED_LENGTHS (map or letters),
+ * JOHVIMARU_REFUSED_RECORD, JOHVIMARU_NOTHING_TO_GATHER (also where the image has no such block),
+ * JOHVIMARU_NUMBERS_SPENT (it takes a sequence for each copy), JOHVIMARU_NO_ROOM (it takes a page for each
+ * copy: so many pages at the end of other data blocks, or two empty blocks).
+ *
+ * Done, it has programmed as many pages as the block has live ones, 1 to 16, in as many steps: copies of
+ * these, the lowest first, each on the page that a write would take if the block were not there. Payload
+ * bytes, length and key position are as they were; the sequences are the next ones, in that order. The map
+ * has the new pages, its key positions and the letters are as they were, and the next sequence is higher by
+ * the number of copies. The block itself is as it was, and no live page is on it: a commit or a wipe erases
+ * it, unless a write or another gather has put a node on a page at its end before. Refused, nothing is
+ * changed, and nothing was programmed.
+ *
+ * Where a write is refused with JOHVIMARU_NO_ROOM, so is a gather: make it before. While 16 pages can be
+ * taken, at the end of data blocks or in empty blocks but one, there is room for the gather of any block.
+ */
+uint32_t johvimaru_gather(uint8_t *image, size_t image_length,
+                          uint16_t *map, size_t map_length,
+                          uint8_t *letters, size_t letters_length,
+                          uint32_t numbers[JOHVIMARU_NUMBERS_LENGTH],
+                          uint32_t block);
+
+/*
+ * A gather of which the power lasts for n steps and k bytes of one more. Wherever it is cut, the next mount
+ * finds every node with its payload, length and key, and every letter, as they were before: a node whose
+ * copy is whole is on the copy, and the others are where they were. A copy that was begun and is not whole
+ * has spent a page and, from its 30th byte on, a sequence. The gather is made again for the pages that are
+ * left.
+ */
+uint32_t johvimaru_gather_cut(uint8_t *image, size_t image_length,
+                              uint16_t *map, size_t map_length,
+                              uint8_t *letters, size_t letters_length,
+                              uint32_t numbers[JOHVIMARU_NUMBERS_LENGTH],
+                              uint32_t block,
+                              uint64_t n, size_t k);
 
 /*
  * Commits: replaces every key that no node has, so that what it enciphered cannot be read again, and

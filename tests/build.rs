@@ -5,8 +5,14 @@ use std::path::{Path, PathBuf};
 use std::process::Command;
 
 /// The files of the floor.
-const FLOOR: [&str; 5] =
-    ["floor_calls.c", "floor_cipher.c", "floor_commit.c", "floor_fit.c", "floor_mount.c"];
+const FLOOR: [&str; 6] = [
+    "floor_calls.c",
+    "floor_cipher.c",
+    "floor_commit.c",
+    "floor_fit.c",
+    "floor_gather.c",
+    "floor_mount.c",
+];
 /// The one of them that the system's compiler makes faster, where that is gcc.
 const BY_SYSTEM: &str = "floor_mount.c";
 /// The headers that they take in.

@@ -8,7 +8,8 @@
 //! Every call is timed beside the floor, a plain program in C with the same tests, on the same image and
 //! record, and each limit is said to be met or not: read and write are to take no longer than there, and
 //! a read of 40 bytes no longer than one of 224. A mount is timed also beside one pass of the form of
-//! every page; a commit and a wipe beside the same bytes moved without a test.
+//! every page; a commit and a wipe beside the same bytes moved without a test; a gather of 16 live pages
+//! beside a write and 16 pages copied without a test.
 //!
 //! Under `cargo bench` it prints ratios. Under `cargo test` it only compares results.
 
@@ -16,6 +17,8 @@
 mod against_floor;
 #[path = "store/bed.rs"]
 mod bed;
+#[path = "store/gathers.rs"]
+mod gathers;
 #[path = "store/whole_blocks.rs"]
 mod whole_blocks;
 

@@ -76,6 +76,14 @@ static uint32_t cut_off(struct store *s, uint64_t n, size_t k)
                                  JOHVIMARU_LETTERS_LENGTH, s->numbers, 13, 0, n, k);
 }
 
+/* Gathers the block of the node that is written here. */
+static uint32_t gather(struct store *s, uint64_t n, size_t k)
+{
+    return johvimaru_gather_cut(s->image, sizeof s->image, s->map, JOHVIMARU_MAP_LENGTH, s->letters,
+                                JOHVIMARU_LETTERS_LENGTH, s->numbers,
+                                s->map[JOHVIMARU_PLACES - 1] / 16u, n, k);
+}
+
 static uint32_t commit(struct store *s, uint64_t n, size_t k)
 {
     return johvimaru_commit_cut(s->image, sizeof s->image, s->map, JOHVIMARU_MAP_LENGTH, s->letters,
@@ -164,6 +172,7 @@ int main(void)
     read_chip(JOHVIMARU_FILES - 1, counts[JOHVIMARU_FILES - 1] - 1u);
     read_chip(JOHVIMARU_FILES - 1, 0);
 
+    on_chip("gather", gather);
     on_chip("commit", commit);
     on_chip("cut-off", cut_off);
     on_chip("write", write_node);

@@ -1,7 +1,8 @@
 /*
  * A recorder's day: a volume is formatted, records of some 40 bytes and fewer are written, read back and
  * overwritten, the power fails in the middle of a write, the volume is mounted again, a trip is cut off,
- * and at the quay a file is wiped and its keys with it. It is C and C++.
+ * a block with one live page is gathered, and at the quay a file is wiped and its keys with it. It is C
+ * and C++.
  */
 #include <inttypes.h>
 #include <stdio.h>
@@ -138,6 +139,12 @@ int main(void)
     say("commit", johvimaru_commit(STORE, new_noise(), JOHVIMARU_NOISE_SIZE));
     print_numbers();
     print_listing();
+
+    /* Of five pages in block 3 one is live. It is copied, and the next commit or wipe erases the block. */
+    say("gather block 3", johvimaru_gather(STORE, 3));
+    print_header(32);
+    print_node(0, 0);
+    say("gather block 3", johvimaru_gather(STORE, 3));
 
     /* At the quay: file 0 goes, and its keys in the same call. */
     write_text(1, 0, "hopper 3120 t");

@@ -35,6 +35,12 @@ uint32_t floor_wipe(uint8_t *image, size_t image_length, uint16_t *map, size_t m
                     uint8_t *letters, size_t letters_length, uint32_t *numbers,
                     const uint8_t *noise, size_t noise_length, uint32_t file, uint32_t offset);
 
+uint32_t floor_gather(uint8_t *image, size_t image_length, uint16_t *map, size_t map_length,
+                      uint8_t *letters, size_t letters_length, uint32_t *numbers, uint32_t block);
+
+/* Copies so many pages, one after the other, with sequences from one on: what a gather does without a test. */
+void floor_copy_pages(uint8_t *to, const uint8_t *from, size_t count, uint32_t sequence);
+
 /*
  * Takes the cipher from nettle or from libtomcrypt, by the addresses of their functions. One of the two
  * is called before the first write or read.

@@ -2,24 +2,6 @@
 #include "floor.h"
 #include "floor_calls.h"
 
-/* The page after the block's last that is not empty, as far as 16 of them. */
-static size_t empty_from(const uint8_t *block)
-{
-    size_t i = PAGES_IN_BLOCK;
-    while (i > 0 && page_is_empty(block + PAGE * (i - 1)))
-        i--;
-    return i;
-}
-
-/* A fresh block's first page where a second block is empty, else pages. */
-static size_t fresh_page(const uint8_t *image, size_t blocks)
-{
-    size_t first = floor_empty_block(image, blocks, 0);
-    if (first < blocks && floor_empty_block(image, blocks, first + 1) < blocks)
-        return first * PAGES_IN_BLOCK;
-    return blocks * PAGES_IN_BLOCK;
-}
-
 /* The page that a write or cut-off takes; the number of pages where there is none. */
 static size_t new_page(const uint8_t *image, size_t blocks, const uint32_t *numbers)
 {
@@ -27,11 +9,11 @@ static size_t new_page(const uint8_t *image, size_t blocks, const uint32_t *numb
         const uint8_t *block = image + BLOCK * b;
         if (block[BLOCK - PAGE] != 0xFF || is_chosen(numbers, b) || !has_event(block))
             continue;
-        size_t i = empty_from(block);
+        size_t i = floor_empty_from(block);
         if (i < PAGES_IN_BLOCK)
             return b * PAGES_IN_BLOCK + i;
     }
-    return fresh_page(image, blocks);
+    return floor_fresh_page(image, blocks);
 }
 
 /* The header and closing of a node or cut-off. */

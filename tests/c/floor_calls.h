@@ -1,4 +1,4 @@
-/* What the floor's calls share: the search for an empty block, nodes removed, and the cipher. */
+/* What the floor's calls share: the search for empty pages and blocks, nodes removed, and the cipher. */
 #ifndef FLOOR_CALLS_H
 #define FLOOR_CALLS_H
 
@@ -10,6 +10,24 @@ static inline size_t floor_empty_block(const uint8_t *image, size_t blocks, size
     while (from < blocks && !block_is_empty(image + BLOCK * from))
         from++;
     return from;
+}
+
+/* The page after the block's last that is not empty, as far as 16 of them. */
+static inline size_t floor_empty_from(const uint8_t *block)
+{
+    size_t i = PAGES_IN_BLOCK;
+    while (i > 0 && page_is_empty(block + PAGE * (i - 1)))
+        i--;
+    return i;
+}
+
+/* A fresh block's first page where a second block is empty, else pages. */
+static inline size_t floor_fresh_page(const uint8_t *image, size_t blocks)
+{
+    size_t first = floor_empty_block(image, blocks, 0);
+    if (first < blocks && floor_empty_block(image, blocks, first + 1) < blocks)
+        return first * PAGES_IN_BLOCK;
+    return blocks * PAGES_IN_BLOCK;
 }
 
 /* Makes the places of a file vacant from an offset on, and their keys deleted. */

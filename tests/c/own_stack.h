@@ -52,6 +52,7 @@ CALL(write_node, johvimaru_write(STORE, 13, 7, payload, payload_length))
 CALL(read_node, johvimaru_read(STORE, 13, 7, output, sizeof output, &length))
 CALL(mount, johvimaru_mount(STORE, scratch, JOHVIMARU_SCRATCH_LENGTH))
 CALL(cut_off, johvimaru_cut_off(STORE, 13, 0))
+CALL(gather, johvimaru_gather(STORE, map[JOHVIMARU_PLACES - 1] / 16u))
 CALL(commit, johvimaru_commit(STORE, noise, sizeof noise))
 CALL(wipe, johvimaru_wipe(STORE, noise, sizeof noise, 13, 0))
 

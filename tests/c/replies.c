@@ -11,9 +11,9 @@ static void print_text(uint32_t reply)
 
 int main(void)
 {
-    static const uint32_t others[] = {15, 254, 256, UINT32_MAX};
+    static const uint32_t others[] = {16, 254, 256, UINT32_MAX};
     printf("version %u\n", johvimaru_version());
-    for (uint32_t reply = JOHVIMARU_DONE; reply <= JOHVIMARU_ENTRY_UNFIT; reply++) {
+    for (uint32_t reply = JOHVIMARU_DONE; reply <= JOHVIMARU_NOTHING_TO_GATHER; reply++) {
         print_text(reply);
     }
     print_text(JOHVIMARU_POWER_CUT);

@@ -93,6 +93,7 @@ int main(void)
     status |= look("write", write_node);
     status |= look("read", read_node);
     status |= look("mount", mount);
+    status |= look("gather", gather);
     status |= look("commit", commit);
     status |= look("mount", mount);
     status |= look("cut-off", cut_off);

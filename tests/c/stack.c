@@ -36,6 +36,7 @@ int main(void)
     status |= too_much("write over a node", write_node);
     status |= too_much("read", read_node);
     status |= too_much("mount", mount);
+    status |= too_much("gather", gather);
     status |= too_much("commit", commit);
     status |= too_much("mount after a commit", mount);
     status |= too_much("wipe", wipe);

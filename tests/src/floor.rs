@@ -3,6 +3,7 @@
 //! Its cipher is nettle's, or where that is missing libtomcrypt's, both without AES instructions.
 
 use crate::model::image::Power;
+use crate::model::pages::Page;
 use crate::model::store::Store;
 use crate::shared_library::SharedLibrary;
 use crate::side_by_side::{by_library, difference, from_library, to_library, After, Call};
@@ -91,6 +92,17 @@ extern "C" {
         file: u32,
         offset: u32,
     ) -> u32;
+    fn floor_gather(
+        image: *mut u8,
+        image_length: usize,
+        map: *mut u16,
+        map_length: usize,
+        letters: *mut u8,
+        letters_length: usize,
+        numbers: *mut u32,
+        block: u32,
+    ) -> u32;
+    fn floor_copy_pages(to: *mut u8, from: *const u8, count: usize, sequence: u32);
 }
 
 /// The compiler of the floor.
@@ -204,6 +216,22 @@ impl Floor {
         unsafe { call!(floor_wipe, image, record, noise, length, file, offset) }
     }
 
+    /// Copies the live pages of a data block out of it.
+    pub fn gather(self, image: &mut [u8], record: &mut Record, block: u32) -> u32 {
+        // SAFETY: as `call` says.
+        unsafe { call!(floor_gather, image, record, block) }
+    }
+
+    /// Copies pages one after the other, with sequences from one on and without a test.
+    pub fn copy_pages(self, to: &mut [Page], from: &[Page], sequence: u32) {
+        let count = to.len().min(from.len());
+        // SAFETY: both slices have so many pages and are borrowed for the whole call, one mutably.
+        unsafe {
+            let (to, from) = (to.as_mut_ptr().cast(), from.as_ptr().cast());
+            floor_copy_pages(to, from, count, sequence);
+        }
+    }
+
     /// Does a call, which is no format, by the floor and by the library. Gives the reply, or where they
     /// differ.
     pub fn compare(self, store: &Store, call: Call) -> Result<u32, String> {
@@ -236,6 +264,7 @@ impl Floor {
             Call::CutOff { file, offset } => self.cut_off(bytes, of, file, offset),
             Call::Commit { .. } => self.commit(bytes, of, data),
             Call::Wipe { file, offset, .. } => self.wipe(bytes, of, data, file, offset),
+            Call::Gather { block } => self.gather(bytes, of, block),
         };
         let store = Store { image, record: from_library(record) };
         After { reply, length, store, output, scratch }

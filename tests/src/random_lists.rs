@@ -10,6 +10,7 @@ use crate::rng::Rng;
 pub struct RandomList {
     rng: Rng,
     habit: Habit,
+    blocks: usize,
     /// How many calls the list has.
     pub length: usize,
 }
@@ -26,6 +27,7 @@ struct Habit {
     commits: usize,
     wipes: usize,
     reads: usize,
+    gathers: usize,
     cuts: usize,
     /// Files and offsets are below these, so that nodes are met again.
     files: usize,
@@ -36,11 +38,12 @@ struct Habit {
 
 /// Some of everything.
 const MIXED: Habit = Habit {
-    writes: 45,
-    cut_offs: 15,
-    commits: 15,
-    wipes: 10,
-    reads: 10,
+    writes: 42,
+    cut_offs: 13,
+    commits: 13,
+    wipes: 9,
+    reads: 9,
+    gathers: 9,
     cuts: 30,
     files: 4,
     offsets: 4,
@@ -48,16 +51,39 @@ const MIXED: Habit = Habit {
 };
 
 /// Cuts upon cuts in commits and wipes.
-const PURGES: Habit =
-    Habit { writes: 30, cut_offs: 10, commits: 30, wipes: 25, reads: 0, cuts: 70, ..MIXED };
+const PURGES: Habit = Habit {
+    writes: 30,
+    cut_offs: 8,
+    commits: 28,
+    wipes: 23,
+    reads: 0,
+    gathers: 6,
+    cuts: 70,
+    ..MIXED
+};
+
+/// Gathers upon gathers, whole and cut.
+const GATHERS: Habit = Habit {
+    writes: 48,
+    cut_offs: 8,
+    commits: 5,
+    wipes: 2,
+    reads: 2,
+    gathers: 30,
+    cuts: 40,
+    offsets: 6,
+    longest: 80,
+    ..MIXED
+};
 
 /// Cuts upon cuts in writes and cut-offs.
 const TORN: Habit = Habit {
-    writes: 70,
-    cut_offs: 15,
+    writes: 66,
+    cut_offs: 14,
     commits: 6,
     wipes: 4,
     reads: 1,
+    gathers: 5,
     cuts: 60,
     files: FILES,
     offsets: 2,
@@ -66,11 +92,12 @@ const TORN: Habit = Habit {
 
 /// Images that fill up. The list is longer, the larger the image.
 const FULL: Habit = Habit {
-    writes: 90,
-    cut_offs: 5,
+    writes: 85,
+    cut_offs: 8,
     commits: 1,
     wipes: 0,
     reads: 1,
+    gathers: 2,
     cuts: 3,
     files: FILES,
     offsets: 32,
@@ -81,13 +108,13 @@ impl RandomList {
     /// The list of this seed, for an image of so many blocks.
     pub fn new(seed: u64, blocks: usize) -> RandomList {
         let mut rng = Rng::new(seed);
-        let mut habit =
-            [MIXED, MIXED, MIXED, PURGES, PURGES, PURGES, TORN, TORN, TORN, FULL][rng.below(10)];
+        let habits = [MIXED, MIXED, MIXED, PURGES, PURGES, TORN, TORN, GATHERS, GATHERS, FULL];
+        let mut habit = habits[rng.below(10)];
         if habit.longest == 0 {
             habit.longest = 2 * PAGES_IN_BLOCK * blocks;
         }
         let length = 1 + rng.below(habit.longest);
-        RandomList { rng, habit, length }
+        RandomList { rng, habit, blocks, length }
     }
 
     /// The next call. While the power is off only mounts can be made.
@@ -104,7 +131,7 @@ impl RandomList {
     }
 
     fn call(&mut self) -> Call {
-        let Habit { writes, cut_offs, commits, wipes, reads, .. } = self.habit;
+        let Habit { writes, cut_offs, commits, wipes, reads, gathers, .. } = self.habit;
         let (file, offset) = self.node();
         let mut draw = self.rng.below(100);
         let mut drawn = |share| {
@@ -123,6 +150,8 @@ impl RandomList {
         } else if drawn(reads) {
             let output = self.length(PAYLOAD);
             Call::Read { file, offset, output }
+        } else if drawn(gathers) {
+            Call::Gather { block: self.block() }
         } else {
             self.mount()
         }
@@ -130,7 +159,7 @@ impl RandomList {
 
     /// A write of this store, now and then one of an older recorder or of another.
     fn write(&mut self, file: usize, offset: usize) -> Call {
-        let seed = self.rng.number();
+        let seed = self.seed();
         if !self.happens(FOREIGN) {
             return Call::Write { file, offset, payload: Data::of(self.payload_length(), seed) };
         }
@@ -173,10 +202,30 @@ impl RandomList {
         (file, offset)
     }
 
-    /// Bytes of the right length, now and then of a wrong one.
+    /// A block, most often one that nodes come to before others, now and then one outside the image. On a
+    /// new image block 3 is the first.
+    fn block(&mut self) -> usize {
+        match self.rng.below(40) {
+            0 => self.blocks,
+            1 => [4_095, 65_535, 1 << 28, usize::MAX][self.rng.below(4)],
+            2..8 => self.rng.below(self.blocks),
+            8..26 => 3,
+            _ => self.rng.below(self.blocks.min(8)),
+        }
+    }
+
+    /// Bytes of the right length, now and then of a wrong one or odd ones.
     fn data(&mut self, right: fn(u64) -> Data) -> Data {
-        let data = right(self.rng.number());
+        let data = right(self.seed());
         Data { length: self.length(data.length), ..data }
+    }
+
+    /// A seed, now and then one of those that give odd bytes.
+    fn seed(&mut self) -> u64 {
+        match self.rng.below(48) {
+            odd @ 0..3 => u64::MAX - odd as u64,
+            _ => self.rng.number(),
+        }
     }
 
     /// This length, now and then a wrong one.
@@ -206,6 +255,7 @@ impl RandomList {
             Call::Read { .. } => 2,
             Call::Commit { .. } => 50,
             Call::Wipe { .. } => 60,
+            Call::Gather { .. } => 6,
         };
         let edges = [0, 9, 10, 15, 16, 26, 27, 32, 33, 43, 44, 45, 54, 55, 56];
         let steps = match self.rng.below(3) {

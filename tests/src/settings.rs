@@ -1,7 +1,9 @@
 //! The images on which calls are timed and their instructions counted.
 
 use crate::model::calls::DONE;
+use crate::model::copies::live_pages;
 use crate::model::files::{self, PLACES};
+use crate::model::image::{PAGES_IN_BLOCK, SIZES};
 use crate::model::list::{Call, Data};
 use crate::model::pages::PAYLOAD;
 use crate::model::store::Store;
@@ -39,6 +41,21 @@ pub const SETTINGS: [Setting; 4] = [
     Setting { name: "256 blocks, nearly empty", blocks: 256, live: CALLS, writes: CALLS },
     Setting { name: "256 blocks, nearly full", blocks: 256, live: VACANT, writes: 440 },
 ];
+
+/// Each has a block with 16 live pages, and room for them elsewhere: in a fresh block, but that in the last
+/// one half of them go to open pages.
+pub const GATHER_SETTINGS: [Setting; 4] = [
+    Setting { name: "8 blocks, 16 nodes", blocks: 8, live: 16, writes: 16 },
+    Setting { name: "256 blocks, 16 nodes", blocks: 256, live: 16, writes: 16 },
+    Setting { name: "256 blocks, 27 full ones", blocks: 256, live: VACANT, writes: 432 },
+    Setting { name: "256 blocks, nearly full", blocks: 256, live: VACANT, writes: 440 },
+];
+
+/// The first block with 16 live pages; where there is none, a number that is no block's.
+pub fn full_block(record: &Record) -> u32 {
+    let is_full = |block: &usize| live_pages(&record.map, *block).len() == PAGES_IN_BLOCK;
+    (0..*SIZES.end()).find(is_full).unwrap_or(*SIZES.end()) as u32
+}
 
 /// What the write of this number writes.
 pub fn payload(number: usize) -> Data {

@@ -80,6 +80,11 @@ pub enum Call {
         /// The noise.
         noise: Data,
     },
+    /// Gather.
+    Gather {
+        /// The block.
+        block: u32,
+    },
 }
 
 /// A number of the second implementation in the library's type.
@@ -107,6 +112,7 @@ impl From<list::Call> for Call {
             list::Call::Wipe { file, offset, noise } => {
                 Call::Wipe { file: narrow(file), offset: narrow(offset), noise }
             }
+            list::Call::Gather { block } => Call::Gather { block: narrow(block) },
         }
     }
 }
@@ -126,6 +132,7 @@ impl Call {
             Call::CutOff { .. } => "cut-off",
             Call::Commit { .. } => "commit",
             Call::Wipe { .. } => "wipe",
+            Call::Gather { .. } => "gather",
         }
     }
 
@@ -142,7 +149,9 @@ impl Call {
             | Call::Wipe { noise: data, .. }
             | Call::Write { payload: data, .. }
             | Call::Append { bytes: data, .. } => data.bytes(),
-            Call::Read { .. } | Call::Mount { .. } | Call::CutOff { .. } => Vec::new(),
+            Call::Read { .. } | Call::Mount { .. } | Call::CutOff { .. } | Call::Gather { .. } => {
+                Vec::new()
+            }
         }
     }
 
@@ -225,14 +234,12 @@ fn by_second(mut store: Store, call: Call, data: &[u8], power: Power) -> After {
             calls::write(image, record, wide(file), wide(offset), data, power)
         }
         Call::Append { file, offset, second, .. } => {
-            let node = Node::given(second, data);
-            calls::append(image, record, wide(file), wide(offset), node, power)
+            calls::append(image, record, wide(file), wide(offset), Node::given(second, data), power)
         }
         Call::Read { file, offset, .. } => {
-            let (reply, reported) =
-                calls::read(image, record, wide(file), wide(offset), &mut output);
-            length = reported;
-            reply
+            let read = calls::read(image, record, wide(file), wide(offset), &mut output);
+            length = read.1;
+            read.0
         }
         Call::CutOff { file, offset } => {
             calls::cut_off(image, record, wide(file), wide(offset), power)
@@ -241,6 +248,7 @@ fn by_second(mut store: Store, call: Call, data: &[u8], power: Power) -> After {
         Call::Wipe { file, offset, .. } => {
             calls::wipe(image, record, wide(file), wide(offset), data, power)
         }
+        Call::Gather { block } => calls::gather(image, record, wide(block), power),
     };
     After { reply, length, store, output, scratch }
 }
@@ -282,6 +290,7 @@ fn whole_by_library(
         Call::CutOff { file, offset } => recorder::cut_off(image, record, file, offset),
         Call::Commit { .. } => recorder::commit(image, record, data),
         Call::Wipe { file, offset, .. } => recorder::wipe(image, record, data, file, offset),
+        Call::Gather { block } => recorder::gather(image, record, block),
     }
 }
 
@@ -306,7 +315,21 @@ fn cut_by_library(
         Call::Wipe { file, offset, .. } => {
             recorder::wipe_cut(image, record, data, file, offset, cut)
         }
+        Call::Gather { block } => recorder::gather_cut(image, record, block, cut),
     }
+}
+
+/// Does a call of a list by the library, for another recorder's write by the second implementation. Gives
+/// the reply.
+pub fn call_by_library(store: &mut Store, call: list::Call, power: Power) -> u32 {
+    let call = Call::from(call);
+    let (before, data) = (store.clone(), call.data());
+    let after = match call.is_ours() {
+        true => by_library(before, call, &data, power),
+        false => by_second(before, call, &data, power),
+    };
+    *store = after.store;
+    after.reply
 }
 
 /// Does a call by both. Gives what they left, or where they differ.
@@ -536,5 +559,6 @@ impl Tally {
         self.require("cut-off", &[DONE, 1, 2, 4, 5, 7, 8, 11, 10, CUT]);
         self.require("commit", &[DONE, 1, 2, 3, 7, 11, 10, CUT]);
         self.require("wipe", &[DONE, 1, 2, 3, 4, 5, 7, 11, 10, CUT]);
+        self.require("gather", &[DONE, 1, 2, 7, 15, 11, 10, CUT]);
     }
 }

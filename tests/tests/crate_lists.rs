@@ -27,6 +27,7 @@ enum Typed {
     CutOff(Offset),
     Commit(Data),
     Wipe(Offset, Data),
+    Gather(usize),
 }
 
 impl Typed {
@@ -47,6 +48,7 @@ impl Typed {
                 let data = noise(data)?;
                 Typed::Wipe(at(file, offset)?, data)
             }
+            Call::Gather { block } => Typed::Gather(block),
         })
     }
 }
@@ -75,6 +77,7 @@ fn by_store(ours: Ours, call: &Typed, power: Power) -> (u32, Ours) {
         Typed::CutOff(from) => store.cut_off_cut(*from, cut),
         Typed::Commit(data) => store.commit_cut(noise(*data), cut),
         Typed::Wipe(from, data) => store.wipe_cut(*from, noise(*data), cut),
+        Typed::Gather(block) => store.gather_cut(*block, cut),
     };
     match result {
         Ok(Outcome::Done(store)) => (DONE, Ours::On(store)),
@@ -101,6 +104,7 @@ fn plain(mut store: Store<Vec<u8>>, call: &Typed) -> (u32, Ours) {
         Typed::CutOff(from) => store.cut_off(*from),
         Typed::Commit(data) => store.commit(noise(*data)),
         Typed::Wipe(from, data) => store.wipe(*from, noise(*data)),
+        Typed::Gather(block) => store.gather(*block),
     };
     (result.map_or_else(Refusal::number, |()| DONE), Ours::On(store))
 }
@@ -118,6 +122,7 @@ fn by_driver(driver: &mut Driver<CutChip<MemoryChip>>, call: &Typed, power: Powe
         Typed::CutOff(from) => driver.cut_off(*from),
         Typed::Commit(data) => driver.commit(noise(*data)),
         Typed::Wipe(from, data) => driver.wipe(*from, noise(*data)),
+        Typed::Gather(block) => driver.gather(*block),
     };
     match result {
         Ok(()) => DONE,

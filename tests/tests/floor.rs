@@ -1,11 +1,12 @@
-//! The floor in C beside the library: payloads of every length, and headers, entries and letters with
-//! any one byte changed.
+//! The floor in C beside the library: payloads of every length, gathers of every block, and headers, entries
+//! and letters with any one byte changed.
 
 use johvimaru_tests::floor::Floor;
 use johvimaru_tests::model::image::{BLOCK, PAGES_IN_BLOCK};
 use johvimaru_tests::model::list::Data;
-use johvimaru_tests::model::pages::{ENTRY, HEADER, PAGE, PAYLOAD};
+use johvimaru_tests::model::pages::{Page, ENTRY, HEADER, LAST, PAGE, PAYLOAD};
 use johvimaru_tests::model::store::Store;
+use johvimaru_tests::rng::Rng;
 use johvimaru_tests::side_by_side::{Both, Call, Tally};
 
 const READ: Call = Call::Read { file: 0, offset: 0, output: PAYLOAD };
@@ -56,6 +57,45 @@ fn every_length() {
     }
     tally.require("write", &[0, 6]);
     tally.require("read", &[0]);
+}
+
+/// Gathers on stores with more and more nodes, of every block and of some outside.
+#[test]
+fn every_block() {
+    let Some(floor) = floor() else { return };
+    let mut both = Both::formatted(9);
+    let mut tally = Tally::default();
+    for number in 0..72 {
+        let call = if number % 9 == 8 { Call::Gather { block: number / 9 } } else { write(0, 0) };
+        let call = if number % 4 < 3 { write(number % 14, number / 9) } else { call };
+        both.call(call);
+        for block in (0..10).chain([255, 256, 4_095, 4_096, u32::MAX]) {
+            let mut late = both.0.clone();
+            late.record.numbers.sequence = LAST - 1;
+            for store in [&both.0, &late] {
+                match floor.compare(store, Call::Gather { block }) {
+                    Ok(reply) => tally.count("gather", reply),
+                    Err(why) => panic!("{number} calls, block {block}: {why}"),
+                }
+            }
+        }
+    }
+    tally.require("gather", &[0, 10, 11, 15]);
+}
+
+/// Pages copied without a test are the pages with other sequences.
+#[test]
+fn copied_pages() {
+    let Some(floor) = floor() else { return };
+    let from: Vec<Page> = Rng::new(3).bytes(16 * PAGE).as_chunks().0.to_vec();
+    for sequence in [1, 9, 10, 99_999, 12_345_678, LAST - 15] {
+        let mut to = vec![[0; PAGE]; 16];
+        floor.copy_pages(&mut to, &from, sequence);
+        for ((mut page, copy), sequence) in from.iter().copied().zip(&to).zip(sequence..) {
+            page[1..9].copy_from_slice(format!("{sequence:8}").as_bytes());
+            assert!(*copy == page, "sequence {sequence}");
+        }
+    }
 }
 
 /// The first page with such a header.

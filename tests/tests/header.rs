@@ -59,8 +59,8 @@ fn the_steps_on_a_chip() {
     let text = "format: reply 0, steps 50\nwrite: reply 0, steps 1\nwrite: reply 0, steps 1\n\
                 read: reply 0, 40 bytes, the payload, then 184 stars\n\
                 read: reply 8, 0 bytes, none, then 224 stars\n\
-                commit: reply 0, steps 45\ncut-off: reply 0, steps 1\nwrite: reply 0, steps 1\n\
-                wipe: reply 0, steps 57\n";
+                gather: reply 0, steps 1\ncommit: reply 0, steps 46\n\
+                cut-off: reply 0, steps 1\nwrite: reply 0, steps 1\nwipe: reply 0, steps 57\n";
     for (compiler, words) in LANGUAGES {
         assert_eq!(run("chip", compiler, &words), text, "{compiler}");
     }
@@ -78,6 +78,7 @@ fn the_secrets_that_calls_leave() {
                 write, stack: key, vectors:\n\
                 read, stack: key, vectors: payload\n\
                 mount, stack:, vectors:\n\
+                gather, stack:, vectors:\n\
                 commit, stack:, vectors: key\n\
                 mount, stack:, vectors:\n\
                 cut-off, stack:, vectors:\n\
@@ -114,7 +115,7 @@ fn defined_wide(header: &str, name: &str, suffix: &str) -> usize {
 }
 
 /// The replies by their names in the header.
-fn replies() -> [(&'static str, u32); 16] {
+fn replies() -> [(&'static str, u32); 17] {
     [
         ("DONE", DONE),
         ("REFUSED_IMAGE", Refusal::ImageSize.number()),
@@ -131,6 +132,7 @@ fn replies() -> [(&'static str, u32); 16] {
         ("NO_KEY_BLOCK", Refusal::NoKeyBlock.number()),
         ("NO_COMMIT", Refusal::NoCommit.number()),
         ("ENTRY_UNFIT", Refusal::EntryUnfit.number()),
+        ("NOTHING_TO_GATHER", Refusal::NothingToGather.number()),
         ("POWER_CUT", POWER_CUT),
     ]
 }
@@ -188,7 +190,7 @@ fn the_words_of_replies() {
         let sentence = sentence(&header, name);
         text += &format!("{reply} {}{}\n", sentence[..1].to_lowercase(), &sentence[1..]);
     }
-    for other in [15, 254, 256, u32::MAX] {
+    for other in [16, 254, 256, u32::MAX] {
         text += &format!("{other} no reply has this number\n");
     }
     let words = path("include/johvimaru.c").display().to_string();

@@ -361,11 +361,12 @@ fn steps_of_the_other_calls() {
     check_steps(&store, Call::MOUNT, 0);
     check_steps(&store, write(0, 0, 1), 1);
     check_steps(&store, cut_off(0, 0), 1);
+    check_steps(&store, Call::Gather { block: 3 }, 2);
     check_steps(&store, Call::Read { file: 0, offset: 0, output: 224 }, 0);
     check_steps(&store, commit(1), 45);
     check_steps(&store, wipe(0, 0, 1), 56);
     check_steps(&store, wipe(5, 0, 1), 56);
-    for refused in [write(14, 0, 1), cut_off(5, 0), wipe(0, 32, 1)] {
+    for refused in [write(14, 0, 1), cut_off(5, 0), wipe(0, 32, 1), Call::Gather { block: 4 }] {
         check_steps(&store, refused, 0);
     }
 }

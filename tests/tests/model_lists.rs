@@ -38,6 +38,7 @@ fn check_random_lists(blocks: usize, seeds: Range<u64>) {
         ("cut-off", &[DONE, 1, 2, 4, 5, 8, 10, CUT]),
         ("commit", &[DONE, 1, 2, 3, CUT]),
         ("wipe", &[DONE, 1, 2, 3, 4, 5, CUT]),
+        ("gather", &[DONE, 1, 2, 10, 15, CUT]),
     ] {
         for &reply in replies {
             assert!(tally.contains_key(&(call, reply)), "no {call} with reply {reply}: {tally:?}");
@@ -228,6 +229,7 @@ fn some_nodes() -> Vec<Event> {
 fn every_step_of_a_young_store() {
     let calls = [write(0, 0, 1), cut_off(0, 0), commit(2), wipe(0, 0, 3), wipe(5, 0, 4)];
     check_every_step(8, &some_nodes(), &calls);
+    check_every_step(8, &some_nodes(), &[Call::Gather { block: 3 }]);
 }
 
 /// The store has deleted keys, covered and uncovered nodes and a data block without a live page.
@@ -241,13 +243,14 @@ fn every_step_of_an_old_store() {
     before.push(Call::MOUNT.into());
     before.push(cut_off(2, 0).into());
     check_every_step(9, &before, &[write(2, 0, 1), cut_off(3, 0), commit(2), wipe(3, 0, 3)]);
+    check_every_step(9, &before, &[3, 4, 5].map(|block| Call::Gather { block }));
 }
 
-/// A write and a cut-off cut at every byte.
+/// A write, a cut-off and the first copy of a gather cut at every byte.
 #[test]
 fn every_byte_of_a_page() {
     for bytes in 0..=PAGE + 1 {
-        for call in [write(0, 0, 1), write(7, 3, 1), cut_off(0, 1)] {
+        for call in [write(0, 0, 1), write(7, 3, 1), cut_off(0, 1), Call::Gather { block: 3 }] {
             let mut list = some_nodes();
             list.extend([Event::cut(call, 0, bytes), Call::MOUNT.into(), write(0, 0, 2).into()]);
             if let Err(broken) = run(8, 0, &list) {
@@ -262,7 +265,8 @@ fn every_byte_of_a_page() {
 fn huge_cuts() {
     let huge = usize::MAX;
     for power in [Power::cut(0, huge), Power::cut(9, huge), Power::cut(huge, huge)] {
-        for call in [write(0, 0, 1), cut_off(0, 0), commit(2), wipe(0, 0, 3)] {
+        let gather = Call::Gather { block: 3 };
+        for call in [write(0, 0, 1), cut_off(0, 0), gather, commit(2), wipe(0, 0, 3)] {
             let mut list = some_nodes();
             list.extend([Event { power, ..call.into() }, Event::cut(Call::MOUNT, 0, huge)]);
             list.push(Call::MOUNT.into());

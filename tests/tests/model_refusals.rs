@@ -15,6 +15,7 @@ struct Arguments {
     store: Store,
     file: usize,
     offset: usize,
+    block: usize,
     payload: Vec<u8>,
     noise: Vec<u8>,
     output: Vec<u8>,
@@ -60,6 +61,7 @@ fn right_arguments() -> Arguments {
         store: store(),
         file: 0,
         offset: 0,
+        block: 3,
         payload: Data::payload(6).bytes(),
         noise: Data::noise(7).bytes(),
         output: vec![9; 224],
@@ -129,9 +131,19 @@ const NO_KEY: Fault = (9, |arguments| {
 });
 const NO_PAGE: Fault = (10, |arguments| arguments.store = FULL.clone());
 const NO_BLOCK: Fault = (10, |arguments| arguments.store = WITHOUT_EMPTY_BLOCK.clone());
+const NO_LIVE_PAGE: Fault = (15, |arguments| arguments.block = 7);
 const NO_SEQUENCE: Fault = (11, |arguments| arguments.store.record.numbers.sequence = 100_000_000);
 const NO_EPOCH: Fault = (11, |arguments| arguments.store.record.numbers.epoch = 100_000_000);
 const ONE_EPOCH: Fault = (11, |arguments| arguments.store.record.numbers.epoch = 99_999_999);
+
+#[test]
+fn gather() {
+    let call = |a: &mut Arguments| {
+        calls::gather(&mut a.store.image, &mut a.store.record, a.block, Power::STAYS)
+    };
+    let faults = [IMAGE, MAP_LENGTH, LETTERS_LENGTH, FIT, NO_LIVE_PAGE, NO_SEQUENCE, NO_PAGE];
+    check_faults(call, &faults, false);
+}
 
 #[test]
 fn format() {
@@ -263,9 +275,12 @@ fn last_numbers() {
     let cut_off = Call::CutOff { file: 0, offset: 0 };
     let commit = Call::Commit { noise: Data::noise(1) };
     let wipe = Call::Wipe { file: 0, offset: 0, noise: Data::noise(1) };
+    let gather = Call::Gather { block: 3 };
     for (mut store, taken, refused) in [
         (with(|numbers| numbers.sequence = 99_999_999), write, write),
         (with(|numbers| numbers.sequence = 99_999_999), cut_off, write),
+        (with(|numbers| numbers.sequence = 99_999_998), gather, write),
+        (with(|numbers| numbers.sequence = 99_999_999), write, gather),
         (with(|numbers| numbers.sequence = 100_000_000), commit, write),
         (with(|numbers| numbers.epoch = 99_999_999), commit, commit),
         (with(|numbers| numbers.epoch = 99_999_998), wipe, commit),
@@ -295,6 +310,7 @@ fn check_unfit(what: &str, store: &Store) {
         Call::Write { file: 0, offset: 0, payload: Data::payload(1) },
         Call::Read { file: 0, offset: 0, output: 224 },
         Call::CutOff { file: 0, offset: 0 },
+        Call::Gather { block: 3 },
         Call::Commit { noise },
         Call::Wipe { file: 0, offset: 0, noise },
     ] {

@@ -312,7 +312,8 @@ fn lengths_of_every_buffer() {
         for lent in lents {
             let record =
                 [write(0, 1, 5), read(0, 0), cut_off(0, 0), commit(NOISE), wipe(0, 0, NOISE)];
-            for call in record.into_iter().chain([FORMAT, Call::MOUNT]) {
+            let others = [Call::Gather { block: 3 }, FORMAT, Call::MOUNT];
+            for call in record.into_iter().chain(others) {
                 let reply = compare_lent(&store.0, call, Power::STAYS, lent);
                 reply.unwrap_or_else(|why| panic!("{call:?}, {lent:?}:\n{why}"));
             }
@@ -353,6 +354,7 @@ fn nothing_else_is_written() {
         assert_eq!(read, (recorder::DONE, PAYLOAD));
         assert_eq!(output.content(), data);
         for reply in [
+            recorder::gather(image.lent(), &mut record, 3),
             recorder::cut_off(image.lent(), &mut record, 13, 7),
             recorder::commit(image.lent(), &mut record, &noise),
             recorder::wipe(image.lent(), &mut record, &noise, 0, 0),

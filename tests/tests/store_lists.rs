@@ -1,4 +1,4 @@
-//! All seven calls of the library on random lists, beside the second implementation: with power cuts,
+//! All calls of the library on random lists, beside the second implementation: with power cuts,
 //! wrong lengths, damaged images and records that almost fit.
 
 use johvimaru_tests::model::calls::{CUT, DONE};
@@ -48,7 +48,7 @@ impl Lists {
             }
         });
         println!("{} blocks: {} calls{}", self.blocks, tally.calls(), tally.table());
-        for call in ["format", "mount", "write", "cut-off", "commit", "wipe"] {
+        for call in ["format", "mount", "write", "cut-off", "commit", "wipe", "gather"] {
             tally.require(call, &[DONE, CUT]);
         }
         tally

@@ -233,7 +233,7 @@ fn a_key_named_twice() {
     let mut tally = Tally::default();
     let place = files::place(0, 0).expect("there is such a node");
     let key = store.record.map[PLACES + place];
-    let free = page_to_take(blocks(&store.image)).expect("there is room");
+    let free = page_to_take(blocks(&store.image), None).expect("there is room");
     for (file, offset) in [(0, 2), (1, 0), (13, 6)] {
         let mut doubled = store.clone();
         let header = Header::Node { sequence: 1, file, offset, key: key.into(), second: 224 };

@@ -21,7 +21,7 @@ use Rattle.store.specs.Mount.{removes}
 use Rattle.store.specs.Wipe.{wipeOf}
 use Rattle.store.specs.declared.Reply.{Reply}
 use Rattle.store.specs.declared.Reply.the-variants.{Done, PowerCut}
-use Rattle.guarantee.specs.Call.{commit, wipe, Event, replied}
+use Rattle.guarantee.specs.Call.{commit, wipe, gather, Event, replied}
 use Rattle.guarantee.specs.Book.{Book, Holding, isAtPosition, heldAmong, bookRemoved, wipeCommitAt, entered}
 use Rattle.guarantee.specs.Origin.{Origin, keyByte}
 use Rattle.guarantee.specs.Machine.{Machine, step, outcomeAt, leftAt}

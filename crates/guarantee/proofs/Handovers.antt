@@ -39,7 +39,7 @@ use Rattle.store.specs.declared.Reply.the-variants.{Done}
 use Rattle.store.proofs.Fits.{Fit, fits-is}
 use Rattle.store.proofs.Legals.{commit-legal, wipe-legal}
 use Rattle.store.proofs.Outcomes.{mounted-full, commit-outcome, wipe-outcome}
-use Rattle.guarantee.specs.Call.{Call, mount, write, read, cutOff, commit, wipe, Event, outcomeOf, Fate, replied, madeWhole}
+use Rattle.guarantee.specs.Call.{Call, mount, write, read, cutOff, commit, wipe, gather, Event, outcomeOf, Fate, replied, madeWhole}
 use Rattle.guarantee.specs.Book.{Book, Holding, isAtPosition, heldAmong, bookRemoved, bookRenewed, bookFreed, onlyIf, removalDone, bookCommitted, wipeCommitAt, entered}
 use Rattle.guarantee.specs.Origin.{cipher, keyByte}
 use Rattle.guarantee.specs.Machine.{Machine, start, noiseOf, step, Allowed, fateOf, outcomeAt, leftAt}
@@ -284,6 +284,7 @@ isWrite (read file offset output) = false
 isWrite (cutOff file offset) = false
 isWrite (commit noise) = false
 isWrite (wipe noise file offset) = false
+isWrite (gather block) = false
 
 abbrev pub NoWrite : Event → Type 0
 NoWrite e = T (not (isWrite (e .call)))
@@ -314,6 +315,7 @@ module _ (x : ℕ) where
       go (cutOff file offset) t fate = removed file offset (madeWhole fate 0)
       go (commit noise) t fate = ap (λ (f : ℕ → Option Holding). f x) (committed-files (m .calls) 0 fate (m .book)) ∙ q
       go (wipe noise file offset) t fate = ap (λ (f : ℕ → Option Holding). f x) (committed-files (m .calls) wipeCommitAt fate _) ∙ removed file offset (madeWhole fate removalDone)
+      go (gather block) t fate = q
 
   none-along : (m : Machine) (es : List Event) → Each NoWrite es → m .book .content x ≡ none → endOf m es .book .content x ≡ none
   none-along m [] quiet q = q

@@ -8,7 +8,7 @@ use lib.ListN.{length}
 use Rattle.base.specs.Each.{Each}
 use Rattle.image.specs.Size.{sizeRight}
 use Rattle.store.specs.Format.{noiseSize, buffersRight}
-use Rattle.guarantee.specs.Call.{Call, mount, write, read, cutOff, commit, wipe, Event, isMount, lentRight}
+use Rattle.guarantee.specs.Call.{Call, mount, write, read, cutOff, commit, wipe, gather, Event, isMount, lentRight}
 use Rattle.guarantee.specs.Book.{entered}
 use Rattle.guarantee.specs.Machine.{Machine, start, step, Allowed, fateOf, outcomeAt, leftAt}
 use Rattle.guarantee.specs.Statement.{AtRest, AtCall, Always}

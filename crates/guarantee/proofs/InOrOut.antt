@@ -1,20 +1,21 @@
 -- An interrupted call is wholly in or wholly out: after it, and after mounts of which the last finished, the files are those from before it, or those
 -- that it would have left had it come to its end. Nothing between.
 use Prim.Native.Nat.{ℕ, _<_}
-use mathlib.Core.Path.{_≡_, refl, ap, subst, _∙_}
+use mathlib.Core.Path.{_≡_, refl, sym, ap, subst, _∙_}
 use mathlib.Core.Logic.{_⊎_, inl, inr}
 use mathlib.Core.Bool.{Bool, true, false, cond}
 use mathlib.Core.List.{List}
 use mathlib.Core.Option.{Option}
 use lib.Dec.{T}
-use lib.ListN.{length}
+use lib.ListN.{length, getD}
 use Rattle.base.specs.Each.{Each}
 use Rattle.page.specs.Frame.{headerSize, payloadSize}
 use Rattle.page.specs.Plan.{places}
+use Rattle.page.specs.Key.{positions}
 use Rattle.store.specs.Write.{fileRight, offsetRight, placeAt}
 use Rattle.store.specs.Read.{readOf, readLength}
 use Rattle.store.specs.declared.Reply.the-variants.{Done}
-use Rattle.guarantee.specs.Call.{Given, payloadGiven, Call, mount, write, read, cutOff, commit, wipe, Event, Fate, replied, madeWhole, torn}
+use Rattle.guarantee.specs.Call.{Given, payloadGiven, Call, mount, write, read, cutOff, commit, wipe, gather, Event, Fate, replied, madeWhole, torn}
 use Rattle.guarantee.specs.Book.{Book, Holding, bookWritten, bookSpent, bookRemoved, bookRenewed, bookFreed, onlyIf, keysDone, commitDone, removalDone, wipeCommitAt, bookCommitted, entered}
 use Rattle.guarantee.specs.Machine.{Machine, step, fateOf, outcomeAt, leftAt}
 use Rattle.guarantee.specs.Statement.{MapHas, ReadGives, AtRest}
@@ -76,6 +77,7 @@ entered-files c (commit noise) fate b = inl (committed-files c 0 fate b)
 entered-files c (wipe noise file offset) fate b =
     rw (committed-files c wipeCommitAt fate (onlyIf (madeWhole fate removalDone) (bookRemoved file offset) b), committed-files c wipeCommitAt (replied Done) (bookRemoved file offset b))
     (either (madeWhole fate removalDone) b (bookRemoved file offset b) b refl)
+entered-files c (gather block) fate b = inl refl
 
 -- ---- any call, cut anywhere or not, then mounts, however often cut, until one finishes (none need follow a call that was not cut)
 module _ (m : Machine) (h : History m) (e : Event) (may : Permitted m e) (ms : List Event) (mounts : Each Mounting ms) (on : T (endOf (step m e) ms .on)) where
@@ -128,3 +130,18 @@ module _ (m : Machine) (h : History m) (on : T (m .on)) (n k : ℕ) (ms : List E
   commit-keeps-files noise on' =
       subst (FilesAre (afterCall (commit noise))) (committed-files (m .calls) 0 _ (m .book))
       (after-files m h (record { call = commit noise; n = n; k = k }) (while-on m on false, tt) ms mounts on')
+
+  -- nor does a gather
+  pub gather-keeps-files : (block : ℕ) → T (afterCall (gather block) .on) → FilesAre (afterCall (gather block)) (m .book .content)
+  unfolding step entered
+  gather-keeps-files block on' = after-files m h (record { call = gather block; n = n; k = k }) (while-on m on false, tt) ms mounts on'
+
+  -- nor a letter
+  pub gather-keeps-letters : (block : ℕ) → T (afterCall (gather block) .on) → (p : ℕ) → p < positions
+      → getD (afterCall (gather block) .store .letters) p 0 ≡ getD (m .store .letters) p 0
+  unfolding step entered
+  gather-keeps-letters block on' p l =
+      let e : Event = record { call = gather block; n = n; k = k } in
+      at-end (endOf (step m e) ms) (remounted (step m e) (next m h e (while-on m on false, tt)) ms mounts) on' .lettered p l
+      ∙ ap (λ (b : Book). b .mark p) (remounted-book (step m e) ms mounts)
+      ∙ sym (at-end m h on .lettered p l)

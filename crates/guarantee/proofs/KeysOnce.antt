@@ -18,7 +18,7 @@ use Rattle.store.specs.Reply.{isDone}
 use Rattle.store.specs.Outcome.{Outcome, left}
 use Rattle.store.specs.declared.Reply.the-variants.{Done}
 use Rattle.store.proofs.Verdicts.{done-true}
-use Rattle.guarantee.specs.Call.{Given, secondGiven, bytesGiven, writeGiven, Call, mount, write, read, cutOff, commit, wipe, Event, outcomeOf, isMount, Fate}
+use Rattle.guarantee.specs.Call.{Given, secondGiven, bytesGiven, writeGiven, Call, mount, write, read, cutOff, commit, wipe, gather, Event, outcomeOf, isMount, Fate}
 use Rattle.guarantee.specs.Book.{lowestMarked, bookWritten, bookSpent, entered}
 use Rattle.guarantee.specs.Machine.{Node, began, nodesAfter, Machine, step, Allowed, fateOf, outcomeAt, leftAt}
 use Rattle.guarantee.proofs.Givens.{given-refused, given-steps}
@@ -88,7 +88,7 @@ module _ (m : Machine) (h : History m) (on : T (m .on)) (file offset : ℕ) (giv
 
 -- ---- the node of a key
 -- a write whose header was programmed was taken
-began-taken : (m : Machine) (file offset : ℕ) (given : Given) (n k : ℕ)
+pub began-taken : (m : Machine) (file offset : ℕ) (given : Given) (n k : ℕ)
     → began (fateOf (record { call = write file offset given; n = n; k = k }) (writeGiven (m .image) (m .store) file offset given) (left n k (writeGiven (m .image) (m .store) file offset given) (m .image))) ≡ true
     → writeGiven (m .image) (m .store) file offset given .reply ≡ Done
 began-taken m file offset given n k h = go (isDone (writeGiven (m .image) (m .store) file offset given .reply)) refl
@@ -122,6 +122,7 @@ module _ (m : Machine) (h : History m) where
   node-kept (cutOff file offset) n k may p c below v q = q
   node-kept (commit noise) n k may p c below v q = q
   node-kept (wipe noise file offset) n k may p c below v q = q
+  node-kept (gather block) n k may p c below v q = q
 
   pub one-node-per-key : (e : Event) → Permitted m e → (p c : ℕ) → p < positions → (v : Node) → m .nodes p c ≡ some v → step m e .nodes p c ≡ some v
   unfolding step

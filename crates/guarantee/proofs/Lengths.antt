@@ -20,7 +20,7 @@ use Rattle.store.specs.Write.{fileRight, offsetRight, placeAt}
 use Rattle.store.specs.Read.{readOf, readLength}
 use Rattle.store.specs.declared.Reply.the-variants.{Done}
 use Rattle.store.proofs.Verdicts.{done-true}
-use Rattle.guarantee.specs.Call.{Given, theirs, payloadGiven, writeGiven, Call, mount, write, read, cutOff, commit, wipe, Event, Fate, madeWhole, torn}
+use Rattle.guarantee.specs.Call.{Given, theirs, payloadGiven, writeGiven, Call, mount, write, read, cutOff, commit, wipe, gather, Event, Fate, madeWhole, torn}
 use Rattle.guarantee.specs.Book.{Book, Holding, lowestMarked, bookWritten, bookSpent, bookRemoved, onlyIf, removalDone, wipeCommitAt, entered}
 use Rattle.guarantee.specs.Machine.{Machine, step, Allowed, fateOf, outcomeAt, leftAt}
 use Rattle.guarantee.specs.Statement.{ReadGives}
@@ -81,6 +81,7 @@ spared x c (commit noise) fate b t = ap (λ (f : ℕ → Option Holding). f x) (
 spared x c (wipe noise file offset) fate b t =
     ap (λ (f : ℕ → Option Holding). f x) (committed-files c wipeCommitAt fate (onlyIf (madeWhole fate removalDone) (bookRemoved file offset) b))
     ∙ only-at (madeWhole fate removalDone) (bookRemoved file offset) b x (removed-at file offset x b t)
+spared x c (gather block) fate b t = refl
 
 -- over a list of such calls, however often cut
 kept-content : (x : ℕ) (m : Machine) (es : List Event) → Each (Sparing x) es → endOf m es .book .content x ≡ m .book .content x

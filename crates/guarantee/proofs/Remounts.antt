@@ -10,7 +10,7 @@ use Rattle.base.proofs.Choice.{true-false}
 use Rattle.base.proofs.Searches.{count-zero}
 use Rattle.page.specs.Page.{nodePage, cutOffPage}
 use Rattle.image.specs.Size.{sizeRight, blocks}
-use Rattle.image.specs.Step.{Step, AllLegal, playAll}
+use Rattle.image.specs.Step.{Step, AllLegal, whole, playAll}
 use Rattle.image.proofs.Plays.{play-all, playAll-nil}
 use Rattle.image.proofs.Forms.{form-program}
 use Rattle.store.specs.Kind.{headed}
@@ -26,9 +26,11 @@ use Rattle.store.specs.Wipe.{removedFirst, wipeOf}
 use Rattle.store.specs.declared.Reply.the-variants.{Done}
 use Rattle.store.proofs.Counts.{mount-steps}
 use Rattle.store.proofs.Legals.{cut-off-legal, mount-legal, commit-legal, wipe-legal}
-use Rattle.store.proofs.Outcomes.{mount-outcome, read-stepless, cut-off-outcome, cut-off-refused, commit-outcome, commit-refused, wipe-outcome, wipe-refused}
-use Rattle.store.proofs.Verdicts.{done-true, cut-off-taken}
-use Rattle.guarantee.specs.Call.{Given, secondGiven, bytesGiven, writeGiven, Call, mount, write, read, cutOff, commit, wipe, Event, outcomeOf, isMount, lentRight}
+use Rattle.store.proofs.Outcomes.{gather-outcome, gather-refused, mount-outcome, read-stepless, cut-off-outcome, cut-off-refused, commit-outcome, commit-refused, wipe-outcome, wipe-refused}
+use Rattle.store.proofs.Verdicts.{gather-taken, done-true, cut-off-taken}
+use Rattle.guarantee.specs.Call.{Given, secondGiven, bytesGiven, writeGiven, Call, mount, write, read, cutOff, commit, wipe, gather, Event, outcomeOf, isMount, lentRight}
+use Rattle.store.specs.Gather.{livePages, copyStep, copied, copySteps, copiedAll, gatherOf}
+use Rattle.store.proofs.Gathers.{Copying, header, payload, copy-is, copy-empty, copy-inside, header-range, payload-length, copying-next, gather-copying}
 use Rattle.guarantee.specs.Book.{Book}
 use Rattle.guarantee.specs.Origin.{Origin}
 use Rattle.guarantee.specs.Machine.{Machine, start, step, outcomeAt, Allowed}
@@ -111,6 +113,25 @@ module _ (img : List ℕ) (r : Record) (noise : List ℕ) (neat : Neat img (r .n
       (staged-neat img (commitStages noise begun) (stages-neatly noise img begun (first-neatly file offset)) (subst (λ (o : Outcome). AllLegal img (o .steps)) e (wipe-legal img r noise file offset))))
       (λ q. let e = wipe-refused img r noise file offset q in (ap (λ (o : Outcome). o .steps) e, ap (λ (o : Outcome). o .after) e))
 
+-- a gather: copy after copy
+copies-neat : (block : ℕ) (gs img : List ℕ) (r : Record) → Copying block gs img r → Neat img (r .numbers) → Neat (playAll (copySteps block gs img r) img) (copiedAll block gs img r .numbers)
+unfolding copySteps copiedAll playAll copied
+copies-neat block [] img r c neat = neat
+copies-neat block (g ∷ gs) img r c neat = copies-neat block gs _ _ (copying-next block g gs img r c) one
+  where
+    one : Neat (whole (copyStep block img r g) img) (nextSequence (r .numbers))
+    one =
+        let q = copy-is block g gs img r c in
+        let ins = rw q at (copy-inside block g gs img r c) in
+        rw q (program-neat img (r .numbers) (nextSequence (r .numbers)) _ _ ((ins, copy-empty block g gs img r c .1), tt)
+        (ap headed (form-program _ (header block g gs img r c) (payload block g gs img r c) img (header-range block g gs img r c) (payload-length block g gs img r c) (ins .0)) ∙ rw (c .lives .0 .node)) (λ b. refl) neat)
+
+gather-neat : (img : List ℕ) (r : Record) (block : ℕ) → Neat img (r .numbers) → NeatAfter img (gatherOf img r block)
+gather-neat img r block neat =
+    by-reply img r (gatherOf img r block) neat
+    (λ d. subst (NeatAfter img) (sym (gather-outcome img r block d)) (copies-neat block (livePages (r .map) block) img r (gather-copying img r block (gather-taken img r block d)) neat))
+    (λ q. let e = gather-refused img r block q in (ap (λ (o : Outcome). o .steps) e, ap (λ (o : Outcome). o .after) e))
+
 -- ---- the machines
 abbrev NeatOn : Machine → Type 0
 NeatOn m = T (m .on) → Neat (m .image) (m .store .numbers)
@@ -141,6 +162,7 @@ module _ (m : Machine) (h : History m) (neat : NeatOn m) where
         rw good (cut-off-neat (m .image) (m .book) (m .origin) (m .noise) (m .calls) (s .sound) (s .tight on) neat-mounted file offset)
     other-neat (commit noise) q = commit-neat (m .image) (m .store) noise (neat on)
     other-neat (wipe noise file offset) q = wipe-neat (m .image) (m .store) noise (neat on) file offset
+    other-neat (gather block) q = gather-neat (m .image) (m .store) block (neat on)
 
   call-neat : (call : Call) → T (m .on || isMount call) → T (lentRight call) → NeatAfter (m .image) (outcomeOf call (m .image) (m .store))
   call-neat (mount map letters scratch) may lent = mounting-neat map letters scratch lent
@@ -149,6 +171,7 @@ module _ (m : Machine) (h : History m) (neat : NeatOn m) where
   call-neat (cutOff file offset) may lent = other-neat (or-on (m .on) may) (cutOff file offset) refl
   call-neat (commit noise) may lent = other-neat (or-on (m .on) may) (commit noise) refl
   call-neat (wipe noise file offset) may lent = other-neat (or-on (m .on) may) (wipe noise file offset) refl
+  call-neat (gather block) may lent = other-neat (or-on (m .on) may) (gather block) refl
 
   step-neat : (e : Event) → Permitted m e → NeatOn (step m e)
   unfolding step left

@@ -20,7 +20,7 @@ use Rattle.store.specs.Write.{fileRight, offsetRight, placeAt}
 use Rattle.store.specs.Read.{readOf, readLength}
 use Rattle.store.specs.declared.Reply.the-variants.{Done}
 use Rattle.store.proofs.Verdicts.{verdict-done}
-use Rattle.guarantee.specs.Call.{Given, writeGiven, mount, write, wipe, Event, lentRight}
+use Rattle.guarantee.specs.Call.{Given, writeGiven, mount, write, wipe, gather, Event, lentRight}
 use Rattle.guarantee.specs.Book.{Book, Holding, lowestMarked, bookSpent, bookRemoved, entered}
 use Rattle.guarantee.specs.Origin.{cipher}
 use Rattle.guarantee.specs.Machine.{Machine, step}
@@ -39,7 +39,7 @@ module _ (m : Machine) (h : History m) (on : T (m .on)) (file offset : ℕ) (giv
   pub taken-free : (keyTaken < positions) × (m .book .mark keyTaken ≡ freeLetter)
   taken-free =
       let r = at-call m h (record { call = write file offset given; n = 0; k = 0 }) (while-on m on false, tt) .replied in
-      let t = verdict-done (bookTests (m .book) (m .store .numbers) (m .image) (write file offset given)) (refl, (refl, (refl, (refl, (refl, (refl, tt)))))) (sym r ∙ taken) in
+      let t = verdict-done (bookTests (m .book) (m .store .map) (m .store .numbers) (m .image) (write file offset given)) (refl, (refl, (refl, (refl, (refl, (refl, tt)))))) (sym r ∙ taken) in
       lowest-free (m .book) (t .1 .1 .1 .1 .0)
 
   -- slip 1: no byte on the flash is under the key that a write takes; so no torn page's key is given out, nor any other that was used

@@ -62,11 +62,11 @@ chosen-not r b = go (eqb b (r .keys0)) refl (eqb b (r .keys1)) refl (eqb b (r .c
     go false p false q true s f = absurd (true-false refl f)
     go false p false q false s f = (eqb-false b (r .keys0) p, eqb-false b (r .keys1) q, eqb-false b (r .commit) s)
 
-not-chosen : (r : Numbers) (b : ℕ) → (b ≡ r .keys0 → ⊥) → (b ≡ r .keys1 → ⊥) → (b ≡ r .commit → ⊥) → isChosen r b ≡ false
+pub not-chosen : (r : Numbers) (b : ℕ) → (b ≡ r .keys0 → ⊥) → (b ≡ r .keys1 → ⊥) → (b ≡ r .commit → ⊥) → isChosen r b ≡ false
 not-chosen r b x y z = rw (ne-eqb b (r .keys0) x, ne-eqb b (r .keys1) y, ne-eqb b (r .commit) z)
 
 -- ---- a change: each block that is neither chosen nor with events now is empty, or is as it was and was not chosen
-events-same : (img img' : List ℕ) (b : ℕ) → blockAt img' b ≡ blockAt img b → hasEvents img' b ≡ hasEvents img b
+pub events-same : (img img' : List ℕ) (b : ℕ) → blockAt img' b ≡ blockAt img b → hasEvents img' b ≡ hasEvents img b
 events-same img img' b e =
     any-agree (λ i. headed (formAt img' (pageIn b i))) (λ i. headed (formAt img (pageIn b i))) pagesInBlock 0
     (λ i h l. let q : pageIn b i / pagesInBlock ≡ b = omega arith in ap headed (form-same img img' (pageIn b i) (page-of-same img img' (pageIn b i) (rw q e))))
@@ -80,12 +80,12 @@ neat-change img img' r r' same neat f b h c e = go (f b (rw same at h) c e)
     go (inr z) = block-empty-same img img' b (z .0) ∙ neat b (rw same at h) (z .1) (sym (events-same img img' b (z .0)) ∙ e)
 
 -- ---- steps that the flash can do
-legal-first : (ss ts : List Step) (img : List ℕ) → AllLegal img (ss ++ ts) → AllLegal img ss
+pub legal-first : (ss ts : List Step) (img : List ℕ) → AllLegal img (ss ++ ts) → AllLegal img ss
 legal-first [] ts img l = tt
 legal-first (s ∷ ss) ts img l = (l .0, legal-first ss ts (whole s img) (l .1))
 
 -- a block that they leave alone
-legal-other : (ss : List Step) (img : List ℕ) (b : ℕ) → AllLegal img ss → Each (λ (s : Step). blockOf s ≡ b → ⊥) ss → blockAt (playAll ss img) b ≡ blockAt img b
+pub legal-other : (ss : List Step) (img : List ℕ) (b : ℕ) → AllLegal img ss → Each (λ (s : Step). blockOf s ≡ b → ⊥) ss → blockAt (playAll ss img) b ≡ blockAt img b
 unfolding playAll
 legal-other [] img b l o = refl
 legal-other (s ∷ ss) img b l o = legal-other ss (whole s img) b (l .1) (o .1) ∙ block-whole-other s img (legal-inside img s (l .0)) b (o .0)
@@ -106,11 +106,11 @@ program-neat img r r' g page legal event same neat =
         any-intro (λ i. headed (formAt (whole (program g page) img) (pageIn b i))) pagesInBlock 0 (g % pagesInBlock) (omega arith) (omega arith) (rw at event)
 
 -- ---- blocks erased in a row: those that p picks
-abbrev swept : (ℕ → Bool) → List ℕ → List ℕ
+abbrev pub swept : (ℕ → Bool) → List ℕ → List ℕ
 swept p img = playAll (map erase (whichFrom p (blocks img) 0)) img
 
 -- a block is empty then, or p did not pick it and it is as it was
-abbrev Swept : (ℕ → Bool) → List ℕ → ℕ → Type 0
+abbrev pub Swept : (ℕ → Bool) → List ℕ → ℕ → Type 0
 Swept p img b = (blockEmpty (swept p img) b ≡ true) ⊎ ((p b ≡ false) × (blockAt (swept p img) b ≡ blockAt img b))
 
 module _ (p : ℕ → Bool) (img : List ℕ) (legal : AllLegal img (map erase (whichFrom p (blocks img) 0))) where
@@ -120,7 +120,7 @@ module _ (p : ℕ → Bool) (img : List ℕ) (legal : AllLegal img (map erase (w
   swept-within : (b : ℕ) → b < blocks (swept p img) → b < blocks img
   swept-within b h = let same = legal-length (map erase picked) img legal in rw same at h
 
-  swept-block : (b : ℕ) → b < blocks img → Swept p img b
+  pub swept-block : (b : ℕ) → b < blocks img → Swept p img b
   swept-block b h = go (p b) refl
     where
       go : (t : Bool) → p b ≡ t → (blockEmpty (swept p img) b ≡ true) ⊎ ((t ≡ false) × (blockAt (swept p img) b ≡ blockAt img b))
@@ -162,19 +162,26 @@ replace-neat img row nb old r r' legal in-row chosen neat =
       | no z ↦ inr (block-whole-other (erase old) copied last b (λ y. z (sym y)) ∙ legal-other row img b first (in-row b (chosen b c .0)), chosen b c .1 z)
     ]))
 
--- ---- stages: what was neat at the call's start is so at the stage's end
-abbrev pub Neatly : List ℕ → Stage → Type 0
-Neatly img s = (s .image ≡ playAll (s .steps) img) × (AllLegal img (s .steps) → Neat (s .image) (s .after .numbers))
+-- ---- stages: what P says of image and record at the stage's end, where the flash can do the steps so far
+abbrev pub Staged : (List ℕ → Record → Type 0) → List ℕ → Stage → Type 0
+Staged P img s = (s .image ≡ playAll (s .steps) img) × (AllLegal img (s .steps) → P (s .image) (s .after))
 
-pub begin-neatly : (img : List ℕ) (r : Record) → Neat img (r .numbers) → Neatly img (begin img r)
-begin-neatly img r neat = (sym (playAll-nil img), λ l. neat)
-
-onward-neatly : (img : List ℕ) (s : Stage) (more : List Step) (r : Record) → Neatly img s → (Neat (s .image) (s .after .numbers) → AllLegal (s .image) more → Neat (playAll more (s .image)) (r .numbers))
-    → Neatly img (onward s more r)
-onward-neatly img s more r before here = (
+pub onward-staged : (P : List ℕ → Record → Type 0) (img : List ℕ) (s : Stage) (more : List Step) (r : Record) → Staged P img s
+    → (P (s .image) (s .after) → AllLegal (s .image) more → P (playAll more (s .image)) r) → Staged P img (onward s more r)
+onward-staged P img s more r before here = (
   ap (playAll more) (before .0) ∙ sym (playAll-append (s .steps) more img),
   λ l. here (before .1 (legal-first (s .steps) more img l)) (rw (before .0) (legal-rest (s .steps) more img l)),
 )
+
+-- what was neat at the call's start is so at the stage's end
+abbrev IsNeat : List ℕ → Record → Type 0
+IsNeat img r = Neat img (r .numbers)
+
+abbrev pub Neatly : List ℕ → Stage → Type 0
+Neatly img s = Staged IsNeat img s
+
+pub begin-neatly : (img : List ℕ) (r : Record) → Neat img (r .numbers) → Neatly img (begin img r)
+begin-neatly img r neat = (sym (playAll-nil img), λ l. neat)
 
 keys-neatly : (noise : List ℕ) (q : ℕ) (img : List ℕ) (s : Stage) → Neatly img s → Neatly img (keysReplaced noise q s)
 unfolding keysReplaced replaceKeys
@@ -183,7 +190,7 @@ keys-neatly noise q img s before =
     let n = s .after .numbers in
     let old = keysBlock n q in
     let key = renewedKey (blockAt (s .image) old) (s .after .letters) noise in
-    onward-neatly img s (replaceKeys (s .image) (s .after) noise q) (withNumbers (s .after) (withKeys n q nb)) before (λ neat legal.
+    onward-staged IsNeat img s (replaceKeys (s .image) (s .after) noise q) (withNumbers (s .after) (withKeys n q nb)) before (λ neat legal.
     replace-neat (s .image) (keyBlockSteps (n .epoch) q nb key) nb old n (withKeys n q nb) legal
     (λ b h. rw (key-block-steps (n .epoch) q nb key) (row-in-no-other nb (keyBlockPage (n .epoch) q key) pagesInBlock 0 b (omega arith) h))
     (moved (eqb q 0) n nb) neat)
@@ -198,7 +205,7 @@ unfolding commitReplaced replaceCommit
 commit-neatly img s before =
     let nb = lowestEmpty (s .image) in
     let n = s .after .numbers in
-    onward-neatly img s (replaceCommit (s .image) (s .after)) (withNumbers (s .after) (withCommit n nb)) before (λ neat legal.
+    onward-staged IsNeat img s (replaceCommit (s .image) (s .after)) (withNumbers (s .after) (withCommit n nb)) before (λ neat legal.
     replace-neat (s .image) (commitBlockSteps (n .epoch) (n .sequence - 1) nb (s .after .map) (s .after .letters)) nb (n .commit) n (withCommit n nb) legal
     (λ b h. rw (commit-block-steps (n .epoch) (n .sequence - 1) (s .after .map) (s .after .letters) nb)
     (row-in-no-other nb (commitBlockPage (n .epoch) (n .sequence - 1) (s .after .map) (s .after .letters)) parts 0 b (omega arith) h))
@@ -207,7 +214,7 @@ commit-neatly img s before =
 dead-neatly : (img : List ℕ) (s : Stage) → Neatly img s → Neatly img (deadErased s)
 unfolding deadErased
 dead-neatly img s before =
-    onward-neatly img s _ (s .after) before (λ neat legal. sweep-neat (isDead (s .image) (s .after)) (s .image) legal (s .after .numbers) (λ b h d. neat b h))
+    onward-staged IsNeat img s _ (s .after) before (λ neat legal. sweep-neat (isDead (s .image) (s .after)) (s .image) legal (s .after .numbers) (λ b h d. neat b h))
 
 pub stages-neatly : (noise : List ℕ) (img : List ℕ) (s : Stage) → Neatly img s → Neatly img (commitStages noise s)
 unfolding commitStages

@@ -2,7 +2,7 @@
 use Prim.Native.Nat.{ℕ, _+_, _<_, _≤_}
 use native.Mathlib.Omega.{arith}
 use native.Mathlib.Decide.{decLe}
-use mathlib.Core.Path.{_≡_, refl, sym, _∙_}
+use mathlib.Core.Path.{_≡_, refl, sym, ap, _∙_}
 use mathlib.Core.Bool.{Bool, true, false, not, _||_}
 use mathlib.Core.List.{List, []}
 use lib.Dec.{T, eqb}
@@ -11,25 +11,28 @@ use borrow.Author.Tests.{eq-eqb, le-leb, lt-ltb}
 use Rattle.base.specs.Search.{anyFrom}
 use Rattle.base.proofs.Choice.{true-false}
 use Rattle.base.proofs.Searches.{count-unique}
-use Rattle.page.specs.Frame.{payloadSize}
 use Rattle.page.specs.Header.{lastNumber}
 use Rattle.image.specs.Size.{sizeRight, blocks}
 use Rattle.image.specs.Look.{blockEmpty, emptyBlocks}
 use Rattle.image.proofs.Looks.{sized}
 use Rattle.store.specs.Reply.{Test, numberOf, verdict}
-use Rattle.store.specs.Outcome.{leftWhole}
+use Rattle.store.specs.Outcome.{Outcome, left, leftWhole}
 use Rattle.store.specs.Format.{noiseSize, buffersRight}
 use Rattle.store.specs.Mount.{mountOf}
 use Rattle.store.specs.Write.{fileRight, offsetRight}
-use Rattle.store.specs.Commit.{commitOf}
+use Rattle.store.specs.Commit.{isDead, commitOf}
 use Rattle.store.specs.Wipe.{wipeOf}
 use Rattle.store.specs.declared.Reply.{Reply}
 use Rattle.store.specs.declared.Reply.the-variants.{Done, NoRoom}
-use Rattle.store.proofs.Verdicts.{verdict-passed, verdict-among}
+use Rattle.store.specs.Gather.{livePages, gatherOf}
+use Rattle.store.proofs.Gathers.{live-few, gathered-dead}
+use Rattle.store.proofs.Outcomes.{gather-outcome}
+use Rattle.image.proofs.Plays.{play-all}
+use Rattle.store.proofs.Verdicts.{verdict-passed, verdict-among, gather-taken}
 use Rattle.store.proofs.Counts.{replacedSteps, commit-steps}
-use Rattle.guarantee.specs.Call.{Given, givenRight, writeGiven, Call, mount, write, commit, wipe, Event, isMount, lentRight}
+use Rattle.guarantee.specs.Call.{Given, givenRight, writeGiven, Call, mount, write, commit, wipe, gather, Event, isMount, lentRight}
 use Rattle.guarantee.specs.Machine.{Machine, start, step, outcomeAt}
-use Rattle.guarantee.specs.Replies.{anyFree, hasRoom, roomLeft, bookTests}
+use Rattle.guarantee.specs.Replies.{roomForCopies, anyFree, hasRoom, roomLeft, bookTests}
 use Rattle.guarantee.proofs.Givens.{given-steps}
 use Rattle.guarantee.proofs.Sounds.{is-true}
 use Rattle.guarantee.proofs.FormatCall.{format-empty, format-length, format-taken}
@@ -39,7 +42,7 @@ use Rattle.guarantee.proofs.Slips.{copy-before-erase}
 -- ---- commit and wipe
 module _ (m : Machine) (h : History m) (on : T (m .on)) where
   abbrev tests : Call → List Test
-  tests call = bookTests (m .book) (m .store .numbers) (m .image) call
+  tests call = bookTests (m .book) (m .store .map) (m .store .numbers) (m .image) call
 
   due : (call : Call) → lentRight call ≡ true → outcomeAt m (record { call = call; n = 0; k = 0 }) .reply ≡ verdict (tests call)
   due call right = at-call m h (record { call = call; n = 0; k = 0 }) (while-on m on (isMount call), rw right tt) .replied
@@ -93,22 +96,23 @@ unfolding step
 cut-off-power m e l = rw (lt-ltb (e .n) (length (outcomeAt m e .steps)) l)
 
 -- two empty blocks are room for a page
-pub two-empty-room : (img : List ℕ) (a b : ℕ) → a < b → b < blocks img → blockEmpty img a ≡ true → blockEmpty img b ≡ true → roomLeft img ≡ true
-unfolding roomLeft emptyBlocks
-two-empty-room img a b apart inside x y = rw (le-leb 2 (emptyBlocks img) two) (go (anyFrom (hasRoom img) (blocks img) 0))
-  where
-    two : 2 ≤ emptyBlocks img
-    two = elim (decLe 2 (emptyBlocks img)) [
-      | yes l ↦ l
-      | no l ↦ let z = count-unique (blockEmpty img) (blocks img) 0 a b (omega arith) (omega arith) (omega arith) (omega arith) (omega arith) x y in absurd (omega arith)
-    ]
+pub two-empty : (img : List ℕ) (a b : ℕ) → a < b → b < blocks img → blockEmpty img a ≡ true → blockEmpty img b ≡ true → 2 ≤ emptyBlocks img
+unfolding emptyBlocks
+two-empty img a b apart inside x y = elim (decLe 2 (emptyBlocks img)) [
+  | yes l ↦ l
+  | no l ↦ let z = count-unique (blockEmpty img) (blocks img) 0 a b (omega arith) (omega arith) (omega arith) (omega arith) (omega arith) x y in absurd (omega arith)
+]
 
+pub two-empty-room : (img : List ℕ) (a b : ℕ) → a < b → b < blocks img → blockEmpty img a ≡ true → blockEmpty img b ≡ true → roomLeft img ≡ true
+unfolding roomLeft
+two-empty-room img a b apart inside x y = rw (le-leb 2 (emptyBlocks img) (two-empty img a b apart inside x y)) (go (anyFrom (hasRoom img) (blocks img) 0))
+  where
     go : (t : Bool) → t || true ≡ true
     go true = refl
     go false = refl
 
 -- while a key is free, there is room, and calls are few
-module _ (m : Machine) (h : History m) (on : T (m .on)) (few : m .calls < 50_000_000) (free : anyFree (m .book) ≡ true) (room : roomLeft (m .image) ≡ true) where
+module _ (m : Machine) (h : History m) (on : T (m .on)) (few : m .calls < 6_000_000) (free : anyFree (m .book) ≡ true) (room : roomLeft (m .image) ≡ true) where
   write-is-done : (file offset : ℕ) (given : Given) → T (fileRight file) → T (offsetRight file offset) → givenRight given ≡ true → writeGiven (m .image) (m .store) file offset given .reply ≡ Done
   write-is-done file offset given f o l =
       due m h on (write file offset given) refl
@@ -117,7 +121,7 @@ module _ (m : Machine) (h : History m) (on : T (m .on)) (few : m .calls < 50_000
 
   pub calls-taken : Takes m
   calls-taken =
-      let early = epochs-left m h on few in
+      let early = epochs-left m h on (omega arith) in
       record {
         mounts = copy-before-erase m h;
         writes = write-is-done;
@@ -126,6 +130,21 @@ module _ (m : Machine) (h : History m) (on : T (m .on)) (few : m .calls < 50_000
         cutWrites = λ file offset given k f o l. cut-off-power m (record { call = write file offset given; n = 0; k = k }) (omega (arith, given-steps (m .image) (m .store) file offset given (write-is-done file offset given f o l)));
         cutCommits = λ arg n k l short. cut-off-power m (record { call = commit arg; n = n; k = k }) (omega (arith, commit-steps (m .image) (m .store) arg (commit-is-done m h on arg l (omega arith))));
       }
+
+-- a gather of a block with a live page, where there is room for its copies
+pub gather-is-done : (m : Machine) → History m → T (m .on) → m .calls < 6_000_000 → (block : ℕ) → 1 ≤ length (livePages (m .store .map) block) → roomForCopies (m .image) block (length (livePages (m .store .map) block)) ≡ true
+    → gatherOf (m .image) (m .store) block .reply ≡ Done
+gather-is-done m h on few block some room =
+    due m h on (gather block) refl
+    ∙ verdict-passed (tests m h on (gather block)) (le-leb 1 (length (livePages (m .store .map) block)) some, (le-leb (m .store .numbers .sequence + length (livePages (m .store .map) block)) (lastNumber + 1) (omega (arith, at-end m h on .counted .0, live-few (m .store .map) block)), (room, tt)))
+
+-- and when it has finished, its block is one that a commit erases
+pub gathered-block-dead : (m : Machine) (block n k : ℕ) → gatherOf (m .image) (m .store) block .reply ≡ Done → length (gatherOf (m .image) (m .store) block .steps) ≤ n
+    → isDead (step m (record { call = gather block; n = n; k = k }) .image) (step m (record { call = gather block; n = n; k = k }) .store) block ≡ true
+unfolding step left
+gathered-block-dead m block n k done whole =
+    let e = gather-outcome (m .image) (m .store) block done in
+    rw (play-all n k (gatherOf (m .image) (m .store) block .steps) (m .image) whole, ap (λ (o : Outcome). o .steps) e, ap (λ (o : Outcome). o .after) e) (gathered-dead (m .image) (m .store) block (gather-taken (m .image) (m .store) block done))
 
 -- ---- after a format: the one theorem is about lists in which calls are really taken, and really cut
 module _ (img map letters noise : List ℕ) (size : T (sizeRight img)) (lent : T (buffersRight map letters)) (long : length noise ≡ noiseSize) where
@@ -147,7 +166,7 @@ module _ (img map letters noise : List ℕ) (size : T (sizeRight img)) (lent : T
       let z = sized img right in
       rw (format-taken img map letters noise size lent long) (format-empty img noise right long b past (omega (arith, z .fewest)))
 
-  start-blocks : 8 ≤ blocks (m .image)
+  pub start-blocks : 8 ≤ blocks (m .image)
   unfolding start leftWhole
   start-blocks =
       let right = is-true (sizeRight img) size in

@@ -17,7 +17,7 @@ use Rattle.page.specs.Entry.{freeLetter, usedLetter, deletedLetter}
 use Rattle.store.specs.Mount.{removes}
 use Rattle.store.specs.Write.{placeAt}
 use Rattle.store.specs.declared.Reply.the-variants.{Done}
-use Rattle.guarantee.specs.Call.{Given, secondGiven, bytesGiven, payloadGiven, Call, mount, write, read, cutOff, commit, wipe, Event, Fate, replied, cut, madeWhole, torn}
+use Rattle.guarantee.specs.Call.{Given, secondGiven, bytesGiven, payloadGiven, Call, mount, write, read, cutOff, commit, wipe, gather, Event, Fate, replied, cut, madeWhole, torn}
 use Rattle.guarantee.specs.Book.{Book, heldAmong, lowestMarked, bookWritten, bookSpent, bookRemoved, bookRenewed, bookFreed, onlyIf, keysDone, commitDone, removalDone, wipeCommitAt, bookCommitted, entered}
 use Rattle.guarantee.specs.Machine.{Node, began, nodesAfter, Machine, start, step, fateOf, outcomeAt, leftAt}
 use Rattle.guarantee.specs.Replies.{anyFree}
@@ -119,6 +119,7 @@ module _ (p c : ℕ) where
     entered-used below (commit noise) fate b h = committed-used below 0 fate b h
     entered-used below (wipe noise file offset) fate b h =
         committed-used below wipeCommitAt fate _ (only-used (madeWhole fate removalDone) (bookRemoved file offset) (removed-used file offset) b h)
+    entered-used below (gather block) fate b h = h
 
 -- ---- a write whose header was programmed has used up the key that it took
 written-up : (c file offset : ℕ) (given : Given) (fate : Fate) (b : Book) → began fate ≡ true → UsedUp (lowestMarked b) (b .bringer (lowestMarked b)) (entered c (write file offset given) fate b)
@@ -158,6 +159,7 @@ node-from now (read file offset output) fate b nodes p c v h = inl h
 node-from now (cutOff file offset) fate b nodes p c v h = inl h
 node-from now (commit noise) fate b nodes p c v h = inl h
 node-from now (wipe noise file offset) fate b nodes p c v h = inl h
+node-from now (gather block) fate b nodes p c v h = inl h
 
 pub call-once : (m : Machine) → ((p : ℕ) → m .book .bringer p < m .calls) → Once m → (e : Event) → Once (step m e)
 unfolding step

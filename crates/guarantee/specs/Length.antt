@@ -12,7 +12,7 @@ use Rattle.store.specs.Mount.{removes}
 use Rattle.store.specs.Write.{placeAt}
 use Rattle.store.specs.Read.{readOf, readLength}
 use Rattle.store.specs.declared.Reply.the-variants.{Done}
-use Rattle.guarantee.specs.Call.{Call, mount, write, read, cutOff, commit, wipe, Event}
+use Rattle.guarantee.specs.Call.{Call, mount, write, read, cutOff, commit, wipe, gather, Event}
 use Rattle.guarantee.specs.Machine.{Machine}
 
 -- a read of a file's offset gives a payload
@@ -32,6 +32,7 @@ spares x (read file offset output) = true
 spares x (cutOff file offset) = not (removes file offset x)
 spares x (commit noise) = true
 spares x (wipe noise file offset) = not (removes file offset x)
+spares x (gather block) = true
 
 abbrev pub Sparing : ℕ → Event → Type 0
 Sparing x e = T (spares x (e .call))

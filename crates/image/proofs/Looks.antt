@@ -93,7 +93,7 @@ count-another p (suc n) i b h = go (p i) refl h (ℕ-discrete i b) (count-anothe
     go false e h d r = let f = r (omega arith) in (f .0, omega arith, f .2, f .3)
 
 -- two tests that differ at one number alone
-count-except : (p q : ℕ → Bool) (n i b : ℕ) → i ≤ b → b < i + n → p b ≡ true → q b ≡ false → ((j : ℕ) → (j ≡ b → ⊥) → q j ≡ p j)
+pub count-except : (p q : ℕ → Bool) (n i b : ℕ) → i ≤ b → b < i + n → p b ≡ true → q b ≡ false → ((j : ℕ) → (j ≡ b → ⊥) → q j ≡ p j)
     → countFrom p n i ≡ suc (countFrom q n i)
 unfolding countFrom
 count-except p q zero i b h k e f a = absurd (omega arith)

@@ -102,8 +102,8 @@ pub fn program_node(
     after_step(p)
 }
 
-// Programs page g with a header and a payload that stands there as it is, a cut-off's spaces.
-pub(crate) fn program_page(image: &mut [u8], g: usize, f: Frame, payload: &[u8], p: Power) -> Power
+// Programs page g with a header and a payload that stands there as it is: a cut-off's spaces, or bytes enciphered before.
+pub fn program_page(image: &mut [u8], g: usize, f: Frame, payload: &[u8], p: Power) -> Power
     requires { ⌜ (g * pageSize + pageSize ≤ length (now image)) × (length (now payload) ≡ payloadSize) ⌝ }
     ensures { λ r. ⌜ device r (new image) ≡ act (program g (pageBytes f (old payload))) (device p (old image)) ⌝ }
 {

@@ -137,6 +137,11 @@ module _ (payload : List ℕ) where
       (put-next payload (drop (length payload - 0) x) ys (length payload) (payloadSize - length payload) refl
       ∙ rw (drop-of-length-le (drop (length payload - 0) x) {i = payloadSize - length payload} (simp length-drop (omega arith)), g) (append-nil _))
 
+-- pages with the same second number and the same bytes decipher alike
+pub deciphered-same : (key page page' : List ℕ) → secondOf (formOf page) ≡ secondOf (formOf page') → payloadOf page ≡ payloadOf page' → deciphered key page ≡ deciphered key page'
+unfolding deciphered
+deciphered-same key page page' s e = rw (s, e)
+
 -- the first bytes of a page's payload, deciphered alone
 pub front-enciphered : (key w page s zs : List ℕ) (n : ℕ) → n ≤ payloadSize → zs ≡ counterMode w s → w ≡ keyExpansion key → s ≡ part page headerSize n → zs ≡ take n (enciphered key (payloadOf page))
 unfolding enciphered payloadOf part

@@ -9,7 +9,7 @@ use borrow.Author.Tests.{eqb-true, eq-eqb, leb-true, le-leb, ltb-true, lt-ltb}
 use Rattle.base.proofs.Choice.{and-true, and-intro, true-false}
 use Rattle.page.specs.Frame.{payloadSize}
 use Rattle.page.specs.Plan.{filePlan, lastFile, places, countOf, startOf}
-use Rattle.page.specs.Header.{nodeLetter, cutOffLetter, keysLetter, commitLetter, lastNumber, lastPosition, lastKeyBlock, lastKeyPage, lastPart, within, nodeFrame, cutOffFrame, keysFrame, commitFrame, inPlan, nodeRanges, cutOffRanges, keysRanges, commitRanges, inRange, isKind, isEventLetter}
+use Rattle.page.specs.Header.{nodeLetter, cutOffLetter, keysLetter, commitLetter, lastNumber, lastPosition, lastKeyBlock, lastKeyPage, lastPart, within, nodeFrame, cutOffFrame, keysFrame, commitFrame, inPlan, nodeRanges, cutOffRanges, keysRanges, commitRanges, inRange, isKind, isEventLetter, withNumber}
 use Rattle.page.specs.declared.Frame.{Frame}
 use Rattle.page.proofs.Plans.{place-at, plan-below}
 
@@ -271,3 +271,9 @@ in-range-fits f e = go (kinds f e)
     go (inr (inr (inr k))) =
         let r = commit-range f k .0 e in
         omega arith
+
+-- a node's header with another sequence
+pub renumbered-range : (f : Frame) (n : ℕ) → f .kind ≡ nodeLetter → inRange f ≡ true → 1 ≤ n → n ≤ lastNumber → inRange (withNumber n f) ≡ true
+renumbered-range f n k e low high =
+    let r = node-range f k .0 e in
+    node-range (withNumber n f) k .1 (record { from-one = low; number = high; file = r .file; offset = r .offset; position = r .position; second = r .second })

@@ -200,6 +200,10 @@ secondLastAt = 24
 abbrev pub withPart : ℕ → Frame → Frame
 withPart n f = record { kind = f .kind; number = f .number; unit = f .unit; part = n; key = f .key; second = f .second }
 
+-- a header with another number
+abbrev pub withNumber : ℕ → Frame → Frame
+withNumber n f = record { kind = f .kind; number = n; unit = f .unit; part = f .part; key = f .key; second = f .second }
+
 -- the header that another is, but for the part
 abbrev pub headerLike : Header → ℕ → Header → Bool
 headerLike (Is f) n h = headerWith (withPart n f) h

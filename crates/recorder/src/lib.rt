@@ -4,6 +4,7 @@ use store::Numbers;
 use store::commit;
 use store::cut_off;
 use store::format;
+use store::gather;
 use store::mount;
 use store::read;
 use store::replies;
@@ -21,6 +22,7 @@ ghost use Rattle.store.specs.Mount.{mountLeaves};
 ghost use Rattle.store.specs.CutOff.{cutOffLeaves};
 ghost use Rattle.store.specs.Commit.{commitLeaves};
 ghost use Rattle.store.specs.Wipe.{wipeLeaves};
+ghost use Rattle.store.specs.Gather.{gatherLeaves};
 ghost use Rattle.store.specs.Write.{writeLeaves};
 ghost use Rattle.recorder.specs.Face.{numbersOf, fiveOf, faced, face};
 
@@ -291,5 +293,41 @@ pub extern "C" fn johvimaru_wipe_cut(
 {
     let before = numbers_of(five);
     let answer = wipe::wipe_cut(image, map, letters, before, noise, file, offset, n, k);
+    hand_over(answer, five)
+}
+
+// Copies the live pages of a data block out of it: the next commit erases the block.
+#[no_mangle]
+pub extern "C" fn johvimaru_gather(
+    image: &mut [u8],
+    map: &mut [u16],
+    letters: &mut [u8],
+    five: &mut [u32; 5],
+    block: u32,
+) -> u32
+    ensures { λ r. ⌜ faced r (new image) (new map) (new letters) (new five) []
+        ≡ face (gatherLeaves leftWhole (old image) (old map) (old letters) (numbersOf (old five)) block) ⌝ }
+{
+    let before = numbers_of(five);
+    let answer = gather::gather(image, map, letters, before, block);
+    hand_over(answer, five)
+}
+
+// A gather of which the power lasts for n steps and the first k bytes of the next.
+#[no_mangle]
+pub extern "C" fn johvimaru_gather_cut(
+    image: &mut [u8],
+    map: &mut [u16],
+    letters: &mut [u8],
+    five: &mut [u32; 5],
+    block: u32,
+    n: u64,
+    k: usize,
+) -> u32
+    ensures { λ r. ⌜ faced r (new image) (new map) (new letters) (new five) []
+        ≡ face (gatherLeaves (left n k) (old image) (old map) (old letters) (numbersOf (old five)) block) ⌝ }
+{
+    let before = numbers_of(five);
+    let answer = gather::gather_cut(image, map, letters, before, block, n, k);
     hand_over(answer, five)
 }

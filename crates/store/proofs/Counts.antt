@@ -1,10 +1,10 @@
 -- The number of flash steps of each call where it is taken.
-use Prim.Native.Nat.{ℕ, _+_, _*_, _≤_}
+use Prim.Native.Nat.{ℕ, suc, _+_, _*_, _≤_}
 use native.Mathlib.Omega.{arith}
 use native.Mathlib.Nat.{zero-add}
-use mathlib.Core.Path.{_≡_, refl, _∙_}
+use mathlib.Core.Path.{_≡_, refl, ap, _∙_}
 use mathlib.Core.Bool.{Bool}
-use mathlib.Core.List.{List, map}
+use mathlib.Core.List.{List, [], _∷_, map}
 use lib.ListN.{length, length-append, length-map}
 use Rattle.base.specs.Search.{countFrom, whichFrom}
 use Rattle.base.proofs.Searches.{count-most, length-which}
@@ -24,8 +24,10 @@ use Rattle.store.specs.Read.{readOf}
 use Rattle.store.specs.CutOff.{removed, cutOffSteps, cutOffOf}
 use Rattle.store.specs.Commit.{Stage, begin, cleaned, replaceKeys, replaceCommit, keysReplaced, commitReplaced, isDead, deadErased, commitStages, commitOf}
 use Rattle.store.specs.Wipe.{removedFirst, wipeOf}
+use Rattle.store.specs.Gather.{livePages, copySteps, gatherOf}
+use Rattle.store.specs.Outcome.{Outcome}
 use Rattle.store.specs.declared.Reply.the-variants.{Done}
-use Rattle.store.proofs.Outcomes.{format-outcome, mount-outcome, write-outcome, read-stepless, cut-off-outcome, commit-outcome, wipe-outcome}
+use Rattle.store.proofs.Outcomes.{format-outcome, mount-outcome, write-outcome, read-stepless, cut-off-outcome, commit-outcome, wipe-outcome, gather-outcome}
 
 -- ---- a block programmed, a block replaced: the new copy's pages, then the erase of the old one
 pub replace-keys-count : (img : List ℕ) (r : Record) (noise : List ℕ) (q : ℕ) → length (replaceKeys img r noise q) ≡ pagesInBlock + 1
@@ -133,3 +135,12 @@ pub wipe-steps : (img : List ℕ) (r : Record) (noise : List ℕ) (file offset :
 wipe-steps img r noise file offset e =
     rw (wipe-outcome img r noise file offset e)
     (omega (arith, stages-count noise (removedFirst img r file offset), removed-first-count img r file offset))
+
+-- a gather: a step for each live page of its block, and so no more than a block has pages
+copies-count : (block : ℕ) (gs img : List ℕ) (r : Record) → length (copySteps block gs img r) ≡ length gs
+unfolding copySteps
+copies-count block [] img r = refl
+copies-count block (g ∷ gs) img r = ap suc (copies-count block gs _ _)
+
+pub gather-steps : (img : List ℕ) (r : Record) (block : ℕ) → gatherOf img r block .reply ≡ Done → length (gatherOf img r block .steps) ≡ length (livePages (r .map) block)
+gather-steps img r block e = ap (λ (o : Outcome). length (o .steps)) (gather-outcome img r block e) ∙ copies-count block (livePages (r .map) block) img r

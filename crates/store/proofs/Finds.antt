@@ -2,13 +2,13 @@
 use Prim.Native.Nat.{ℕ, _-_, _*_, _/_, _%_, _<_, _≤_}
 use native.Mathlib.Omega.{arith}
 use native.Mathlib.Decide.{decLt}
-use mathlib.Core.Path.{_≡_, refl, sym, subst, _∙_}
+use mathlib.Core.Path.{_≡_, refl, sym, ap, subst, _∙_}
 use mathlib.Core.Logic.{_⊎_, inl, inr}
-use mathlib.Core.Bool.{Bool, true, false, cond}
+use mathlib.Core.Bool.{Bool, true, false, cond, _&&_}
 use mathlib.Core.List.{List}
 use lib.Dec.{eqb, leb, ltb}
 use lib.ListN.{length, getD}
-use borrow.Author.Tests.{ltb-true, ltb-false, lt-ltb, le-ltb, leb-true, leb-false, le-leb, lt-leb, eqb-true, eqb-false, eq-eqb, ne-eqb}
+use borrow.Author.Tests.{ltb-true, ltb-false, lt-ltb, le-ltb, leb-true, leb-false, le-leb, lt-leb, eqb-true, eqb-false, eq-eqb, ne-eqb, not-true}
 use Rattle.base.specs.Search.{firstFrom}
 use Rattle.base.proofs.Choice.{and-true, and-intro, true-false}
 use Rattle.base.proofs.Searches.{first-agree, count-agree, first-holds, first-least, first-all, all-holds, all-intro}
@@ -19,7 +19,7 @@ use Rattle.image.specs.Look.{pageEmpty, blockEmpty, lowestEmpty, emptyBlocks}
 use Rattle.image.proofs.Looks.{lowest-some, lowest-empty, lowest-least}
 use Rattle.image.proofs.Empties.{empty-block-page}
 use Rattle.store.specs.Kind.{pageIn, kindOf, isData}
-use Rattle.store.specs.Find.{found, lowestFree, isOpen, freshPage, orElse, newPage, isFound, foundAt}
+use Rattle.store.specs.Find.{found, lowestFree, isOpen, freshPage, orElse, isOutside, isOpenBut, newPageBut, newPage, isFound, foundAt}
 use Rattle.store.specs.declared.Numbers.{Numbers}
 use Rattle.store.specs.declared.Kind.the-variants.{Other}
 use Rattle.store.specs.declared.Found.{Found}
@@ -32,7 +32,7 @@ pub record Lowest (p : ℕ → Bool) (n b : ℕ) : Type 0 where
   pub holds : p b ≡ true
   pub none-below : (a : ℕ) → a < b → p a ≡ false
 
-by-test : (t : Bool) (i b : ℕ) → cond t (At i) Nothing ≡ At b → (t ≡ true) × (i ≡ b)
+pub by-test : (t : Bool) (i b : ℕ) → cond t (At i) Nothing ≡ At b → (t ≡ true) × (i ≡ b)
 by-test true i b e = (refl, cc)
 by-test false i b e = absurd (let z : _≡_ {A = ℕ} 0 1 = cc in omega arith)
 
@@ -126,39 +126,41 @@ module _ (img : List ℕ) where
   no-fresh-page e =
       omega (arith, leb-false 2 (emptyBlocks img) (not-by-test (leb 2 (emptyBlocks img)) (lowestEmpty img * pagesInBlock) e))
 
--- ---- the page that a write takes
+-- ---- the page that a write takes, or a gather of a block that it leaves out
 -- the lowest open page
-pub record OpenPage (img : List ℕ) (r : Numbers) (g : ℕ) : Type 0 where
+pub record OpenPage (but : Found) (img : List ℕ) (r : Numbers) (g : ℕ) : Type 0 where
   pub inside : g < pages img
+  pub outside : isOutside but g ≡ true
   pub data-block : isData img r (g / pagesInBlock) ≡ true
   pub empty : EmptyFrom img g
-  pub lowest : (h : ℕ) → h < g → isOpen img r h ≡ false
+  pub lowest : (h : ℕ) → h < g → isOpenBut but img r h ≡ false
 
 -- no page is open, two blocks are empty: the first page of the lowest of them
-pub record FreshPage (img : List ℕ) (r : Numbers) (g : ℕ) : Type 0 where
-  pub none-open : (h : ℕ) → h < pages img → isOpen img r h ≡ false
+pub record FreshPage (but : Found) (img : List ℕ) (r : Numbers) (g : ℕ) : Type 0 where
+  pub none-open : (h : ℕ) → h < pages img → isOpenBut but img r h ≡ false
   pub two-empty : 2 ≤ emptyBlocks img
   pub first : g ≡ lowestEmpty img * pagesInBlock
   pub inside : lowestEmpty img < blocks img
   pub block-empty : blockEmpty img (lowestEmpty img) ≡ true
   pub lowest : (b : ℕ) → b < lowestEmpty img → blockEmpty img b ≡ false
 
-module _ (img : List ℕ) (r : Numbers) where
+module _ (but : Found) (img : List ℕ) (r : Numbers) where
   abbrev firstOpen : Found
-  firstOpen = found (pages img) (firstFrom (isOpen img r) (pages img) 0)
+  firstOpen = found (pages img) (firstFrom (isOpenBut but img r) (pages img) 0)
 
-  as-open : (g : ℕ) → firstOpen ≡ At g → OpenPage img r g
+  as-open : (g : ℕ) → firstOpen ≡ At g → OpenPage but img r g
   as-open g e =
-      let l = found-at (isOpen img r) (pages img) g e in
-      let o = open-page img r g (l .holds) in
-      record { inside = l .below; data-block = o .0; empty = o .1; lowest = l .none-below }
+      let l = found-at (isOpenBut but img r) (pages img) g e in
+      let a = and-true (isOutside but g) (isOpen img r g) (l .holds) in
+      let o = open-page img r g (a .1) in
+      record { inside = l .below; outside = a .0; data-block = o .0; empty = o .1; lowest = l .none-below }
 
-  as-fresh : (g : ℕ) → firstOpen ≡ Nothing → freshPage img ≡ At g → FreshPage img r g
+  as-fresh : (g : ℕ) → firstOpen ≡ Nothing → freshPage img ≡ At g → FreshPage but img r g
   as-fresh g n e =
       let f = fresh-page img g e in
       let i = lowest-some img (omega arith) in
       record {
-        none-open = found-nothing (isOpen img r) (pages img) n;
+        none-open = found-nothing (isOpenBut but img r) (pages img) n;
         two-empty = f .0;
         first = f .1;
         inside = i;
@@ -166,65 +168,80 @@ module _ (img : List ℕ) (r : Numbers) where
         lowest = lowest-least img;
       }
 
-  pub new-page : (g : ℕ) → newPage img r ≡ At g → OpenPage img r g ⊎ FreshPage img r g
-  unfolding newPage
+  pub new-page : (g : ℕ) → newPageBut but img r ≡ At g → OpenPage but img r g ⊎ FreshPage but img r g
+  unfolding newPageBut
   new-page g = go firstOpen refl
     where
-      go : (x : Found) → firstOpen ≡ x → orElse x (freshPage img) ≡ At g → OpenPage img r g ⊎ FreshPage img r g
+      go : (x : Found) → firstOpen ≡ x → orElse x (freshPage img) ≡ At g → OpenPage but img r g ⊎ FreshPage but img r g
       go (At h) e q = inl (as-open g (e ∙ q))
       go Nothing e q = inr (as-fresh g e q)
 
-  pub no-new-page : newPage img r ≡ Nothing → ((h : ℕ) → h < pages img → isOpen img r h ≡ false) × (emptyBlocks img ≤ 1)
-  unfolding newPage
+  pub no-new-page : newPageBut but img r ≡ Nothing → ((h : ℕ) → h < pages img → isOpenBut but img r h ≡ false) × (emptyBlocks img ≤ 1)
+  unfolding newPageBut
   no-new-page = go firstOpen refl
     where
-      go : (x : Found) → firstOpen ≡ x → orElse x (freshPage img) ≡ Nothing → ((h : ℕ) → h < pages img → isOpen img r h ≡ false) × (emptyBlocks img ≤ 1)
+      go : (x : Found) → firstOpen ≡ x → orElse x (freshPage img) ≡ Nothing → ((h : ℕ) → h < pages img → isOpenBut but img r h ≡ false) × (emptyBlocks img ≤ 1)
       go (At h) e q = absurd (let z : _≡_ {A = ℕ} 0 1 = cc in omega arith)
-      go Nothing e q = (found-nothing (isOpen img r) (pages img) e, no-fresh-page img q)
+      go Nothing e q = (found-nothing (isOpenBut but img r) (pages img) e, no-fresh-page img q)
 
   -- the same the other way round
-  pub open-is-new : (g : ℕ) → OpenPage img r g → newPage img r ≡ At g
-  unfolding newPage
+  pub open-is-new : (g : ℕ) → OpenPage but img r g → newPageBut but img r ≡ At g
+  unfolding newPageBut
   open-is-new g o =
-      let e : firstOpen ≡ At g = at-found (isOpen img r) (pages img) g (record { below = o .inside; holds = page-open img r g (o .data-block) (o .empty); none-below = o .lowest }) in
+      let e : firstOpen ≡ At g = at-found (isOpenBut but img r) (pages img) g (record { below = o .inside; holds = and-intro _ _ (o .outside) (page-open img r g (o .data-block) (o .empty)); none-below = o .lowest }) in
       rw e
 
-  pub fresh-is-new : ((h : ℕ) → h < pages img → isOpen img r h ≡ false) → 2 ≤ emptyBlocks img → newPage img r ≡ At (lowestEmpty img * pagesInBlock)
-  unfolding newPage freshPage
-  fresh-is-new f h = let e : firstOpen ≡ Nothing = nothing-found (isOpen img r) (pages img) f in rw (e, le-leb 2 (emptyBlocks img) h)
+  pub fresh-is-new : ((h : ℕ) → h < pages img → isOpenBut but img r h ≡ false) → 2 ≤ emptyBlocks img → newPageBut but img r ≡ At (lowestEmpty img * pagesInBlock)
+  unfolding newPageBut freshPage
+  fresh-is-new f h = let e : firstOpen ≡ Nothing = nothing-found (isOpenBut but img r) (pages img) f in rw (e, le-leb 2 (emptyBlocks img) h)
 
-  pub none-is-new : ((h : ℕ) → h < pages img → isOpen img r h ≡ false) → emptyBlocks img ≤ 1 → newPage img r ≡ Nothing
-  unfolding newPage freshPage
-  none-is-new f h = let e : firstOpen ≡ Nothing = nothing-found (isOpen img r) (pages img) f in rw (e, lt-leb 2 (emptyBlocks img) (omega arith))
+  pub none-is-new : ((h : ℕ) → h < pages img → isOpenBut but img r h ≡ false) → emptyBlocks img ≤ 1 → newPageBut but img r ≡ Nothing
+  unfolding newPageBut freshPage
+  none-is-new f h = let e : firstOpen ≡ Nothing = nothing-found (isOpenBut but img r) (pages img) f in rw (e, lt-leb 2 (emptyBlocks img) (omega arith))
 
 -- the page stands in the image, is empty, and so is each page after it in its block
-pub write-page-is-empty : (img : List ℕ) (r : Numbers) (g : ℕ) → newPage img r ≡ At g → (g < pages img) × (pageEmpty img g ≡ true) × EmptyFrom img g
-write-page-is-empty img r g e = go (new-page img r g e)
+pub new-page-is-empty : (but : Found) (img : List ℕ) (r : Numbers) (g : ℕ) → newPageBut but img r ≡ At g → (g < pages img) × (pageEmpty img g ≡ true) × EmptyFrom img g
+new-page-is-empty but img r g e = go (new-page but img r g e)
   where
-    go : OpenPage img r g ⊎ FreshPage img r g → (g < pages img) × (pageEmpty img g ≡ true) × EmptyFrom img g
+    go : OpenPage but img r g ⊎ FreshPage but img r g → (g < pages img) × (pageEmpty img g ≡ true) × EmptyFrom img g
     go (inl o) = (o .inside, o .empty g (omega arith) refl, o .empty)
     go (inr f) =
         let empty : EmptyFrom img g = λ h k q. let b : h / pagesInBlock ≡ lowestEmpty img = omega (arith, f .first) in empty-block-page img h (rw b (f .block-empty)) in
         (omega (arith, f .first, f .inside), empty g (omega arith) refl, empty)
 
 -- it stands in no whole key or commit block
-pub write-page-is-apart : (img : List ℕ) (r : Numbers) (g : ℕ) → newPage img r ≡ At g → kindOf img (g / pagesInBlock) ≡ Other
-write-page-is-apart img r g e = go (new-page img r g e)
+pub new-page-is-apart : (but : Found) (img : List ℕ) (r : Numbers) (g : ℕ) → newPageBut but img r ≡ At g → kindOf img (g / pagesInBlock) ≡ Other
+new-page-is-apart but img r g e = go (new-page but img r g e)
   where
-    go : OpenPage img r g ⊎ FreshPage img r g → kindOf img (g / pagesInBlock) ≡ Other
+    go : OpenPage but img r g ⊎ FreshPage but img r g → kindOf img (g / pagesInBlock) ≡ Other
     go (inl o) = data-is-other img r (g / pagesInBlock) (o .data-block)
     go (inr f) =
         let q : pageIn (g / pagesInBlock) 0 ≡ g = omega (arith, f .first) in
-        kind-unbegun img (g / pagesInBlock) (rw q (write-page-is-empty img r g e .1))
+        kind-unbegun img (g / pagesInBlock) (rw q (new-page-is-empty but img r g e .1))
+
+-- the same of a write
+pub write-page-is-empty : (img : List ℕ) (r : Numbers) (g : ℕ) → newPage img r ≡ At g → (g < pages img) × (pageEmpty img g ≡ true) × EmptyFrom img g
+write-page-is-empty img r g e = new-page-is-empty Nothing img r g e
+
+pub write-page-is-apart : (img : List ℕ) (r : Numbers) (g : ℕ) → newPage img r ≡ At g → kindOf img (g / pagesInBlock) ≡ Other
+write-page-is-apart img r g e = new-page-is-apart Nothing img r g e
+
+-- it stands outside the block that was left out, which is not empty
+pub new-page-outside : (img : List ℕ) (r : Numbers) (b g : ℕ) → blockEmpty img b ≡ false → newPageBut (At b) img r ≡ At g → g / pagesInBlock ≡ b → ⊥
+new-page-outside img r b g n e q = go (new-page (At b) img r g e)
+  where
+    go : OpenPage (At b) img r g ⊎ FreshPage (At b) img r g → ⊥
+    go (inl o) = eqb-false (g / pagesInBlock) b (not-true (eqb (g / pagesInBlock) b) (o .outside)) q
+    go (inr f) = let z : lowestEmpty img ≡ b = omega (arith, f .first) in true-false (f .block-empty) (rw z n)
 
 -- the search goes by the open pages and the empty blocks
-pub new-page-agree : (img img' : List ℕ) (r : Numbers) → length img ≡ length img' → ((g : ℕ) → g < pages img → isOpen img r g ≡ isOpen img' r g)
-    → ((b : ℕ) → b < blocks img → blockEmpty img b ≡ blockEmpty img' b) → newPage img r ≡ newPage img' r
-unfolding newPage freshPage lowestEmpty emptyBlocks
-new-page-agree img img' r n opens empties =
+pub new-page-agree : (but : Found) (img img' : List ℕ) (r : Numbers) → length img ≡ length img' → ((g : ℕ) → g < pages img → isOpen img r g ≡ isOpen img' r g)
+    → ((b : ℕ) → b < blocks img → blockEmpty img b ≡ blockEmpty img' b) → newPageBut but img r ≡ newPageBut but img' r
+unfolding newPageBut freshPage lowestEmpty emptyBlocks
+new-page-agree but img img' r n opens empties =
     rw (
       ← n,
-      first-agree (isOpen img r) (isOpen img' r) (pages img) 0 (λ g h k. opens g (omega arith)),
+      first-agree (isOpenBut but img r) (isOpenBut but img' r) (pages img) 0 (λ g h k. ap (λ (t : Bool). isOutside but g && t) (opens g (omega arith))),
       first-agree (blockEmpty img) (blockEmpty img') (blocks img) 0 (λ b h k. empties b (omega arith)),
       count-agree (blockEmpty img) (blockEmpty img') (blocks img) 0 (λ b h k. empties b (omega arith)),
     )

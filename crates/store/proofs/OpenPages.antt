@@ -45,7 +45,7 @@ module _ (img : List ℕ) (b : ℕ) where
       go false a q l = refl
 
   module _ (r : Numbers) where
-    open-in : (i : ℕ) → i < pagesInBlock → isOpen img r (pageIn b i) ≡ (isData img r b && emptyFrom img b i)
+    pub open-in : (i : ℕ) → i < pagesInBlock → isOpen img r (pageIn b i) ≡ (isData img r b && emptyFrom img b i)
     unfolding isOpen
     open-in i h = let k = page-block b i h in rw (k .0, k .1)
 

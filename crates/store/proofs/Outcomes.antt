@@ -3,7 +3,7 @@ use Prim.Native.Nat.{ℕ, _+_, _<_, _≤_}
 use native.Mathlib.Omega.{arith}
 use mathlib.Core.Path.{_≡_, refl, ap, _∙_}
 use mathlib.Core.Bool.{Bool, true, false, cond}
-use mathlib.Core.List.{List, [], map}
+use mathlib.Core.List.{List, [], _∷_, map}
 use lib.ListN.{length, set, replicate, length-append, length-map, length-set, length-replicate}
 use lib.Dec.{ltb}
 use borrow.Author.Tests.{le-leb, lt-leb, lt-ltb, le-ltb}
@@ -25,6 +25,7 @@ use Rattle.store.specs.Write.{placeAt, nextSequence, released, placed, a
 use Rattle.store.specs.Read.{contentOf, filled, readTests, readOf, readLength}
 use Rattle.store.specs.CutOff.{restOf, emptied, removed, cutOffSteps, cutOffTests, cutOffOf}
 use Rattle.store.specs.Commit.{Stage, begin, cleanLetter, cleaned, keysReplaced, commitReplaced, deadErased, commitStages, commitTests, commitOf}
+use Rattle.store.specs.Gather.{livePages, copied, copySteps, copiedAll, gatherTests, gatherOf}
 use Rattle.store.specs.Wipe.{removedFirst, wipeTests, wipeOf}
 use Rattle.store.specs.Taken.{Buffers}
 use Rattle.store.specs.declared.Numbers.{Numbers}
@@ -164,6 +165,16 @@ module _ (img : List ℕ) (r : Record) (noise : List ℕ) (file offset : ℕ) wh
   unfolding wipeOf
   wipe-refused e = decided-refused _ _ _ _ _ _ e
 
+module _ (img : List ℕ) (r : Record) (block : ℕ) where
+  pub gather-outcome : gatherOf img r block .reply ≡ Done
+      → gatherOf img r block ≡ taken (copySteps block (livePages (r .map) block) img r) (copiedAll block (livePages (r .map) block) img r) []
+  unfolding gatherOf
+  gather-outcome e = decided-taken _ _ _ _ _ _ e
+
+  pub gather-refused : isDone (gatherOf img r block .reply) ≡ false → gatherOf img r block ≡ stepless (gatherOf img r block .reply) r []
+  unfolding gatherOf
+  gather-refused e = decided-refused _ _ _ _ _ _ e
+
 -- ---- with n and k
 -- what stands after a reply
 abbrev pub leaves : Reply → List ℕ → Record → List ℕ → Left
@@ -292,6 +303,16 @@ write-as-long img r file offset right second bytes =
     either (AsLong r) (isDone (verdict (appendTests img r file offset right))) _ _
     (placed-as-long r (placeAt file offset) (foundAt (newPage img (r .numbers))) (foundAt (lowestFree (r .letters))))
     (unchanged r)
+
+copies-as-long : (block : ℕ) (gs img : List ℕ) (r : Record) → AsLong r (copiedAll block gs img r)
+unfolding copiedAll copied
+copies-as-long block [] img r = unchanged r
+copies-as-long block (g ∷ gs) img r = onward-kept (record { mapKept = length-set (r .map) _ _; lettersKept = refl }) (copies-as-long block gs _ _)
+
+pub gather-as-long : (img : List ℕ) (r : Record) (block : ℕ) → AsLong r (gatherOf img r block .after)
+unfolding gatherOf
+gather-as-long img r block =
+    either (AsLong r) (isDone (verdict (gatherTests img r block))) _ _ (copies-as-long block (livePages (r .map) block) img r) (unchanged r)
 
 pub cut-off-as-long : (img : List ℕ) (r : Record) (file offset : ℕ) → AsLong r (cutOffOf img r file offset .after)
 unfolding cutOffOf

@@ -134,7 +134,7 @@ after-able img first s g p q img' m e =
     })
 
 -- a record by its parts
-record-is : {m l : List ℕ} {n : Numbers} (a : Record) → m ≡ a .map → l ≡ a .letters → n ≡ a .numbers → recordOf m l n ≡ a
+pub record-is : {m l : List ℕ} {n : Numbers} (a : Record) → m ≡ a .map → l ≡ a .letters → n ≡ a .numbers → recordOf m l n ≡ a
 record-is a e f g = rw (e, f, g)
 
 -- ---- commit

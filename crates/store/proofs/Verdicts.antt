@@ -19,6 +19,7 @@ use Rattle.page.proofs.Ranges.{within-true}
 use Rattle.page.proofs.Pages.{padded-length}
 use Rattle.image.specs.Size.{sizeRight}
 use Rattle.store.specs.Reply.{Test, _else_, verdict, isDone, numberOf}
+use Rattle.store.specs.Kind.{isData}
 use Rattle.store.specs.Record.{Record, mapSize, keysApart, fits}
 use Rattle.store.specs.Find.{isFound, foundAt}
 use Rattle.store.specs.Format.{buffersRight, formatTests, formatOf}
@@ -28,16 +29,17 @@ use Rattle.store.specs.Read.{readTests, readOf}
 use Rattle.store.specs.CutOff.{cutOffTests, cutOffOf}
 use Rattle.store.specs.Commit.{commitTests, commitOf}
 use Rattle.store.specs.Wipe.{wipeTests, wipeOf}
-use Rattle.store.specs.Taken.{Buffers, Ready, Planned, FormatTaken, MountTaken, Filling, WriteTaken, ReadTaken, CutOffTaken, CommitTaken, WipeTaken}
+use Rattle.store.specs.Gather.{livePages, roomForAll, gatherTests, gatherOf}
+use Rattle.store.specs.Taken.{Buffers, Ready, Planned, FormatTaken, MountTaken, Filling, WriteTaken, ReadTaken, CutOffTaken, CommitTaken, WipeTaken, GatherTaken}
 use Rattle.store.specs.declared.Reply.{Reply}
-use Rattle.store.specs.declared.Reply.the-variants.{Done, ImageSize, BufferLength, NoiseLength, NoSuchFile, OffsetOutside, PayloadLength, RecordUnfit, NothingThere, NoFreeKey, NoRoom, NumbersSpent, NoKeyBlock, NoCommit, EntryUnfit, PowerCut}
+use Rattle.store.specs.declared.Reply.the-variants.{Done, ImageSize, BufferLength, NoiseLength, NoSuchFile, OffsetOutside, PayloadLength, RecordUnfit, NothingThere, NoFreeKey, NoRoom, NumbersSpent, NoKeyBlock, NoCommit, EntryUnfit, NothingToGather, PowerCut}
 
 -- ---- numbers
 -- the reply of a number of the document
 abbrev replyOf : ℕ → Reply
 replyOf n =
     getD
-    (Done ∷ ImageSize ∷ BufferLength ∷ NoiseLength ∷ NoSuchFile ∷ OffsetOutside ∷ PayloadLength ∷ RecordUnfit ∷ NothingThere ∷ NoFreeKey ∷ NoRoom ∷ NumbersSpent ∷ NoKeyBlock ∷ NoCommit ∷ EntryUnfit ∷ [])
+    (Done ∷ ImageSize ∷ BufferLength ∷ NoiseLength ∷ NoSuchFile ∷ OffsetOutside ∷ PayloadLength ∷ RecordUnfit ∷ NothingThere ∷ NoFreeKey ∷ NoRoom ∷ NumbersSpent ∷ NoKeyBlock ∷ NoCommit ∷ EntryUnfit ∷ NothingToGather ∷ [])
     n PowerCut
 
 reply-of-number : (r : Reply) → replyOf (numberOf r) ≡ r
@@ -56,6 +58,7 @@ reply-of-number NumbersSpent = refl
 reply-of-number NoKeyBlock = refl
 reply-of-number NoCommit = refl
 reply-of-number EntryUnfit = refl
+reply-of-number NothingToGather = refl
 reply-of-number PowerCut = refl
 
 -- no two replies have one number, and only success has 0
@@ -82,6 +85,7 @@ done-number NumbersSpent = refl
 done-number NoKeyBlock = refl
 done-number NoCommit = refl
 done-number EntryUnfit = refl
+done-number NothingToGather = refl
 done-number PowerCut = refl
 
 pub done-true : (r : Reply) → isDone r ≡ true → r ≡ Done
@@ -393,3 +397,28 @@ module _ (img : List ℕ) (r : Record) (noise : List ℕ) (file offset : ℕ) wh
       let m = le-leb _ _ (t .room) in
       wipe-reply
       ∙ verdict-passed (wipeTests img r noise file offset) (t .ready .size, (b, (n, (f, (o, (t .ready .fit, (e, (m, tt))))))))
+
+-- ---- gather
+module _ (img : List ℕ) (r : Record) (block : ℕ) where
+  pub gather-reply : gatherOf img r block .reply ≡ verdict (gatherTests img r block)
+  unfolding gatherOf
+  gather-reply = refl
+
+  pub gather-taken : gatherOf img r block .reply ≡ Done → GatherTaken img r block
+  gather-taken e =
+      let t = passed (gatherTests img r block) refl (sym gather-reply ∙ e) in
+      let d = and-true (isData img (r .numbers) block) (leb 1 (length (livePages (r .map) block))) (t 3) in
+      record {
+        ready = ready-true img r (t 0) (t 1) (t 2);
+        data-block = d .0;
+        someLive = leb-true _ _ (d .1);
+        numbersLeft = leb-true _ _ (t 4);
+        room = t 5;
+      }
+
+  pub gather-done : GatherTaken img r block → gatherOf img r block .reply ≡ Done
+  gather-done t =
+      let b = buffers-right (r .map) (r .letters) (t .ready .buffers) in
+      let d = and-intro (isData img (r .numbers) block) (leb 1 (length (livePages (r .map) block))) (t .data-block) (le-leb _ _ (t .someLive)) in
+      gather-reply
+      ∙ verdict-passed (gatherTests img r block) (t .ready .size, (b, (t .ready .fit, (d, (le-leb _ _ (t .numbersLeft), (t .room, tt))))))

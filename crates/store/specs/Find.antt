@@ -1,6 +1,6 @@
 -- Document 01, "Calls and their refusals", Write: the key position and the page that a write takes.
 use Prim.Native.Nat.{ℕ, _*_, _-_, _/_, _%_}
-use mathlib.Core.Bool.{Bool, true, false, cond, _&&_}
+use mathlib.Core.Bool.{Bool, true, false, cond, not, _&&_}
 use mathlib.Core.List.{List}
 use lib.ListN.{getD}
 use lib.Dec.{eqb, leb, ltb}
@@ -34,9 +34,21 @@ abbrev pub orElse : Found → Found → Found
 orElse (At i) other = At i
 orElse Nothing other = other
 
+-- a page outside the block that is left out, if one is
+abbrev pub isOutside : Found → ℕ → Bool
+isOutside (At b) g = not (eqb (g / pagesInBlock) b)
+isOutside Nothing g = true
+
+abbrev pub isOpenBut : Found → List ℕ → Numbers → ℕ → Bool
+isOpenBut but img r g = isOutside but g && isOpen img r g
+
 -- the lowest such page of a data block, else the first page of an empty block
-unfoldable pub newPage : List ℕ → Numbers → Found
-newPage img r = orElse (found (pages img) (firstFrom (isOpen img r) (pages img) 0)) (freshPage img)
+unfoldable pub newPageBut : Found → List ℕ → Numbers → Found
+newPageBut but img r = orElse (found (pages img) (firstFrom (isOpenBut but img r) (pages img) 0)) (freshPage img)
+
+-- a write and a cut-off leave no block out
+abbrev pub newPage : List ℕ → Numbers → Found
+newPage img r = newPageBut Nothing img r
 
 abbrev pub isFound : Found → Bool
 isFound (At i) = true

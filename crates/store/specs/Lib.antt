@@ -1,11 +1,13 @@
--- Document 01 from block kinds to "Calls and their refusals", in the document's order. What a page is, is page's; what a step leaves, image's.
+-- Document 01 from block kinds to "Calls and their refusals", in the document's order, and document 02, #102. What a page is, is page's; what a
+-- step leaves, image's.
 --   Reply     the replies and their numbers; tests in order
 --   Kind      whole key blocks, whole commit blocks, data blocks
 --   Record    the working record, and when it fits
 --   Testing   the test of all places, place by place
 --   Outcome   what a call leaves: reply, flash steps, record and lent buffer; and the same where the power fails
 --   Find      the lowest free key and the page that a write takes
---   Format, Mount, Write, Read, CutOff, Commit, Wipe   the outcome of each call
+--   Format, Mount, Write, Read, CutOff, Commit, Wipe, Gather   the outcome of each call
+--   Targets   where the copies of a gather go, as code finds it
 --   Survey    what mount finds in one pass over the blocks
 --   Replay    mount's pass over the pages, as it changes the lent lists
 --   Rebuild   the record that mount makes from the commit and the pages
@@ -25,6 +27,8 @@ pub mod Read
 pub mod CutOff
 pub mod Commit
 pub mod Wipe
+pub mod Gather
+pub mod Targets
 pub mod Survey
 pub mod Replay
 pub mod Rebuild

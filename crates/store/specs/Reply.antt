@@ -4,7 +4,7 @@ use mathlib.Core.Bool.{Bool, cond}
 use lib.Dec.{eqb}
 use mathlib.Core.List.{List, [], _∷_}
 use Rattle.store.specs.declared.Reply.{Reply}
-use Rattle.store.specs.declared.Reply.the-variants.{Done, ImageSize, BufferLength, NoiseLength, NoSuchFile, OffsetOutside, PayloadLength, RecordUnfit, NothingThere, NoFreeKey, NoRoom, NumbersSpent, NoKeyBlock, NoCommit, EntryUnfit, PowerCut}
+use Rattle.store.specs.declared.Reply.the-variants.{Done, ImageSize, BufferLength, NoiseLength, NoSuchFile, OffsetOutside, PayloadLength, RecordUnfit, NothingThere, NoFreeKey, NoRoom, NumbersSpent, NoKeyBlock, NoCommit, EntryUnfit, NothingToGather, PowerCut}
 
 -- the document's number of a reply: 0 for success; a call that the power cut has no number there, and gets 255
 abbrev pub numberOf : Reply → ℕ
@@ -23,6 +23,7 @@ numberOf NumbersSpent = 11
 numberOf NoKeyBlock = 12
 numberOf NoCommit = 13
 numberOf EntryUnfit = 14
+numberOf NothingToGather = 15
 numberOf PowerCut = 255
 
 -- success

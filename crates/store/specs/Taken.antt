@@ -11,12 +11,14 @@ use Rattle.page.specs.Key.{positions}
 use Rattle.page.specs.Entry.{none}
 use Rattle.image.specs.Size.{sizeRight}
 use Rattle.image.specs.Look.{emptyBlocks}
+use Rattle.store.specs.Kind.{isData}
 use Rattle.store.specs.Record.{Record, mapSize, pageOf, keysApart, fits}
 use Rattle.store.specs.Find.{lowestFree, newPage, isFound, foundAt}
 use Rattle.store.specs.Format.{noiseSize}
 use Rattle.store.specs.Mount.{chosenCommit, chosenKeys, mountMap, entriesFit}
 use Rattle.store.specs.Write.{placeAt}
 use Rattle.store.specs.CutOff.{anyLive}
+use Rattle.store.specs.Gather.{livePages, roomForAll}
 
 -- ---- what several calls test
 -- map and letters of the right length
@@ -99,3 +101,10 @@ pub record WipeTaken (img : List ℕ) (r : Record) (noise : List ℕ) (file offs
   pub noiseFull : length noise ≡ noiseSize
   pub numbersLeft : r .numbers .epoch + 1 ≤ lastNumber
   pub room : 1 ≤ emptyBlocks img
+
+pub record GatherTaken (img : List ℕ) (r : Record) (block : ℕ) : Type 0 where
+  pub ready : Ready img r
+  pub data-block : isData img (r .numbers) block ≡ true
+  pub someLive : 1 ≤ length (livePages (r .map) block)
+  pub numbersLeft : r .numbers .sequence + length (livePages (r .map) block) ≤ lastNumber + 1
+  pub room : roomForAll block (livePages (r .map) block) img r ≡ true

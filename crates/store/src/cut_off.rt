@@ -105,7 +105,7 @@ pub fn cut_off_cut(
     if !replies::is_done(reply) {
         return replies::refused(reply, numbers);
     }
-    match find::new_page(image, numbers) {
+    match find::new_page(image, numbers, Found::Nothing) {
         Found::At(g) => cut_off_taken(image, map, letters, numbers, file, offset, g, n, k),
         Found::Nothing => replies::refused(Reply::NoRoom, numbers),
     }

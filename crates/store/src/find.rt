@@ -1,4 +1,4 @@
-// The searches of a write and a cut-off: the lowest free key position, and the page to take.
+// The searches: the lowest free key position, and the page to take, a block being left out of the search or none.
 use crate::Found;
 use crate::Numbers;
 use crate::kinds;
@@ -8,15 +8,16 @@ use page::entries;
 use page::keys::POSITIONS;
 ghost use mathlib.Core.Path.{_≡_};
 ghost use mathlib.Core.Bool.{true};
-ghost use Prim.Native.Nat.{_≤_, _+_, _*_, _-_};
+ghost use Prim.Native.Nat.{_≤_, _<_, _+_, _*_, _-_};
 ghost use lib.ListN.{length};
 ghost use Rattle.base.specs.Lent.{old};
 ghost use Rattle.base.specs.Search.{firstFrom, allFrom};
 ghost use Rattle.page.specs.Key.{positions};
-ghost use Rattle.image.specs.Size.{blockSize, pagesInBlock, pages, sizeRight};
+ghost use Rattle.image.specs.Size.{blockSize, pagesInBlock, pages, blocks, sizeRight};
 ghost use Rattle.image.specs.Look.{pageEmpty};
 ghost use Rattle.store.specs.Kind.{pageIn};
-ghost use Rattle.store.specs.Find.{found, lowestFree, isOpen, freshPage, newPage};
+ghost use Rattle.store.specs.Find.{lowestFree, isOpen, freshPage, newPageBut};
+ghost use Rattle.store.specs.Targets.{isLeftOut, openPageFrom, newPageFrom, pageAfter};
 
 // The lowest position whose letter is f.
 pub fn lowest_free(letters: &[u8]) -> Found
@@ -68,17 +69,29 @@ fn open_from(image: &[u8], numbers: Numbers, b: usize) -> usize
     empty_from(image, b)
 }
 
-// The lowest open page, block by block.
-fn open_page(image: &[u8], numbers: Numbers) -> Found
-    requires { ⌜ sizeRight (now image) ≡ true ⌝ }
-    ensures { λ r. ⌜ r ≡ found (pages (old image)) (firstFrom (isOpen (old image) numbers) (pages (old image)) 0) ⌝ }
+// Whether a search leaves block b out.
+fn is_left_out(but: Found, b: usize) -> bool
+    ensures { λ r. ⌜ r ≡ isLeftOut but b ⌝ }
+{
+    match but {
+        Found::At(a) => a == b,
+        Found::Nothing => false,
+    }
+}
+
+// The lowest open page outside the block that is left out, block by block from one on.
+fn open_page(image: &[u8], numbers: Numbers, but: Found, from: usize) -> Found
+    requires { ⌜ (sizeRight (now image) ≡ true) × (from ≤ blocks (now image)) ⌝ }
+    ensures { λ r. ⌜ r ≡ openPageFrom but (old image) numbers from ⌝ }
 {
     let n = look::blocks(image);
-    let mut b = 0;
+    let mut b = from;
     while b < n {
-        let i = open_from(image, numbers, b);
-        if i < PAGES_IN_BLOCK {
-            return Found::At(b * PAGES_IN_BLOCK + i);
+        if !is_left_out(but, b) {
+            let i = open_from(image, numbers, b);
+            if i < PAGES_IN_BLOCK {
+                return Found::At(b * PAGES_IN_BLOCK + i);
+            }
         }
         b += 1;
     }
@@ -101,13 +114,32 @@ fn fresh_page(image: &[u8]) -> Found
     Found::Nothing
 }
 
-// The page that a write or a cut-off takes.
-pub fn new_page(image: &[u8], numbers: Numbers) -> Found
-    requires { ⌜ sizeRight (now image) ≡ true ⌝ }
-    ensures { λ r. ⌜ r ≡ newPage (old image) numbers ⌝ }
+// The page that is taken where none is open below block from.
+fn new_page_from(image: &[u8], numbers: Numbers, but: Found, from: usize) -> Found
+    requires { ⌜ (sizeRight (now image) ≡ true) × (from ≤ blocks (now image)) ⌝ }
+    ensures { λ r. ⌜ r ≡ newPageFrom but (old image) numbers from ⌝ }
 {
-    match open_page(image, numbers) {
+    match open_page(image, numbers, but, from) {
         Found::At(g) => Found::At(g),
         Found::Nothing => fresh_page(image),
     }
+}
+
+// The page that a node or a cut-off takes, outside the block that is left out.
+pub fn new_page(image: &[u8], numbers: Numbers, but: Found) -> Found
+    requires { ⌜ sizeRight (now image) ≡ true ⌝ }
+    ensures { λ r. ⌜ r ≡ newPageBut but (old image) numbers ⌝ }
+{
+    new_page_from(image, numbers, but, 0)
+}
+
+// The page that is taken after page g: the next of its block, else one of a later block.
+pub fn page_after(image: &[u8], numbers: Numbers, but: Found, g: usize) -> Found
+    requires { ⌜ (sizeRight (now image) ≡ true) × (g < pages (now image)) ⌝ }
+    ensures { λ r. ⌜ r ≡ pageAfter but (old image) numbers g ⌝ }
+{
+    if g % PAGES_IN_BLOCK < PAGES_IN_BLOCK - 1 {
+        return Found::At(g + 1);
+    }
+    new_page_from(image, numbers, but, g / PAGES_IN_BLOCK + 1)
 }

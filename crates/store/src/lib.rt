@@ -1,9 +1,10 @@
-// The store: block kinds, the working record and its fit, and the calls of document 01.
+// The store: block kinds, the working record and its fit, and the calls of documents 01 and 02.
 pub mod commit;
 pub mod cut_off;
 mod find;
 mod fit;
 pub mod format;
+pub mod gather;
 mod kinds;
 pub mod mount;
 mod next;
@@ -46,7 +47,7 @@ pub enum Found {
     Nothing,
 }
 
-// What a call replies. Each case but the first and the last is a refusal of document 01.
+// What a call replies. Each case but the first and the last is a refusal of document 01 or 02.
 pub enum Reply {
     Done,
     ImageSize,
@@ -63,6 +64,7 @@ pub enum Reply {
     NoKeyBlock,
     NoCommit,
     EntryUnfit,
+    NothingToGather,
     // The power failed before the call's last step was whole.
     PowerCut,
 }

@@ -29,6 +29,7 @@ pub fn number(r: Reply) -> u32
         Reply::NoKeyBlock => 12,
         Reply::NoCommit => 13,
         Reply::EntryUnfit => 14,
+        Reply::NothingToGather => 15,
         Reply::PowerCut => 255,
     }
 }

@@ -12,6 +12,7 @@ use page::plan;
 use page::plan::MAP_SIZE;
 ghost use mathlib.Core.Path.{_≡_};
 ghost use mathlib.Core.Bool.{true};
+ghost use mathlib.Core.List.{_++_};
 ghost use Prim.Native.Nat.{_≤_};
 ghost use Rattle.base.specs.Lent.{old};
 ghost use Rattle.page.specs.Header.{lastNumber};
@@ -20,7 +21,7 @@ ghost use Rattle.image.specs.Look.{lowestEmpty};
 ghost use Rattle.store.specs.Reply.{verdict};
 ghost use Rattle.store.specs.Record.{recordOf};
 ghost use Rattle.store.specs.Format.{buffersRight, lentTests, formatTests};
-ghost use Rattle.store.specs.Write.{planTests, placeTests, nodeTests};
+ghost use Rattle.store.specs.Write.{fitTests, planTests, placeTests, nodeTests};
 ghost use Rattle.store.specs.Commit.{renewalTests};
 ghost use Rattle.store.specs.Taken.{Buffers};
 
@@ -40,6 +41,21 @@ fn refuse_lent(image: &[u8], map: &[u16], letters: &[u8]) -> Reply
     }
     if !buffers_right(map, letters) {
         return Reply::BufferLength;
+    }
+    Reply::Done
+}
+
+// The tests of a record, in order, with which a gather begins.
+pub fn refuse_record(image: &[u8], map: &[u16], letters: &[u8], numbers: Numbers) -> Reply
+    ensures { λ r. ⌜ r ≡ verdict (lentTests (old image) (old map) (old letters) ++ fitTests (old image)
+        (recordOf (old map) (old letters) numbers)) ⌝ }
+{
+    let reply = refuse_lent(image, map, letters);
+    if !replies::is_done(reply) {
+        return reply;
+    }
+    if !fit::fits(image, map, letters, numbers) {
+        return Reply::RecordUnfit;
     }
     Reply::Done
 }

@@ -62,7 +62,7 @@ fn test_write(
     let Found::At(p) = find::lowest_free(letters) else {
         return Taking::Refuse(Reply::NoFreeKey);
     };
-    let Found::At(g) = find::new_page(image, numbers) else {
+    let Found::At(g) = find::new_page(image, numbers, Found::Nothing) else {
         return Taking::Refuse(Reply::NoRoom);
     };
     Taking::Take(p, g)

@@ -106,6 +106,8 @@ pub enum Call {
         /// The first offset removed.
         offset: u32,
     },
+    /// Gather a block; none is the thinnest.
+    Gather(Option<u32>),
     /// Commit.
     Commit,
     /// Wipe.
@@ -232,10 +234,21 @@ fn command(shape: &Shape, words: &Words) -> Result<Command, Usage> {
             Call::Write { file, offset, text: text.filter(|text| text != b"-") }
         }
         Topic::CutOff => at().map(|(file, offset)| Call::CutOff { file, offset })?,
+        Topic::Gather => Call::Gather(gathered(shape, words)?),
         Topic::Commit => Call::Commit,
         Topic::Wipe => at().map(|(file, offset)| Call::Wipe { file, offset })?,
     };
     Ok(Command::Call(call, words.cut()?))
+}
+
+/// The block that is gathered; none is the thinnest.
+fn gathered(shape: &Shape, words: &Words) -> Result<Option<u32>, Usage> {
+    match (words.plain.is_empty(), words.has("--thinnest")) {
+        (false, false) => words.number(shape, 0).map(Some),
+        (true, true) => Ok(None),
+        (true, false) => wrong("gather needs BLOCK, or --thinnest"),
+        (false, true) => wrong("gather takes BLOCK or --thinnest, and not both"),
+    }
 }
 
 fn handover(words: &Words) -> Result<Handover, Usage> {
@@ -319,6 +332,9 @@ mod tests {
         assert_eq!(command_of("wipe 0 1"), Command::Call(wipe, None));
         let cut_off = Call::CutOff { file: 0, offset: 1 };
         assert_eq!(command_of("cut-off 0 1"), Command::Call(cut_off, None));
+        let gather = |block, cut| Command::Call(Call::Gather(block), cut);
+        assert_eq!(command_of("gather 3"), gather(Some(3), None));
+        assert_eq!(command_of("gather --cut 0,30 --thinnest"), gather(None, cut));
     }
 
     #[test]
@@ -407,6 +423,10 @@ mod tests {
         assert_eq!(usage("commit --cut"), "--cut needs a value");
         assert_eq!(usage("commit --cut 1,2 --cut 1,2"), "--cut is given twice");
         assert_eq!(usage("format --force=yes"), "--force takes no value");
+        assert_eq!(usage("gather"), "gather needs BLOCK, or --thinnest");
+        let both = "gather takes BLOCK or --thinnest, and not both";
+        assert_eq!(usage("gather 3 --thinnest"), both);
+        assert_eq!(usage("gather 3 4"), "gather takes no \"4\"");
         assert_eq!(usage("map --before a"), "map takes --before and --after together");
     }
 

@@ -1,5 +1,7 @@
 //! The calls that change the flash, on an image file. Each but format mounts first.
 
+mod gather;
+
 use crate::args::Call;
 use crate::image_file::{self, blocks_in_words, counted, name, ImageFile, BLOCKS};
 use crate::{say, Problem};
@@ -164,6 +166,7 @@ pub fn mounted(file: &ImageFile, out: &mut dyn Write) -> Result<Device, Problem>
 enum Ready {
     Write(Offset, Box<Payload>),
     CutOff(Offset),
+    Gather(Option<usize>),
     Commit,
     Wipe(Offset),
 }
@@ -178,6 +181,7 @@ impl Ready {
             }
             Call::CutOff { file, offset } => Ready::CutOff(offset_in(file, offset)?),
             Call::Wipe { file, offset } => Ready::Wipe(offset_in(file, offset)?),
+            Call::Gather(block) => Ready::Gather(block.map(|block| block as usize)),
             Call::Commit => Ready::Commit,
         })
     }
@@ -186,6 +190,7 @@ impl Ready {
         match self {
             Ready::Write(at, payload) => device.write(*at, payload),
             Ready::CutOff(from) => device.cut_off(*from),
+            Ready::Gather(block) => return gather::make(device, *block),
             Ready::Commit => device.commit(Noise::from_system()?),
             Ready::Wipe(from) => device.wipe(*from, Noise::from_system()?),
         }
@@ -330,6 +335,7 @@ fn say_done(
             writeln!(out, "wiped: {}", removed(from))?;
             writeln!(out, "each key that no node has is a new one")?;
         }
+        Ready::Gather(_) => out.write_all(gather::in_words(old, new).as_bytes())?,
         Ready::Commit => writeln!(out, "committed: each key that no node has is a new one")?,
     }
     Ok(())

@@ -27,8 +27,7 @@ pub fn run(path: &Path, json: bool, out: &mut dyn Write) -> Result<(), Problem> 
         let blocks = image.len() / BLOCK;
         writeln!(out, "{}: {blocks} blocks, {} bytes", image_file::name(path), image.len())?;
         out.write_all(contents(store.record()).as_bytes())?;
-        let left = pages_left(store.image());
-        writeln!(out, "pages that writes and cut-offs can still take: {left}")?;
+        out.write_all(room(&store).as_bytes())?;
         out.write_all(would_erase(&strays).as_bytes())?;
         if !spoilt.is_empty() {
             let pages = numbers_in_words("page", &spoilt);
@@ -61,7 +60,10 @@ fn as_json(path: &Path, store: &Store<Vec<u8>>, strays: &[usize], spoilt: &[usiz
         ("next_epoch", record.next_epoch().into()),
         ("key_blocks", Json::numbers(record.key_blocks())),
         ("commit_block", record.commit_block().into()),
-        ("pages_left", pages_left(store.image()).into()),
+        ("pages_left", store.pages_left().into()),
+        ("live_pages", Json::numbers(store.live_pages())),
+        ("thinnest_block", store.thinnest().map_or(Json::Null, Json::from)),
+        ("blocks_without_live_page", Json::numbers(without_live_page(store))),
         ("would_erase", Json::numbers(strays.iter().copied())),
         ("spoilt_pages", Json::numbers(spoilt.iter().copied())),
     ])
@@ -106,23 +108,50 @@ fn would_erase(strays: &[usize]) -> String {
     }
 }
 
-/// How many pages writes and cut-offs can take on a mounted image before there is no room: the empty
-/// ones at the end of each data block, and all of the empty blocks but one.
-pub fn pages_left(image: &[u8]) -> usize {
-    let forms: Vec<Form> = Form::all(image).collect();
-    let (mut in_data, mut empty) = (0, 0);
-    for block in forms.chunks(PAGES_IN_BLOCK) {
-        let open = block.iter().rev().take_while(|form| **form == Form::Empty).count();
-        let is_data = |form: &Form| {
-            matches!(form.header(), Some(Header::Node { .. } | Header::CutOff { .. }))
-        };
-        if open == PAGES_IN_BLOCK {
-            empty += 1;
-        } else if block.iter().any(is_data) {
-            in_data += open;
-        }
+/// The room on an image, in words, and what brings more.
+fn room(store: &Store<Vec<u8>>) -> String {
+    let left = store.pages_left();
+    let mut text = format!("pages that writes, cut-offs and gathers can still take: {left}\n");
+    let (counts, data) = (store.live_pages(), data_blocks(store.image()).len());
+    if let Some(thinnest) = store.thinnest() {
+        let live = counted(counts[thinnest], "live page");
+        text += &format!("data blocks: {data}, the thinnest is block {thinnest}, {live}\n");
+        text += advice(left, counts[thinnest]);
     }
-    in_data + PAGES_IN_BLOCK * usize::saturating_sub(empty, 1)
+    match &without_live_page(store)[..] {
+        [] => text,
+        dead => text + &format!("a commit erases {}, no live page there\n", blocks_in_words(dead)),
+    }
+}
+
+/// What to do where so many pages are left and the thinnest data block has so many live ones.
+fn advice(left: usize, live: usize) -> &'static str {
+    match (left, live) {
+        (0, _) => {
+            "  no page is left for a gather: commit; where that brings no room, wipe a saved file\n"
+        }
+        (..=PAGES_IN_BLOCK, PAGES_IN_BLOCK) => {
+            "  all of them are full of live pages: wipe a file that is saved elsewhere\n"
+        }
+        (..=PAGES_IN_BLOCK, _) => {
+            "  make room in time: `johvimaru gather --thinnest`, then `johvimaru commit`\n"
+        }
+        _ => "",
+    }
+}
+
+/// The data blocks that have no live page.
+fn without_live_page(store: &Store<Vec<u8>>) -> Vec<usize> {
+    let counts = store.live_pages();
+    data_blocks(store.image()).into_iter().filter(|block| counts[*block] == 0).collect()
+}
+
+/// The blocks with a page, whole or torn, that has the header of a node or a cut-off.
+fn data_blocks(image: &[u8]) -> Vec<usize> {
+    let is_data =
+        |form: Form| matches!(form.header(), Some(Header::Node { .. } | Header::CutOff { .. }));
+    let blocks = image.chunks(BLOCK).enumerate();
+    blocks.filter(|(_, bytes)| Form::all(bytes).any(is_data)).map(|(block, _)| block).collect()
 }
 
 #[cfg(test)]
@@ -130,17 +159,32 @@ mod tests {
     use super::*;
     use johvimaru::{Noise, Offset, Refusal};
 
-    /// The pages left are as many as writes are then taken.
     #[test]
-    fn pages_left_are_those_that_writes_take() -> Result<(), Refusal> {
+    fn room_in_words() -> Result<(), Refusal> {
         let mut store = Store::format(vec![0; 8 * BLOCK], Noise::new(&[1; 7_168])?)?;
-        assert_eq!(pages_left(store.image()), 64);
-        let at = Offset::new(0, 0)?;
-        for left in (0..64).rev() {
-            store.write(at, &[b'x'; 224])?;
-            assert_eq!(pages_left(store.image()), left);
+        let pages = "pages that writes, cut-offs and gathers can still take:";
+        assert_eq!(room(&store), format!("{pages} 64\n"));
+        for write in 0..33 {
+            store.write(Offset::new(0, if write == 0 { 1 } else { 0 })?, b"x")?;
         }
-        assert_eq!(store.write(at, &[b'x'; 224]), Err(Refusal::NoRoom));
+        let expected = format!(
+            "{pages} 31\ndata blocks: 3, the thinnest is block 3, 1 live page\n\
+             a commit erases block 4, no live page there\n"
+        );
+        assert_eq!(room(&store), expected);
+        for _ in 0..15 {
+            store.write(Offset::new(0, 0)?, b"x")?;
+        }
+        let expected = format!(
+            "{pages} 16\ndata blocks: 3, the thinnest is block 3, 1 live page\n  make room in time: \
+             `johvimaru gather --thinnest`, then `johvimaru commit`\na commit erases block 4, no \
+             live page there\n"
+        );
+        assert_eq!(room(&store), expected);
+        let begins = [(0, 1), (0, 16), (1, 16), (16, 16), (1, 15), (16, 1), (17, 1)]
+            .map(|(left, live)| advice(left, live).split_whitespace().next());
+        let [no, all, make] = ["no", "all", "make"].map(Some);
+        assert_eq!(begins, [no, no, all, all, make, make, None]);
         Ok(())
     }
 

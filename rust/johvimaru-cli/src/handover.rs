@@ -256,13 +256,19 @@ impl Seen {
         blocks.filter(|(b, bytes)| !known.contains(b) && !is_empty(bytes)).map(|(b, _)| b).collect()
     }
 
-    /// How many pages have the header of a node that is not live, or of a cut-off.
+    /// How many pages are older copies of live nodes.
+    fn older_copies(&self) -> usize {
+        (0..self.image.len() / PAGE).filter(|page| self.is_older_copy(*page)).count()
+    }
+
+    /// How many pages have the header of a node that is not live, or of a cut-off; older copies of live nodes are
+    /// not counted.
     fn dead_headers(&self) -> usize {
         let is_live = |page: usize| {
             self.record().is_ok_and(|record| record.nodes().any(|node| node.page == page))
         };
         let is_dead = |(page, form): &(usize, Form)| match form.header() {
-            Some(Header::Node { .. }) => !is_live(*page),
+            Some(Header::Node { .. }) => !is_live(*page) && !self.is_older_copy(*page),
             Some(Header::CutOff { .. }) => true,
             _ => false,
         };

@@ -15,6 +15,8 @@ pub enum Topic {
     Read,
     /// `cut-off`.
     CutOff,
+    /// `gather`.
+    Gather,
     /// `commit`.
     Commit,
     /// `wipe`.
@@ -41,13 +43,14 @@ pub enum Topic {
 
 impl Topic {
     /// All topics.
-    pub const ALL: [Topic; 17] = [
+    pub const ALL: [Topic; 18] = [
         Topic::Johvimaru,
         Topic::Format,
         Topic::Mount,
         Topic::Write,
         Topic::Read,
         Topic::CutOff,
+        Topic::Gather,
         Topic::Commit,
         Topic::Wipe,
         Topic::Handover,
@@ -70,6 +73,7 @@ impl Topic {
             Topic::Write => "write",
             Topic::Read => "read",
             Topic::CutOff => "cut-off",
+            Topic::Gather => "gather",
             Topic::Commit => "commit",
             Topic::Wipe => "wipe",
             Topic::Handover => "handover",
@@ -99,6 +103,7 @@ pub fn text(topic: Topic) -> &'static str {
         Topic::Write => WRITE,
         Topic::Read => READ,
         Topic::CutOff => CUT_OFF,
+        Topic::Gather => GATHER,
         Topic::Commit => COMMIT,
         Topic::Wipe => WIPE,
         Topic::Handover => HANDOVER,
@@ -123,6 +128,7 @@ johvimaru: a flash page store that forgets, on an image file
   write FILE OFFSET [TEXT|-]   write a payload of 1 to 224 bytes
   read FILE OFFSET             print a payload, byte for byte
   cut-off FILE OFFSET          remove the nodes of a file from an offset on
+  gather BLOCK | --thinnest    copy a block's live pages, to free the block
   commit                       replace the keys that no node has
   wipe FILE OFFSET             cut off and commit: it cannot be read again
   handover [--keep FILE,..]    clear all files for the next owner, with a report
@@ -147,9 +153,9 @@ list, check, map and diff change nothing.
 Files are 0 to 13. Files 0 and 1 have 32 offsets, 2 and 3 have 24, 4 to 7 have
 16, 8 to 13 have 8.
 
---cut n,k goes with format, mount, write, cut-off, commit and wipe: the power
-fails after n whole steps and k bytes of one more. A step programs a page of
-256 bytes or erases a block of 4,096.
+--cut n,k goes with format, mount, write, cut-off, gather, commit and wipe:
+the power fails after n whole steps and k bytes of one more. A step programs a
+page of 256 bytes or erases a block of 4,096.
 
 The exit status is 0 where it is done; 1 where a call is refused, with the
 refusal's number; 2 where the words of the command are not understood; 3 where
@@ -220,11 +226,32 @@ Removes the nodes of a file from an offset on. Their keys stay on the image
 until the next commit. It has one step.
 ";
 
+const GATHER: &str = "\
+johvimaru gather BLOCK [--cut n,k] [--image FILE]
+johvimaru gather --thinnest [--cut n,k] [--image FILE]
+
+Copies each live page of a data block, the lowest first, to the page that a
+write would take outside that block. Every node reads as before, under the
+same key. The block is erased by the next commit, if no write takes a page of
+it before: so commit next. With --thinnest it is the block with the fewest
+live pages, the lower one on a tie; where there is no room for its copies, the
+next one that there is room for.
+
+`check` says how many pages are left, and which block is the thinnest. Gather
+while 16 pages are left or more: then there is room for any block. When a write
+is refused with 10 it is too late, unless a commit brings room.
+
+It has a step for each live page. Cut, it has copied some of them, and every
+node reads as before: gather again. The refusal 15 says that the block has no
+live page, or is no data block; 11 and 10, that sequences or pages would not
+last for all copies. Where it is refused nothing is copied.
+";
+
 const COMMIT: &str = "\
 johvimaru commit [--cut n,k] [--image FILE]
 
-Replaces every key that no node has, and erases the blocks in which no node is
-left. It has 45 steps and one for each such block.
+Replaces every key that no node has, and erases the blocks in which no live
+page is left. It has 45 steps and one for each such block.
 ";
 
 const WIPE: &str = "\
@@ -232,7 +259,7 @@ johvimaru wipe FILE OFFSET [--cut n,k] [--image FILE]
 
 Removes the nodes of a file from an offset on, and their keys with them: what
 they held cannot be read again. It is done too where there is no node. It has
-56 steps and one for each block in which no node is left. Cut before its tenth
+56 steps and one for each block in which no live page is left. Cut before its tenth
 step has ended it has removed nothing. Cut later it has removed the nodes, but
 some of their keys may still be there: wipe again.
 ";
@@ -295,7 +322,8 @@ johvimaru check [--json] [--image FILE]
 
 Mounts a copy and says what is there: the nodes of each file, how many keys
 are used, free and deleted, the next numbers, the pages that writes can still
-take, and the blocks that a mount would erase. It leaves the file as it is.
+take, the data blocks and the thinnest of them, which `gather` is for, and the
+blocks that a mount would erase. It leaves the file as it is.
 The exit status is 4 where keys are deleted, blocks would be erased, or pages
 are spoilt.
 ";
@@ -305,7 +333,8 @@ johvimaru map [--svg OUT.svg] [--image FILE]
 johvimaru map --before A --after B [--svg OUT.svg]
 
 Draws the image: a row for each block, a cell for each page by what it is, and
-the 448 key positions by letter. With --before and --after two images are
+the 448 key positions by letter. A page that a gather has copied, and whose
+node is live on another page now, is an older copy (=). With --before and --after two images are
 drawn, with marks at what has changed since: nodes that are gone, keys that
 are replaced, blocks that are erased.
 

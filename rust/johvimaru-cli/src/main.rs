@@ -28,7 +28,7 @@ use std::process::ExitCode;
 /// Why the command was not done.
 #[derive(Debug)]
 pub enum Problem {
-    /// A call was refused, with document 01's number.
+    /// A call was refused, with the documents' number.
     Refused(Refusal),
     /// A call was refused for this file.
     RefusedFile(String, Refusal),

@@ -2,7 +2,6 @@
 //! offset, tab, payload as text.
 
 use crate::calls::{self, fitting, offset_in};
-use crate::check::pages_left;
 use crate::image_file::{self, counted, ImageFile};
 use crate::{say, Problem};
 use johvimaru::{File, Offset, Payload, Record, Refusal, PAYLOAD};
@@ -55,8 +54,8 @@ pub fn import(path: &Path, file: u32, text: bool, out: &mut dyn Write) -> Result
     let nodes = parsed(file, text, &lines)?;
     let image = ImageFile::open(path)?;
     let mut device = calls::mounted(&image, out)?;
-    if let Some(record) = device.record() {
-        room_for(nodes.len(), record, device.mirror())?;
+    if let (Some(record), Some(pages)) = (device.record(), device.pages_left()) {
+        room_for(nodes.len(), record, pages)?;
     }
     for (at, payload) in &nodes {
         device.write(*at, payload).map_err(calls::told)?;
@@ -65,7 +64,7 @@ pub fn import(path: &Path, file: u32, text: bool, out: &mut dyn Write) -> Result
 }
 
 /// Refuses more nodes than there is room for.
-fn room_for(nodes: usize, record: &Record, image: &[u8]) -> Result<(), Problem> {
+fn room_for(nodes: usize, record: &Record, pages: usize) -> Result<(), Problem> {
     let none = |refusal, left: usize, of: &str| {
         let words = format!(
             "{} wanted, and {} left; nothing was written; a commit may bring more",
@@ -74,7 +73,7 @@ fn room_for(nodes: usize, record: &Record, image: &[u8]) -> Result<(), Problem> 
         );
         Err(Problem::Explained(refusal, words))
     };
-    let (free, pages) = (record.counts().free, pages_left(image));
+    let free = record.counts().free;
     match () {
         () if SEQUENCES_END - u64::from(record.next_sequence()) < nodes as u64 => {
             Err(Refusal::NumbersSpent.into())

@@ -2,8 +2,11 @@
 
 use crate::image_file;
 use crate::Problem;
-use johvimaru::{Record, Refusal, Store};
+use johvimaru::{Form, Header, Record, Refusal, Store, PAGE};
 use std::path::Path;
+
+/// Where a page goes on after its letter and its sequence.
+const AFTER_SEQUENCE: usize = 9;
 
 /// An image, and what a mount finds on it.
 pub struct Seen {
@@ -23,6 +26,18 @@ impl Seen {
     /// The record that the mount finds, or why it is refused.
     pub fn record(&self) -> Result<&Record, Refusal> {
         self.mounted.as_ref().map(Store::record).map_err(|refusal| *refusal)
+    }
+
+    /// Whether a page is an older copy of a live node, as a gather leaves it: another page than the node's, with
+    /// the same bytes but for the sequence. A key that was replaced since gives other bytes, so a node that was
+    /// replaced is not taken for one.
+    pub fn is_older_copy(&self, page: usize) -> bool {
+        let pages = self.image.as_chunks::<PAGE>().0;
+        let Form::Whole(Header::Node { at, .. }) = Form::of(&pages[page]) else { return false };
+        let node = self.record().ok().and_then(|record| record.node(at));
+        node.is_some_and(|node| {
+            node.page != page && pages[page][AFTER_SEQUENCE..] == pages[node.page][AFTER_SEQUENCE..]
+        })
     }
 }
 

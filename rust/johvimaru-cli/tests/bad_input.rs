@@ -26,7 +26,7 @@ const CALLS: [&str; 13] = [
 ];
 
 /// Lines that are not understood.
-const WRONG: [&str; 57] = [
+const WRONG: [&str; 63] = [
     "",
     "forget",
     "--cut 1,2",
@@ -84,6 +84,12 @@ const WRONG: [&str; 57] = [
     "handover --report=",
     "version 2",
     "list --json=yes",
+    "gather",
+    "gather x",
+    "gather 3 4",
+    "gather 3 --thinnest",
+    "gather --thinnest=3",
+    "gather --thin",
 ];
 
 #[test]
@@ -100,7 +106,7 @@ fn words_that_are_not_understood() {
 
 /// Words that the command knows.
 const KNOWN: &str =
-    "write read format list wipe commit handover export import check 0 1 13 - -- --cut 0,0 \
+    "write read format list wipe gather commit handover export import check 0 1 13 - -- --cut 0,0 \
      --blocks 8 --image i.img --raw --help = --cut=1,1 --keep --json --text --version";
 
 /// Any bytes may stand among the words: the command answers, and does not fall over.

@@ -99,7 +99,8 @@ keys: 1 used, 446 free, 1 deleted
   a commit or a wipe replaces the deleted ones
 next sequence 3, next epoch 3
 key blocks 0 and 1 are in blocks 0 and 1, the commit in 4
-pages that writes and cut-offs can still take: 62
+pages that writes, cut-offs and gathers can still take: 62
+data blocks: 1, the thinnest is block 3, 1 live page
 a mount would erase block 2, no part of the store
 ";
     let ran = folder.run("check");
@@ -144,6 +145,8 @@ fn what_list_and_check_say_as_json() {
         "  \"next_sequence\": 2,",
         "  \"commit_block\": 2,",
         "  \"pages_left\": 63,",
+        "  \"thinnest_block\": 3,",
+        "  \"blocks_without_live_page\": [],",
         "  \"would_erase\": [],",
         "  \"spoilt_pages\": []",
     ] {
@@ -194,8 +197,8 @@ fn help_for_each() {
     let folder = Folder::new("help");
     let all = folder.done("--help");
     for name in [
-        "format", "mount", "write", "read", "cut-off", "commit", "wipe", "handover", "export",
-        "import", "list", "check", "map", "diff", "demo", "version",
+        "format", "mount", "write", "read", "cut-off", "gather", "commit", "wipe", "handover",
+        "export", "import", "list", "check", "map", "diff", "demo", "version",
     ] {
         assert!(all.contains(name), "{name}");
         let text = folder.done(&format!("{name} --help"));
@@ -225,9 +228,10 @@ fn cuts_in_every_call() {
     }
     let image = start.image();
     type Form = fn(Store<Vec<u8>>, Cut) -> Outcome<Vec<u8>>;
-    let calls: [(&str, Form); 5] = [
+    let calls: [(&str, Form); 6] = [
         ("write 0 1 e", |s, cut| s.write_cut(at(0, 1), b"e", cut).unwrap()),
         ("cut-off 0 0", |s, cut| s.cut_off_cut(at(0, 0), cut).unwrap()),
+        ("gather 3", |s, cut| s.gather_cut(3, cut).unwrap()),
         ("commit", |s, cut| s.commit_cut(other_noise(), cut).unwrap()),
         ("wipe 2 0", |s, cut| s.wipe_cut(at(2, 0), other_noise(), cut).unwrap()),
         ("format --force", |s, cut| Store::format_cut(s.into_image(), other_noise(), cut).unwrap()),
@@ -374,32 +378,37 @@ fn the_demo() {
     assert_eq!(folder.names(), [""; 0], "the demo leaves no file");
 }
 
-/// The session that docs/COMMAND.md shows is what the command prints.
-#[test]
-fn the_session_of_the_documents() {
+/// Holds a session that docs/COMMAND.md shows, from its first call on, to what the command prints.
+fn compare_session(name: &str, first_call: &str, lines: usize) {
     let top = Path::new(env!("CARGO_MANIFEST_DIR")).join("../..");
     let page = fs::read_to_string(top.join("docs/COMMAND.md")).unwrap();
-    let first = "    $ johvimaru ";
+    let prompt = "    $ johvimaru ";
     let session: Vec<&str> = page
         .lines()
-        .skip_while(|line| !line.starts_with(first))
+        .skip_while(|line| line.strip_prefix(prompt) != Some(first_call))
         .take_while(|line| line.starts_with("    "))
         .collect();
-    assert!(session.len() > 20, "the session is there");
-    let folder = Folder::new("session");
+    assert!(session.len() >= lines, "the session is there");
+    let folder = Folder::new(name);
     let mut printed = Vec::new();
-    for call in session.iter().filter_map(|line| line.strip_prefix(first)) {
+    for call in session.iter().filter_map(|line| line.strip_prefix(prompt)) {
         let script = format!("{} {call} 2>&1", env!("CARGO_BIN_EXE_johvimaru"));
         let output =
             Command::new("sh").args(["-c", &script]).current_dir(&folder.path).output().unwrap();
-        printed.push(format!("{first}{call}"));
+        printed.push(format!("{prompt}{call}"));
         let text = String::from_utf8(output.stdout).unwrap();
         printed.extend(text.lines().map(|line| format!("    {line}")));
     }
     assert_eq!(printed.join("\n"), session.join("\n"));
 }
 
-/// The refusals of a call have document 01's numbers and a sentence.
+#[test]
+fn the_sessions_of_the_documents() {
+    compare_session("session", "write 0 0 \"draught 4.12 m\"", 20);
+    compare_session("session-gather", "write 0 0 \"draught 4.12 m\" --image thin.img", 10);
+}
+
+/// The refusals of a call have the documents' numbers and a sentence.
 #[test]
 fn refusals_of_calls() {
     let folder = Folder::new("refusals");

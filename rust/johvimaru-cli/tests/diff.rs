@@ -306,6 +306,7 @@ fn random_calls(store: &mut Store<Vec<u8>>, numbers: &mut Numbers) {
             0 => store.cut_off(from),
             1 => store.commit(noise(numbers)),
             2 => store.wipe(from, noise(numbers)),
+            3 => store.gather(3 + numbers.below(4) as usize),
             _ => store.write(from, &text),
         };
     }

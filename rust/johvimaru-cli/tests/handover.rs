@@ -32,12 +32,14 @@ fn image(numbers: &mut Numbers) -> Vec<u8> {
             0 => store.cut_off(from),
             1 => store.commit(fresh),
             2 => store.wipe(from, fresh),
+            3 => store.gather(numbers.below(blocks as u64) as usize),
             _ => store.write(from, &[b'x'; 224]),
         };
     }
     let cut = Cut { n: numbers.below(70), k: numbers.below(4_097) as usize };
-    let ended = match numbers.below(3) {
+    let ended = match numbers.below(4) {
         0 => store.commit_cut(noise(numbers.below(1 << 30)), cut),
+        1 => store.gather_cut(numbers.below(6) as usize, Cut { n: cut.n % 4, k: cut.k }),
         _ => store.wipe_cut(at(numbers.below(14) as u32, 0), noise(numbers.below(1 << 30)), cut),
     };
     match ended {
@@ -151,7 +153,7 @@ Old keys
   positions 0-2 4-447: no copy at any byte
 
 What a reader of the chip can still learn
-  next sequence 5: 4 pages since the format, written or cut off
+  next sequence 5: 4 pages since the format, written, cut off or gathered
   next epoch 4: 2 epochs since the format, one for a commit, two for a wipe
   keys in blocks 2 and 0, commit in 1: something of how blocks were used
   file 3: the content of 1 node, whose keys are on the chip

@@ -37,7 +37,7 @@ fn put(page: &mut [u8; PAGE], from: usize, number: u32) {
     page[from..from + 8].copy_from_slice(format!("{number:8}").as_bytes());
 }
 
-/// An image with two nodes, committed, at these next numbers.
+/// An image with two nodes in block 3, committed, at these next numbers.
 fn at_the_end(next_sequence: u32, next_epoch: u32) -> Result<Image, Box<dyn Error>> {
     let mut store = Store::format(vec![0xff; 8 * BLOCK], noise()?)?;
     for offset in 0..2 {
@@ -61,6 +61,7 @@ fn replies(store: &Image) -> Result<String, Box<dyn Error>> {
         ("read", reply(store.read(at).map(drop))),
         ("write", reply(copy().write(at, &[b'y'; PAYLOAD]))),
         ("cut-off", reply(copy().cut_off(at))),
+        ("gather", reply(copy().gather(3))),
         ("commit", reply(copy().commit(noise()?))),
         ("wipe", reply(copy().wipe(at, noise()?))),
     ];
@@ -70,7 +71,8 @@ fn replies(store: &Image) -> Result<String, Box<dyn Error>> {
 /// What the calls reply at the end of the numbers.
 pub fn text() -> Result<String, Box<dyn Error>> {
     let mut text = String::new();
-    for (sequence, epoch) in [(LAST + 1, 3), (3, LAST), (3, LAST + 1), (LAST + 1, LAST + 1)] {
+    let ends = [(LAST, 3), (LAST + 1, 3), (3, LAST), (3, LAST + 1), (LAST + 1, LAST + 1)];
+    for (sequence, epoch) in ends {
         let store = at_the_end(sequence, epoch)?;
         let record = store.record();
         let (sequence, epoch) = (record.next_sequence(), record.next_epoch());

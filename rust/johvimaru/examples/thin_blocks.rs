@@ -4,130 +4,108 @@
 //! `cargo run --release --offline --manifest-path rust/Cargo.toml --example thin_blocks`
 
 use johvimaru::{Noise, Offset, Refusal, Store};
-use johvimaru::{BLOCK, NOISE, PAGE, PAGES_IN_BLOCK, PAYLOAD, PLACES};
-use std::collections::BTreeMap;
+use johvimaru::{BLOCK, NOISE, PAGES_IN_BLOCK, PAYLOAD, PLACES};
 use std::error::Error;
 
 /// Writes in the runs by chance and in order.
 const WRITES: usize = 3_000;
 /// The sizes that are tried.
-const BLOCKS: [usize; 11] = [8, 18, 19, 24, 32, 40, 48, 56, 64, 228, 229];
-
-type Image = Store<Vec<u8>>;
+const BLOCKS: [usize; 12] = [8, 18, 19, 20, 24, 32, 40, 48, 56, 64, 228, 229];
 
 fn noise() -> Result<Noise, Refusal> {
     Noise::new(&[7; NOISE])
-}
-
-fn format(blocks: usize) -> Result<Image, Refusal> {
-    Ok(Store::format(vec![0xff; BLOCK * blocks], noise()?)?)
 }
 
 fn place(place: usize) -> Offset {
     Offset::at_place(place % PLACES).expect("it is below 224")
 }
 
-/// Writes, and commits where the write is refused for want of a key or a page.
-fn write(store: &mut Image, at: Offset) -> Result<(), Refusal> {
-    match store.write(at, &[b'x'; PAYLOAD]) {
-        Err(Refusal::NoFreeKey | Refusal::NoRoom) => {
-            store.commit(noise()?)?;
-            store.write(at, &[b'x'; PAYLOAD])
-        }
-        reply => reply,
-    }
+/// A store, and what was done on it.
+struct Run {
+    store: Store<Vec<u8>>,
+    gathers: bool,
+    commits: usize,
+    copies: u32,
 }
 
-/// Writes, and keeps a block's worth of pages in hand. Where a commit does not bring them, the nodes of the
-/// thinnest block are read and written again, and the next commit erases it.
-fn write_and_gather(store: &mut Image, at: Offset) -> Result<(), Refusal> {
-    let short = |store: &Image| {
-        pages_left(store.image()) <= PAGES_IN_BLOCK || store.record().counts().free == 0
-    };
-    if short(store) {
-        store.commit(noise()?)?;
+impl Run {
+    /// An empty store, on which thin blocks are gathered or not.
+    fn new(blocks: usize, gathers: bool) -> Result<Run, Refusal> {
+        let store = Store::format(vec![0xff; BLOCK * blocks], noise()?)?;
+        Ok(Run { store, gathers, commits: 0, copies: 0 })
     }
-    // Where all blocks are full of live nodes this brings nothing.
-    for _ in 0..2 {
-        if short(store) {
-            for at in thinnest(store) {
-                let payload = store.read(at)?;
-                store.write(at, &payload)?;
+
+    /// Writes, and commits where the write is refused for want of a key or a page.
+    fn write(&mut self, at: Offset) -> Result<(), Refusal> {
+        if self.gathers && self.store.pages_left() <= PAGES_IN_BLOCK {
+            self.make_room()?;
+        }
+        match self.store.write(at, &[b'x'; PAYLOAD]) {
+            Err(Refusal::NoFreeKey | Refusal::NoRoom) => {
+                self.commit()?;
+                self.store.write(at, &[b'x'; PAYLOAD])
             }
-            store.commit(noise()?)?;
+            reply => reply,
         }
     }
-    store.write(at, &[b'x'; PAYLOAD])
-}
 
-/// The pages that writes can still take: those at the end of data blocks, and all empty blocks but one. No
-/// call is cut here, so a page is empty where its first byte is, and a block's first page tells its kind.
-fn pages_left(image: &[u8]) -> usize {
-    let (mut in_data, mut empty) = (0, 0);
-    for block in image.chunks(BLOCK) {
-        let open = block.chunks(PAGE).rev().take_while(|page| page[0] == 0xff).count();
-        match block[0] {
-            0xff => empty += 1,
-            b'N' => in_data += open,
-            _ => {}
+    /// Gathers blocks, from the thinnest on, as long as there is room for their copies, and commits, which gives
+    /// these blocks back. A block whose pages are all live would bring nothing.
+    fn make_room(&mut self) -> Result<(), Refusal> {
+        let before = self.store.record().next_sequence();
+        let live = self.store.live_pages();
+        for block in self.store.record().thin_blocks() {
+            if live[block] < PAGES_IN_BLOCK {
+                match self.store.gather(block) {
+                    Err(Refusal::NoRoom) => {}
+                    reply => reply?,
+                }
+            }
         }
+        self.copies += self.store.record().next_sequence() - before;
+        self.commit()
     }
-    in_data + PAGES_IN_BLOCK * usize::saturating_sub(empty, 1)
-}
 
-/// The nodes of the block that has the fewest.
-fn thinnest(store: &Image) -> Vec<Offset> {
-    let mut blocks = BTreeMap::new();
-    for node in store.record().nodes() {
-        blocks.entry(node.page / PAGES_IN_BLOCK).or_insert(Vec::new()).push(node.at);
+    fn commit(&mut self) -> Result<(), Refusal> {
+        self.commits += 1;
+        self.store.commit(noise()?)
     }
-    blocks.into_values().min_by_key(Vec::len).unwrap_or_default()
-}
 
-type Write = fn(&mut Image, Offset) -> Result<(), Refusal>;
-
-/// Writes these places one after the other; after how many writes the image is pinned, if it is.
-fn written(
-    blocks: usize,
-    write: Write,
-    places: impl Iterator<Item = usize>,
-) -> Result<Option<usize>, Refusal> {
-    let mut store = format(blocks)?;
-    for (done, at) in places.take(WRITES).enumerate() {
-        match write(&mut store, place(at)) {
-            Err(Refusal::NoRoom) => return Ok(Some(done)),
-            reply => reply?,
+    /// Writes these places one after the other; after how many writes the image is pinned, if it is.
+    fn written(&mut self, places: impl Iterator<Item = usize>) -> Result<Option<usize>, Refusal> {
+        for (done, at) in places.enumerate() {
+            match self.write(place(at)) {
+                Err(Refusal::NoRoom) => return Ok(Some(done)),
+                reply => reply?,
+            }
         }
+        Ok(None)
     }
-    Ok(None)
+}
+
+/// Places in their order, over and over.
+fn in_order() -> impl Iterator<Item = usize> {
+    (0..PLACES).cycle().take(WRITES)
 }
 
 /// Places by chance, the same in every run.
 fn by_chance() -> impl Iterator<Item = usize> {
     let next = |number: &u64| Some(number.wrapping_mul(6_364_136_223_846_793_005).wrapping_add(1));
-    std::iter::successors(Some(1_u64), next).map(|number| (number >> 33) as usize)
+    let numbers = std::iter::successors(Some(1_u64), next);
+    numbers.map(|number| (number >> 33) as usize).take(WRITES)
 }
 
-/// Puts one node that stays on each block, and fills the block with one that is written again and again.
-/// The image, and whether it is pinned.
-fn on_purpose(blocks: usize) -> Result<(Image, bool), Refusal> {
-    let mut store = format(blocks)?;
-    for stays in 1..=PLACES + 1 {
-        for page in 0..PAGES_IN_BLOCK {
-            let at = if page == 0 { place(stays) } else { place(0) };
-            match write(&mut store, at) {
-                Err(Refusal::NoRoom) => return Ok((store, true)),
-                reply => reply?,
-            }
-        }
-    }
-    Ok((store, false))
+/// One node that stays on each block, and then one that is written again and again until the block is full.
+fn on_purpose() -> impl Iterator<Item = usize> {
+    (1..=PLACES + 1).flat_map(|stays| [stays].into_iter().chain([0; PAGES_IN_BLOCK - 1]))
 }
 
 /// What the calls reply on a pinned image, one after the other.
 fn way_out() -> Result<String, Refusal> {
-    let (mut store, _) = on_purpose(32)?;
-    let at = place(0);
+    let mut run = Run::new(32, false)?;
+    run.written(on_purpose())?;
+    let (mut store, at) = (run.store, place(0));
+    let thinnest = store.thinnest().expect("nodes are on it");
     let reply = |result: Result<(), Refusal>| match result {
         Ok(()) => "done".to_string(),
         Err(refusal) => format!("refused {}", refusal.number()),
@@ -137,28 +115,38 @@ fn way_out() -> Result<String, Refusal> {
         ("commit", reply(store.commit(noise()?))),
         ("write", reply(store.write(at, &[b'x'; PAYLOAD]))),
         ("cut-off", reply(store.cut_off(at))),
+        ("gather", reply(store.gather(thinnest))),
         ("wipe", reply(store.wipe(at, noise()?))),
         ("write", reply(store.write(at, &[b'x'; PAYLOAD]))),
     ];
     let text = replies.map(|(name, reply)| format!("  {name:8}{reply}\n"));
-    Ok(format!("32 blocks, pinned on purpose:\n{}", text.concat()))
+    Ok(format!("32 blocks, pinned on purpose without gathers:\n{}", text.concat()))
 }
 
-const HEAD: &str = "        pinned after so many writes          on purpose,
-blocks   in order  by chance   with gathering  by so many nodes
+const HEAD: &str = "        without gathers            with gathers
+blocks  order chance on purpose    order chance on purpose  commits copies
 ";
+
+/// The three runs of a size, with gathers or without: the number of writes after which it was pinned in order and by
+/// chance, and the number of live nodes with which it was pinned on purpose. With them the run by chance.
+fn runs(blocks: usize, gathers: bool) -> Result<(String, Run), Refusal> {
+    let spelt = |pinned: Option<usize>| pinned.map_or("no".into(), |number| number.to_string());
+    let order = spelt(Run::new(blocks, gathers)?.written(in_order())?);
+    let mut by_purpose = Run::new(blocks, gathers)?;
+    let pinned = by_purpose.written(on_purpose())?;
+    let purpose = spelt(pinned.map(|_| by_purpose.store.record().nodes().count()));
+    let mut run = Run::new(blocks, gathers)?;
+    let chance = spelt(run.written(by_chance())?);
+    Ok((format!("{order:>5} {chance:>6} {purpose:>10}"), run))
+}
 
 /// What the runs have shown.
 pub fn text() -> Result<String, Box<dyn Error>> {
-    let spelt = |pinned: Option<usize>| pinned.map_or("no".into(), |number| number.to_string());
     let mut text = String::from(HEAD);
     for blocks in BLOCKS {
-        let in_order = spelt(written(blocks, write, 0..)?);
-        let chance = spelt(written(blocks, write, by_chance())?);
-        let gathering = spelt(written(blocks, write_and_gather, by_chance())?);
-        let (store, pinned) = on_purpose(blocks)?;
-        let purpose = spelt(pinned.then(|| store.record().nodes().count()));
-        text += &format!("{blocks:6} {in_order:>10} {chance:>10} {gathering:>16} {purpose:>17}\n");
+        let (without, _) = runs(blocks, false)?;
+        let (with, Run { commits, copies, .. }) = runs(blocks, true)?;
+        text += &format!("{blocks:6}  {without}    {with} {commits:>8} {copies:>6}\n");
     }
     Ok(text + &way_out()?)
 }

@@ -1,8 +1,9 @@
 //! Calls that drive a chip.
 
 use crate::raw::{self, DONE, POWER_CUT};
+use crate::store::number;
 use crate::{
-    ffi, Chip, Cut, Noise, Offset, Payload, Record, Refusal, Step, Store, BLOCK, PAGE,
+    ffi, room, Chip, Cut, Noise, Offset, Payload, Record, Refusal, Step, Store, BLOCK, PAGE,
     PAGES_IN_BLOCK, PAYLOAD, PLACES,
 };
 use alloc::vec;
@@ -153,6 +154,12 @@ impl<C> Driver<C> {
         self.record.as_ref()
     }
 
+    /// How many pages writes, cut-offs and gathers can still take, where the chip is mounted, as
+    /// [`Store::pages_left`]. Which blocks are thin is told by [`Record::thin_blocks`].
+    pub fn pages_left(&self) -> Option<usize> {
+        self.record.as_ref().map(|_| room::pages_left(&self.mirror))
+    }
+
     /// A store on a copy of the mirror, where the chip is mounted: to try a call on it.
     pub fn copy(&self) -> Option<Store<Vec<u8>>> {
         let record = self.record.clone()?;
@@ -204,6 +211,36 @@ impl<C: Chip> Driver<C> {
     /// Removes the nodes of a file from an offset on, as [`Store::cut_off`].
     pub fn cut_off(&mut self, from: Offset) -> Result<(), Failure<C::Error>> {
         self.call(|image, record, cut| ffi::cut_off(image, record, from.pair(), Some(cut)))
+    }
+
+    /// Copies the live pages of a data block out of it, as [`Store::gather`]. It has a step for each.
+    ///
+    /// ```
+    /// # use johvimaru::{Driver, Failure, File, MemoryChip, Noise, Refusal, BLOCK, PAGES_IN_BLOCK};
+    /// # let mut driver = Driver::new(MemoryChip::new(vec![0xff; 24 * BLOCK]));
+    /// # driver.format(Noise::from_system()?)?;
+    /// # let at = File::new(0)?.offset(3)?;
+    /// // Before a write: blocks from the thinnest on, as long as there is room for their copies, then a commit.
+    /// if driver.pages_left() <= Some(PAGES_IN_BLOCK) {
+    ///     let mut blocks = driver.record().map_or(vec![], |record| record.thin_blocks());
+    ///     // A block whose pages are all live would bring nothing.
+    ///     blocks.retain(|block| {
+    ///         driver.record().is_some_and(|record| record.live_pages_of(*block) < PAGES_IN_BLOCK)
+    ///     });
+    ///     for block in blocks {
+    ///         match driver.gather(block) {
+    ///             Err(Failure::Refused(Refusal::NoRoom)) => {}
+    ///             result => result?,
+    ///         }
+    ///     }
+    ///     driver.commit(Noise::from_system()?)?;
+    /// }
+    /// driver.write(at, b"draught 4.12 m")?;
+    /// # Ok::<(), Box<dyn std::error::Error>>(())
+    /// ```
+    pub fn gather(&mut self, block: usize) -> Result<(), Failure<C::Error>> {
+        let block = number(block);
+        self.call(|image, record, cut| ffi::gather(image, record, block, Some(cut)))
     }
 
     /// Replaces every key that no live node has, as [`Store::commit`].

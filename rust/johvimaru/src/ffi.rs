@@ -43,6 +43,7 @@ declare!(
     file: u32, offset: u32, payload: *const u8, payload_length: usize
 );
 declare!(johvimaru_cut_off, johvimaru_cut_off_cut, file: u32, offset: u32);
+declare!(johvimaru_gather, johvimaru_gather_cut, block: u32);
 declare!(johvimaru_commit, johvimaru_commit_cut, noise: *const u8, noise_length: usize);
 declare!(
     johvimaru_wipe, johvimaru_wipe_cut,
@@ -130,6 +131,13 @@ pub fn cut_off(
     // SAFETY: pointers and lengths are those of slices and of the five numbers, all borrowed mutably
     // until the call returns, so no two overlap. File and offset may be any.
     unsafe { call!(johvimaru_cut_off, johvimaru_cut_off_cut, image, record, cut, file, offset) }
+}
+
+/// Copies the live pages of a block out of it, cut or whole.
+pub fn gather(image: &mut [u8], record: &mut Record, block: u32, cut: Option<Cut>) -> u32 {
+    // SAFETY: pointers and lengths are those of slices and of the five numbers, all borrowed mutably
+    // until the call returns, so no two overlap. The block may be any.
+    unsafe { call!(johvimaru_gather, johvimaru_gather_cut, image, record, cut, block) }
 }
 
 /// Commits with `noise`, cut or whole.

@@ -51,7 +51,7 @@ impl Form {
     }
 
     /// The forms of all full pages of an image, in order.
-    pub fn all(image: &[u8]) -> impl Iterator<Item = Form> + '_ {
+    pub fn all(image: &[u8]) -> impl DoubleEndedIterator<Item = Form> + '_ {
         image.as_chunks().0.iter().map(Form::of)
     }
 

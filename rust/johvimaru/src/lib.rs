@@ -34,7 +34,9 @@
 //! ```
 //!
 //! - [`Store`] owns or borrows an image, and keeps its record. [`File`] and [`Offset`] name a node, whose
-//!   [`Payload`] reads back as long as it was written; a [`Refusal`] has document 01's number and a sentence.
+//!   [`Payload`] reads back as long as it was written; a [`Refusal`] has the documents' number and a sentence.
+//! - [`Store::gather`] copies the live pages of a thin block, so that the next commit gives the block back.
+//!   [`Store::pages_left`], [`Store::live_pages`] and [`Record::thin_blocks`] tell when, and which block.
 //! - [`Driver`] drives a [`Chip`]: each step of a call goes to the chip before the next, and the mirror is
 //!   brought along. [`FileChip`] is a chip in a file, [`CutChip`] one whose power fails where it is told.
 //! - With the feature `cut`, each call has a form that the power cuts after n steps and k bytes of one
@@ -92,6 +94,7 @@ mod plan;
 pub mod raw;
 mod record;
 mod refusal;
+mod room;
 mod step;
 mod store;
 

@@ -103,6 +103,25 @@ pub fn cut_off(image: &mut [u8], record: &mut Record, file: u32, offset: u32) ->
     ffi::cut_off(image, record, (file, offset), None)
 }
 
+/// Copies the live pages of a data block to pages outside it.
+///
+/// ```
+/// use johvimaru::raw::{self, Record};
+///
+/// let (mut record, mut image) = (Record::blank(), vec![0xff; 8 * johvimaru::BLOCK]);
+/// assert_eq!(raw::format(&mut image, &mut record, &[1; johvimaru::NOISE]), raw::DONE);
+/// assert_eq!(raw::write(&mut image, &mut record, 0, 0, b"track"), raw::DONE);
+/// assert_eq!(record.map[0], 48);
+/// assert_eq!(raw::gather(&mut image, &mut record, 3), raw::DONE);
+/// assert_eq!(record.map[0], 64);
+/// // Block 3 has no live page now, and block 0 is no data block.
+/// assert_eq!(raw::gather(&mut image, &mut record, 3), 15);
+/// assert_eq!(raw::gather(&mut image, &mut record, 0), 15);
+/// ```
+pub fn gather(image: &mut [u8], record: &mut Record, block: u32) -> u32 {
+    ffi::gather(image, record, block, None)
+}
+
 /// Replaces every key that is not used, with 7,168 bytes of noise, and puts the map onto the image.
 pub fn commit(image: &mut [u8], record: &mut Record, noise: &[u8]) -> u32 {
     ffi::commit(image, record, noise, None)
@@ -142,6 +161,12 @@ pub fn write_cut(
 #[cfg(feature = "cut")]
 pub fn cut_off_cut(image: &mut [u8], record: &mut Record, file: u32, offset: u32, cut: Cut) -> u32 {
     ffi::cut_off(image, record, (file, offset), Some(cut))
+}
+
+/// A gather that the power cuts.
+#[cfg(feature = "cut")]
+pub fn gather_cut(image: &mut [u8], record: &mut Record, block: u32, cut: Cut) -> u32 {
+    ffi::gather(image, record, block, Some(cut))
 }
 
 /// A commit that the power cuts.

@@ -1,7 +1,10 @@
 //! What a store has: the view of its working record.
 
 use crate::raw::{self, NONE};
-use crate::{ffi, Offset, Refusal, BLOCK, HEADER, KEY, PAGE, PAYLOAD, PLACES};
+use crate::{
+    ffi, room, Offset, Refusal, BLOCK, HEADER, KEY, PAGE, PAGES_IN_BLOCK, PAYLOAD, PLACES,
+};
+use alloc::vec::Vec;
 use core::fmt;
 use core::ops::Range;
 
@@ -114,6 +117,30 @@ impl Record {
         Offset::all().filter_map(|at| self.node(at))
     }
 
+    /// How many live pages a block has. It counts the nodes anew at each call, and is the crate's own: nothing is
+    /// proved of it.
+    pub fn live_pages_of(&self, block: usize) -> usize {
+        self.nodes().filter(|node| node.page / PAGES_IN_BLOCK == block).count()
+    }
+
+    /// The data blocks that have a live page, the one with the fewest first, the lower first on a tie: the order
+    /// in which to gather them. It counts the nodes anew at each call and is the crate's own: nothing is proved
+    /// of it. Document 02's #105 will bring the library's own choice.
+    ///
+    /// ```
+    /// # use johvimaru::{Noise, Offset, Store};
+    /// let mut store = Store::format(vec![0; 32_768], Noise::from_system()?)?;
+    /// for place in 0..17 {
+    ///     store.write(Offset::at_place(place).unwrap(), b"track")?;
+    /// }
+    /// // Block 3 is full, and block 4 has one page.
+    /// assert_eq!(store.record().thin_blocks(), [4, 3]);
+    /// # Ok::<(), Box<dyn std::error::Error>>(())
+    /// ```
+    pub fn thin_blocks(&self) -> Vec<usize> {
+        room::thin_blocks(self)
+    }
+
     /// The letter of a key position.
     ///
     /// # Panics
@@ -141,7 +168,7 @@ impl Record {
         counts
     }
 
-    /// The sequence that the next write or cut-off takes. 100,000,000 is none.
+    /// The sequence that the next write or cut-off takes, and the first copy of a gather. 100,000,000 is none.
     pub fn next_sequence(&self) -> u32 {
         self.0.numbers[0]
     }

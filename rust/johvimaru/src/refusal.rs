@@ -5,7 +5,7 @@ use alloc::boxed::Box;
 use core::error::Error;
 use core::fmt;
 
-/// Why a call was refused, with document 01's numbers. Later versions will have more of them.
+/// Why a call was refused, with the numbers of documents 01 and 02. Later versions will have more of them.
 ///
 /// ```
 /// use johvimaru::{File, Refusal};
@@ -37,7 +37,7 @@ pub enum Refusal {
     NothingThere = 8,
     /// No key is free. A commit replaces the deleted ones.
     NoFreeKey = 9,
-    /// There is no page to take, or no empty block. A commit may bring room.
+    /// There is no page to take, or no empty block. A commit may bring room; a gather has to come before.
     NoRoom = 10,
     /// The sequences or epochs, which end at 99,999,999, do not last for the call.
     NumbersSpent = 11,
@@ -47,6 +47,8 @@ pub enum Refusal {
     NoCommit = 13,
     /// A live entry does not fit, or a key is named twice.
     EntryUnfit = 14,
+    /// The block is not a data block, or none of its pages is live: there is nothing to gather.
+    NothingToGather = 15,
 }
 
 impl Refusal {
@@ -65,6 +67,7 @@ impl Refusal {
         Refusal::NoKeyBlock,
         Refusal::NoCommit,
         Refusal::EntryUnfit,
+        Refusal::NothingToGather,
     ];
 
     /// All refusals, by their numbers.
@@ -81,7 +84,7 @@ impl Refusal {
         Refusal::ALL.iter().copied()
     }
 
-    /// Document 01's number of it, from 1 on.
+    /// The documents' number of it, from 1 on.
     pub fn number(self) -> u32 {
         self as u32
     }
@@ -129,6 +132,9 @@ impl fmt::Display for Refusal {
             Refusal::NoKeyBlock => "a key block has no whole copy on the image",
             Refusal::NoCommit => "there is no whole commit block on the image",
             Refusal::EntryUnfit => "the image names a page that does not fit, or a key twice",
+            Refusal::NothingToGather => {
+                "nothing to gather: not a data block with a live page; name one of those that nodes are on"
+            }
         })
     }
 }
@@ -183,12 +189,12 @@ mod tests {
     use alloc::string::{String, ToString};
 
     #[test]
-    fn refusals_have_the_numbers_of_document_01() {
-        assert!(Refusal::all().map(Refusal::number).eq(1..=14));
+    fn refusals_have_the_numbers_of_the_documents() {
+        assert!(Refusal::all().map(Refusal::number).eq(1..=15));
         for refusal in Refusal::all() {
             assert_eq!(Refusal::of(refusal.number()), Some(refusal));
         }
-        assert_eq!([0, 15, 255].map(Refusal::of), [None; 3]);
+        assert_eq!([0, 16, 255].map(Refusal::of), [None; 3]);
     }
 
     #[test]
@@ -199,8 +205,8 @@ mod tests {
     }
 
     #[test]
-    #[should_panic(expected = "15 is the number of no reply")]
+    #[should_panic(expected = "16 is the number of no reply")]
     fn other_replies_are_no_refusals() {
-        let _ = Refusal::result(15);
+        let _ = Refusal::result(16);
     }
 }

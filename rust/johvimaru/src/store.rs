@@ -1,9 +1,10 @@
 //! The store: an image with its record.
 
 use crate::raw::{self, DONE};
-use crate::{ffi, Noise, Offset, Payload, Record, Refusal, Refused, PAYLOAD, PLACES};
+use crate::{ffi, room, Noise, Offset, Payload, Record, Refusal, Refused, BLOCK, PAYLOAD, PLACES};
 #[cfg(feature = "cut")]
 use crate::{Cut, Outcome, Unmounted};
+use alloc::vec::Vec;
 use core::fmt;
 
 /// An image and its working record, kept together.
@@ -103,13 +104,52 @@ impl<I: AsRef<[u8]> + AsMut<[u8]>> Store<I> {
         self.image.as_ref()
     }
 
+    /// How many pages writes, cut-offs and gathers can still take: the empty ones at the end of each data block,
+    /// and 16 for each empty block but one, which is kept for a commit. While 16 are left, a
+    /// [`gather`](Store::gather) of any block has room. It looks at every page, and is the crate's own: nothing
+    /// is proved of it.
+    ///
+    /// ```
+    /// # use johvimaru::{Noise, Offset, Store};
+    /// let mut store = Store::format(vec![0; 32_768], Noise::from_system()?)?;
+    /// assert_eq!(store.pages_left(), 64);
+    /// store.write(Offset::new(0, 0)?, b"track")?;
+    /// assert_eq!(store.pages_left(), 63);
+    /// # Ok::<(), Box<dyn std::error::Error>>(())
+    /// ```
+    pub fn pages_left(&self) -> usize {
+        room::pages_left(self.image())
+    }
+
+    /// How many live pages each block has, by block. A commit erases the data blocks that have none. It counts
+    /// the nodes anew at each call, and is the crate's own: nothing is proved of it. Document 02's #105 will
+    /// bring counts that the library keeps.
+    ///
+    /// ```
+    /// # use johvimaru::{Noise, Offset, Store};
+    /// let mut store = Store::format(vec![0; 32_768], Noise::from_system()?)?;
+    /// store.write(Offset::new(0, 0)?, b"track")?;
+    /// assert_eq!(store.live_pages(), [0, 0, 0, 1, 0, 0, 0, 0]);
+    /// # Ok::<(), Box<dyn std::error::Error>>(())
+    /// ```
+    pub fn live_pages(&self) -> Vec<usize> {
+        room::live_pages(&self.record, self.image().len() / BLOCK)
+    }
+
+    /// Of the data blocks that have a live page the one with the fewest, the lowest of several: the first of
+    /// [`Record::thin_blocks`].
+    pub fn thinnest(&self) -> Option<usize> {
+        self.record.thin_blocks().first().copied()
+    }
+
     /// Writes a payload of 1 to 224 bytes. What was at the offset before is replaced, and its key deleted.
     ///
     /// Spaces follow it on the page up to 224 bytes. They are enciphered with it; the page's header, which is
     /// not enciphered, has the length.
     ///
     /// Refused with [`Refusal::PayloadLength`], [`Refusal::NumbersSpent`], [`Refusal::NoFreeKey`] or
-    /// [`Refusal::NoRoom`]. Nothing is changed then; after the last two a commit may bring room.
+    /// [`Refusal::NoRoom`]. Nothing is changed then; after the last two a commit may bring room. Where it does
+    /// not, the blocks are thin: see [`gather`](Store::gather), which has to come in time.
     ///
     /// ```
     /// # use johvimaru::{Noise, Offset, Refusal, Store};
@@ -180,8 +220,39 @@ impl<I: AsRef<[u8]> + AsMut<[u8]>> Store<I> {
         Refusal::result(ffi::cut_off(image.as_mut(), &mut record.0, from.pair(), None))
     }
 
+    /// Copies each live page of a data block, the lowest first, to the page that a write would take outside
+    /// that block. Payload, length and key stay, and each copy has a sequence of its own, so all nodes read as
+    /// before. The block then has no live page: the next commit erases it, unless a write takes one of its pages
+    /// before. So commit next.
+    ///
+    /// Refused with [`Refusal::NothingToGather`], [`Refusal::NumbersSpent`] (a sequence for each copy) or
+    /// [`Refusal::NoRoom`]. Nothing is changed then. Where a write is refused for want of a page, so is every
+    /// gather: gather while [`pages_left`](Store::pages_left) are at least 16.
+    ///
+    /// ```
+    /// # use johvimaru::{Noise, Offset, Refusal, Store};
+    /// let mut store = Store::format(vec![0; 32_768], Noise::from_system()?)?;
+    /// let (kept, log) = (Offset::new(0, 0)?, Offset::new(0, 1)?);
+    /// store.write(kept, b"draught 4.12 m")?;
+    /// for _ in 0..40 {
+    ///     store.write(log, b"track")?;
+    /// }
+    /// // Block 3 is there for one node. It is gathered and given back.
+    /// assert_eq!((store.thinnest(), store.pages_left()), (Some(3), 23));
+    /// store.gather(3)?;
+    /// assert_eq!(store.gather(3), Err(Refusal::NothingToGather));
+    /// store.commit(Noise::from_system()?)?;
+    /// assert_eq!(store.pages_left(), 54);
+    /// assert_eq!(store.read(kept)?, b"draught 4.12 m");
+    /// # Ok::<(), Box<dyn std::error::Error>>(())
+    /// ```
+    pub fn gather(&mut self, block: usize) -> Result<(), Refusal> {
+        let Store { image, record } = self;
+        Refusal::result(ffi::gather(image.as_mut(), &mut record.0, number(block), None))
+    }
+
     /// Replaces every key that no live node has, so that what it enciphered cannot be read again, and
-    /// erases the data blocks without a live node.
+    /// erases the data blocks without a live page.
     ///
     /// Refused with [`Refusal::NumbersSpent`] or [`Refusal::NoRoom`].
     pub fn commit(&mut self, noise: Noise) -> Result<(), Refusal> {
@@ -197,6 +268,11 @@ impl<I: AsRef<[u8]> + AsMut<[u8]>> Store<I> {
         let Store { image, record } = self;
         Refusal::result(ffi::wipe(image.as_mut(), &mut record.0, noise.bytes(), from.pair(), None))
     }
+}
+
+/// A block as the library takes it. One that is too large for that is its largest, which is no block either.
+pub(crate) fn number(block: usize) -> u32 {
+    u32::try_from(block).unwrap_or(u32::MAX)
 }
 
 /// The calls in their form with n and k, which come with the feature `cut`. Each takes the store for good:
@@ -249,6 +325,28 @@ impl<I: AsRef<[u8]> + AsMut<[u8]>> Store<I> {
     pub fn cut_off_cut(mut self, from: Offset, cut: Cut) -> Result<Outcome<I>, Refused<Store<I>>> {
         let Store { image, record } = &mut self;
         let reply = ffi::cut_off(image.as_mut(), &mut record.0, from.pair(), Some(cut));
+        self.outcome(reply)
+    }
+
+    /// A gather that the power cuts. Each copy that is whole counts; the other nodes stay where they are.
+    ///
+    /// ```
+    /// # use johvimaru::{Cut, Noise, Offset, Store};
+    /// let mut store = Store::format(vec![0; 32_768], Noise::from_system()?)?;
+    /// let [first, second] = [Offset::new(0, 0)?, Offset::new(0, 1)?];
+    /// store.write(first, b"draught 4.12 m")?;
+    /// store.write(second, b"draught 6.80 m")?;
+    /// let store = store.gather_cut(3, Cut { n: 1, k: 100 })?.mounted()?;
+    /// let pages = [first, second].map(|at| store.record().node(at).map(|node| node.page));
+    /// assert_eq!(pages, [Some(64), Some(49)]);
+    /// assert_eq!(store.read(first)?, b"draught 4.12 m");
+    /// assert_eq!(store.read(second)?, b"draught 6.80 m");
+    /// assert_eq!(store.record().counts().deleted, 0);
+    /// # Ok::<(), Box<dyn std::error::Error>>(())
+    /// ```
+    pub fn gather_cut(mut self, block: usize, cut: Cut) -> Result<Outcome<I>, Refused<Store<I>>> {
+        let Store { image, record } = &mut self;
+        let reply = ffi::gather(image.as_mut(), &mut record.0, number(block), Some(cut));
         self.outcome(reply)
     }
 

@@ -1,4 +1,4 @@
-//! Each refusal, from 1 to 14.
+//! Each refusal, from 1 to 15.
 
 #[allow(dead_code)]
 mod common;
@@ -68,6 +68,9 @@ fn refusals_3_to_6_arguments() {
     assert_eq!(raw::commit(&mut image, &mut record, &[]), 3);
     assert_eq!(raw::wipe(&mut image, &mut record, &[], 14, 0), 3);
     assert_eq!(raw::cut_off(&mut image, &mut record, 14, 0), 4);
+    assert_eq!(raw::gather(&mut image[1..], &mut record, 256), 1);
+    record.map.pop();
+    assert_eq!(raw::gather(&mut image, &mut record, 256), 2);
 }
 
 /// An image that another hand changes: it lends a second one when it is told.
@@ -98,6 +101,7 @@ fn refusal_7_the_record() {
     assert_eq!(store.read(at(0, 0)), Err(Refusal::RecordUnfit));
     assert_eq!(store.write(at(0, 0), &[2; 224]), Err(Refusal::RecordUnfit));
     assert_eq!(store.cut_off(at(0, 0)), Err(Refusal::RecordUnfit));
+    assert_eq!(store.gather(0), Err(Refusal::RecordUnfit));
     assert_eq!(store.commit(noise(2)), Err(Refusal::RecordUnfit));
     assert_eq!(store.wipe(at(0, 0), noise(2)), Err(Refusal::RecordUnfit));
     which.set(0);
@@ -133,6 +137,7 @@ fn refusal_10_no_room() {
     }
     assert_eq!(store.write(at(0, 0), &[1; 224]), Err(Refusal::NoRoom));
     assert_eq!(store.cut_off(at(0, 0)), Err(Refusal::NoRoom));
+    assert_eq!(store.gather(6), Err(Refusal::NoRoom));
     let mut image = store.into_image();
     put(&mut image, 7 * 16, &page("D      65 13   0   0       0: "));
     let mut store = mounted(image).unwrap();
@@ -148,6 +153,8 @@ fn refusal_11_numbers_spent() {
     assert_eq!(store.record().next_sequence(), 100_000_000);
     assert_eq!(store.write(at(0, 0), &[1; 224]), Err(Refusal::NumbersSpent));
     assert_eq!(store.cut_off(at(0, 0)), Err(Refusal::NumbersSpent));
+    assert_eq!(store.gather(3), Err(Refusal::NumbersSpent));
+    assert_eq!(store.gather(4), Err(Refusal::NothingToGather), "15 comes first");
 
     let mut image = formatted(8).into_image();
     for page in 0..16 {
@@ -170,6 +177,44 @@ fn refusals_12_to_14_what_is_on_the_image() {
     unfit[2 * BLOCK + 2 * PAGE + 30..][..8].copy_from_slice(b"  48   0");
     assert_eq!(mounted(unfit).unwrap_err(), Refusal::EntryUnfit);
     assert!(mounted(image).is_ok());
+}
+
+/// Two copies are to be made, and there is one sequence, or one page. Nothing is programmed.
+#[test]
+fn a_gather_that_would_stop_on_its_way() {
+    let mut store = formatted(8);
+    for offset in (0..2).chain([2; 14]).chain([3; 47]) {
+        store.write(at(0, offset), &[1; 224]).unwrap();
+    }
+    assert_eq!((store.live_pages()[3], store.pages_left()), (3, 1));
+    let before = store.image().to_vec();
+    assert_eq!(store.gather(3), Err(Refusal::NoRoom));
+    assert_eq!(store.gather(6), Err(Refusal::NoRoom), "its own page does not count");
+    assert!(store.image() == before);
+
+    let mut image = formatted(8).into_image();
+    put(&mut image, 3 * 16, &page("N99999997  0   0   0       0: "));
+    put(&mut image, 3 * 16 + 1, &page("N99999998  0   1   1       0: "));
+    let mut store = mounted(image.clone()).unwrap();
+    assert_eq!(store.gather(3), Err(Refusal::NumbersSpent));
+    assert!(store.image() == image);
+    store.cut_off(at(0, 1)).unwrap();
+    assert_eq!(store.gather(3), Err(Refusal::NumbersSpent), "the cut-off took the last one");
+}
+
+#[test]
+fn refusal_15_nothing_to_gather() {
+    let mut store = formatted(8);
+    for _ in 0..17 {
+        store.write(at(0, 0), &[1; 224]).unwrap();
+    }
+    let before = store.image().to_vec();
+    // Keys, commit, a data block without a live page, an empty block, and what is none.
+    for block in [0, 1, 2, 3, 5, 7, 8, 255, 256, 4_095, 65_535, u32::MAX as usize, usize::MAX] {
+        assert_eq!(store.gather(block), Err(Refusal::NothingToGather), "{block}");
+    }
+    assert!(store.image() == before);
+    assert_eq!(store.gather(4), Ok(()));
 }
 
 /// A refused mount gives the image back as it was.

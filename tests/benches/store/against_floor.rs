@@ -1,6 +1,7 @@
 //! The library beside the floor: first the same bytes, then the times.
 
 use crate::bed::{Bed, Side, What};
+use crate::gathers;
 use johvimaru_tests::ffi;
 use johvimaru_tests::floor::{Floor, COMPILER};
 use johvimaru_tests::model::files::{self, PLACES};
@@ -46,15 +47,18 @@ pub fn compare_results() {
 pub fn times() {
     if let Some(floor) = Floor::open() {
         compare_times(floor);
+        gathers::times(floor);
     }
     short_reads();
     cut_offs();
 }
 
 /// The calls that are tried on what every call of a list finds, on the first place with a page.
-fn calls(store: &Store) -> [Call; 6] {
+fn calls(store: &Store) -> [Call; 7] {
     let mut pages = store.record.map.iter().take(PLACES);
-    let (file, offset) = files::node(pages.position(|&page| page != NONE).unwrap_or(0));
+    let place = pages.position(|&page| page != NONE).unwrap_or(0);
+    let block = store.record.map.get(place).map_or(0, |&page| u32::from(page) / 16);
+    let (file, offset) = files::node(place);
     let (file, offset, noise) = (file as u32, offset as u32, FORMAT_NOISE);
     [
         Call::Write { file, offset, payload: payload(1) },
@@ -63,6 +67,7 @@ fn calls(store: &Store) -> [Call; 6] {
         Call::Commit { noise },
         Call::Wipe { file, offset, noise },
         Call::CutOff { file, offset },
+        Call::Gather { block },
     ]
 }
 
@@ -98,6 +103,7 @@ fn compare_lists(floor: Floor) {
     tally.require("cut-off", &[0, 1, 2, 4, 5, 7, 8, 11, 10]);
     tally.require("commit", &[0, 1, 2, 3, 7, 11, 10]);
     tally.require("wipe", &[0, 1, 2, 3, 4, 5, 7, 11, 10]);
+    tally.require("gather", &[0, 1, 2, 7, 15, 11, 10]);
 }
 
 /// Panics where floor and library differ on the images to be timed.
@@ -109,12 +115,13 @@ fn compare_settings(floor: Floor) {
             assert!(same, "{}, {}: the floor differs", setting.name, what.name());
         }
     }
+    gathers::compare_results(floor);
 }
 
 /// How often a call is timed: rounds, and times in a round.
 fn often(setting: &Setting, what: What) -> (usize, usize) {
     match what {
-        What::Write | What::Read | What::ShortRead | What::CutOff => (1_000, 10),
+        What::Write | What::Read | What::ShortRead | What::CutOff | What::Gather => (1_000, 10),
         _ if setting.blocks > 32 => (200, 4),
         _ => (500, 8),
     }

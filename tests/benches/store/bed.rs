@@ -5,11 +5,12 @@ use johvimaru::raw::{self as recorder, Record, DONE};
 use johvimaru_tests::floor::Floor;
 use johvimaru_tests::model::files::PLACES;
 use johvimaru_tests::model::pages::{PAGE, PAYLOAD};
-use johvimaru_tests::settings::{payload, Setting, FORMAT_NOISE, SHORT};
+use johvimaru_tests::settings::{full_block, payload, Setting, FORMAT_NOISE, SHORT};
 use johvimaru_tests::timing::Way;
 use std::cell::RefCell;
 
-/// A call. Those that take a place take the first of file 0.
+/// A call. Those that take a place take the first of file 0, and a gather takes the first block with 16 live
+/// pages.
 #[derive(Clone, Copy, Debug, PartialEq, Eq)]
 pub enum What {
     Write,
@@ -20,9 +21,11 @@ pub enum What {
     Commit,
     Wipe,
     CutOff,
+    Gather,
 }
 
 impl What {
+    /// Those that every setting has room for.
     pub const ALL: [What; 7] = [
         What::Write,
         What::Read,
@@ -34,7 +37,7 @@ impl What {
     ];
 
     pub fn name(self) -> &'static str {
-        ["write", "read", "read 40", "mount", "commit", "wipe", "cut-off"][self as usize]
+        ["write", "read", "read 40", "mount", "commit", "wipe", "cut-off", "gather"][self as usize]
     }
 
     /// The length of the payload that the call finds at its place.
@@ -68,6 +71,7 @@ pub struct Bed {
     pub before: Lent,
     pub now: Lent,
     changed: Vec<usize>,
+    block: u32,
     payload: Vec<u8>,
     noise: Vec<u8>,
 }
@@ -78,8 +82,8 @@ impl Bed {
         let (image, record) = setting.lent_with(what.length());
         let before = Lent { image, record, scratch: vec![0; PLACES], output: vec![0; PAYLOAD] };
         let (payload, noise) = (payload(1_000_000).bytes(), FORMAT_NOISE.bytes());
-        let changed = Vec::new();
-        let mut bed = Bed { what, now: before.clone(), before, changed, payload, noise };
+        let (changed, block) = (Vec::new(), full_block(&before.record));
+        let mut bed = Bed { what, now: before.clone(), before, changed, block, payload, noise };
         bed.make(Side::Ours);
         let pages = bed.now.image.chunks_exact(PAGE).zip(bed.before.image.chunks_exact(PAGE));
         bed.changed = (0..).zip(pages).filter(|(_, (a, b))| a != b).map(|(g, _)| g).collect();
@@ -111,6 +115,8 @@ impl Bed {
             (What::Wipe, Side::Floor(floor)) => floor.wipe(image, record, &self.noise, 0, 0),
             (What::CutOff, Side::Ours) => recorder::cut_off(image, record, 0, 0),
             (What::CutOff, Side::Floor(floor)) => floor.cut_off(image, record, 0, 0),
+            (What::Gather, Side::Ours) => recorder::gather(image, record, self.block),
+            (What::Gather, Side::Floor(floor)) => floor.gather(image, record, self.block),
         };
         assert_eq!(reply, DONE);
     }

@@ -8,13 +8,17 @@ use johvimaru::raw::{self as recorder, Record, DONE};
 use johvimaru_tests::floor::Floor;
 use johvimaru_tests::model::files::PLACES;
 use johvimaru_tests::model::pages::PAYLOAD;
-use johvimaru_tests::settings::{payload, Setting, FORMAT_NOISE, SETTINGS, SHORT};
+use johvimaru_tests::settings::{
+    full_block, payload, Setting, FORMAT_NOISE, GATHER_SETTINGS, SETTINGS, SHORT,
+};
 use std::collections::BTreeMap;
 use std::path::Path;
 use std::process::Command;
 
-/// The calls, as the library's functions end. A short read is one of 40 bytes.
-const CALLS: [&str; 6] = ["write", "read", SHORT_READ, "mount", "commit", "cut_off"];
+/// The calls, as the library's functions end. A short read is one of 40 bytes; a gather has 16 live pages and
+/// images of its own.
+const CALLS: [&str; 7] = ["write", "read", SHORT_READ, "mount", "commit", "cut_off", GATHER];
+const GATHER: &str = "gather";
 const SHORT_READ: &str = "short_read";
 
 /// The two sides.
@@ -46,11 +50,20 @@ fn main() {
         [] => print_table(),
         [word] if word == "save" => print_sums(),
         [side, call, at] => {
-            let setting = &SETTINGS[at.parse::<usize>().expect("the number of an image")];
+            let setting = &settings(call)[at.parse::<usize>().expect("the number of an image")];
             let reply = if side == OURS { ours(call, setting) } else { floor(call, setting) };
             assert_eq!(reply, DONE);
         }
         _ => panic!("no words, `save`, or a side, a call and the number of an image"),
+    }
+}
+
+/// The images that a call is made on.
+fn settings(call: &str) -> &'static [Setting] {
+    if call == GATHER {
+        &GATHER_SETTINGS
+    } else {
+        &SETTINGS
     }
 }
 
@@ -70,6 +83,7 @@ fn ours(call: &str, setting: &Setting) -> u32 {
         "mount" => recorder::mount(&mut image, of, &mut [0; PLACES]),
         "commit" => recorder::commit(&mut image, of, &noise),
         "cut_off" => recorder::cut_off(&mut image, of, 0, 0),
+        GATHER => recorder::gather(&mut image, of, full_block(of)),
         _ => panic!("no call {call}"),
     }
 }
@@ -86,6 +100,7 @@ fn floor(call: &str, setting: &Setting) -> u32 {
         "mount" => floor.mount(&mut image, of, &mut [0; PLACES]),
         "commit" => floor.commit(&mut image, of, &noise),
         "cut_off" => floor.cut_off(&mut image, of, 0, 0),
+        GATHER => floor.gather(&mut image, of, full_block(of)),
         _ => panic!("no call {call}"),
     }
 }
@@ -160,7 +175,7 @@ fn print_table() {
     println!("| call | image | before | now | floor | {} |", names.join(" | "));
     println!("|---|---|---:|---:|---:|{}", "---:|".repeat(names.len()));
     for call in CALLS {
-        for (at, setting) in SETTINGS.iter().enumerate() {
+        for (at, setting) in settings(call).iter().enumerate() {
             let mut sums = [0; COLUMNS.len()];
             let counts = count(OURS, call, at);
             counts.iter().for_each(|(function, cost)| sums[column(function)] += cost);
@@ -176,7 +191,7 @@ fn print_table() {
 
 fn print_sums() {
     for call in CALLS {
-        for at in 0..SETTINGS.len() {
+        for at in 0..settings(call).len() {
             println!("{call} {at} {}", count(OURS, call, at).values().sum::<u64>());
         }
     }

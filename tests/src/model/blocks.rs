@@ -139,15 +139,18 @@ impl Commit {
 }
 
 /// The page that a write or cut-off takes: the lowest open page of a data block, or a fresh block's
-/// first page while another block stays empty.
-pub fn page_to_take<'a>(blocks: impl Iterator<Item = &'a [Page]>) -> Option<usize> {
+/// first page while another block stays empty. A gather leaves out the block that it gathers.
+pub fn page_to_take<'a>(
+    blocks: impl Iterator<Item = &'a [Page]>,
+    left_out: Option<usize>,
+) -> Option<usize> {
     let mut empty_blocks = Vec::new();
     for (number, pages) in blocks.enumerate() {
         let used =
             PAGES_IN_BLOCK - pages.iter().rev().take_while(|page| is_empty(&[**page])).count();
         if used == 0 {
             empty_blocks.push(number);
-        } else if used < PAGES_IN_BLOCK && is_data(pages) {
+        } else if used < PAGES_IN_BLOCK && Some(number) != left_out && is_data(pages) {
             return Some(PAGES_IN_BLOCK * number + used);
         }
     }

@@ -1,5 +1,5 @@
 //! Document 01, "The plain book of demand 3". It is fed with the calls, their arguments, replies and
-//! cuts, and never looks at the image.
+//! cuts, and never looks at the image. A gather, cut or not, leaves it as it is.
 
 use super::calls::{CUT, DONE};
 use super::files::{self, PLACES};
@@ -99,7 +99,7 @@ impl Book {
         };
         let made_whole = |step| reached(step) == PAGE;
         match call {
-            Call::Mount { .. } | Call::Read { .. } => {}
+            Call::Mount { .. } | Call::Read { .. } | Call::Gather { .. } => {}
             Call::Write { file, offset, .. } | Call::Append { file, offset, .. } => {
                 if made_whole(0) {
                     self.write(file, offset, written(call));

@@ -1,17 +1,18 @@
 //! Document 01, demand 3 ("The plain book of demand 3", "Contracts and cases"): a list of calls with
-//! cuts, run on the model beside the book, and what must hold after each call.
+//! cuts, run on a store beside the book, and what must hold after each call.
 
 use super::aes;
 use super::blocks::page_to_take;
 use super::book::{Book, Key};
 use super::calls::{self, Refusal, CUT, DONE};
+use super::copies;
 use super::files::{self, PLACES};
-use super::image::{blocks, pages, Power, Step, BLOCK, PAGES_IN_BLOCK};
+use super::image::{blocks, pages, play, Power, Step, BLOCK, PAGES_IN_BLOCK};
 use super::keys::{in_noise, Slot, NOISE, POSITIONS};
 use super::list::{Call, Data, Event, Lent};
 use super::origin::{Origin, Origins};
-use super::pages::{Form, Header, FREE, HEADER, PAGE, PAYLOAD, SPACE};
-use super::record::{Record, LETTERS, MAP, SCRATCH};
+use super::pages::{Header, Page, FREE, HEADER, LAST, PAGE, PAYLOAD, PAYLOAD_BYTES, SPACE};
+use super::record::{Numbers, Record, LETTERS, MAP, SCRATCH};
 use super::store::Store;
 use crate::rng::Rng;
 use std::collections::HashMap;
@@ -19,9 +20,58 @@ use std::collections::HashMap;
 /// What does not hold, in words.
 pub type Broken = String;
 
+/// What a call does: its reply where the power stays on, its steps and the record after them.
+pub struct Way {
+    /// The reply.
+    pub reply: u32,
+    /// The steps.
+    pub steps: Vec<Step>,
+    /// The record.
+    pub record: Record,
+}
+
+/// Who does the calls of a run.
+#[derive(Clone, Copy)]
+pub enum Maker {
+    /// The second implementation.
+    Second,
+    /// The same, but that gathers go this way.
+    Gathers(fn(&Store, usize) -> Way),
+    /// This function. The steps are to be those of the second implementation.
+    Other(fn(&mut Store, Call, Power) -> u32),
+}
+
+impl Maker {
+    /// The steps that a call has.
+    fn steps(self, store: &Store, call: Call) -> Vec<Step> {
+        match (self, call) {
+            (Maker::Gathers(way), Call::Gather { block }) => way(store, block).steps,
+            _ => store.steps(call),
+        }
+    }
+
+    /// Does a call. Gives the reply.
+    fn call(self, store: &mut Store, call: Call, power: Power) -> u32 {
+        match (self, call) {
+            (Maker::Gathers(way), Call::Gather { block }) => {
+                let Way { reply, steps, record } = way(store, block);
+                store.record = record;
+                if play(&mut store.image, &steps, power) {
+                    reply
+                } else {
+                    CUT
+                }
+            }
+            (Maker::Other(function), _) => function(store, call, power),
+            _ => store.call_with(call, power),
+        }
+    }
+}
+
 /// A run of a list: the store, whether the power is on, and beside them the book.
 #[derive(Clone)]
 pub struct Run {
+    maker: Maker,
     /// Image and record. The record is of no use while the power is off.
     pub store: Store,
     /// Whether the last call was not cut, or a mount has finished since.
@@ -33,16 +83,19 @@ pub struct Run {
     noises: Vec<Vec<u8>>,
     /// For each key the node that it has enciphered, on whatever pages, erased ones too.
     nodes: HashMap<Key, Node>,
+    /// The sequence that format's commit block covers.
+    covered: u32,
     seed: u64,
 }
 
-/// A node: its file, offset and second number, and all bytes that its key enciphers.
+/// A node: its file, offset and second number, all bytes that its key enciphers, and what they are then.
 #[derive(Clone, Debug, PartialEq, Eq)]
 struct Node {
     file: usize,
     offset: usize,
     second: u32,
     bytes: Vec<u8>,
+    stored: Vec<u8>,
 }
 
 impl Node {
@@ -52,13 +105,21 @@ impl Node {
             Call::Write { file, offset, payload } => {
                 let padding = vec![SPACE; PAYLOAD - payload.length];
                 let bytes = [payload.bytes(), padding].concat();
-                Some(Node { file, offset, second: payload.length as u32, bytes })
+                let second = payload.length as u32;
+                Some(Node { file, offset, second, bytes, stored: Vec::new() })
             }
             Call::Append { file, offset, second, bytes } => {
-                Some(Node { file, offset, second, bytes: bytes.bytes() })
+                let bytes = bytes.bytes();
+                Some(Node { file, offset, second, bytes, stored: Vec::new() })
             }
             _ => None,
         }
+    }
+
+    /// Its header, with this sequence and key position.
+    fn header(&self, sequence: u32, key: usize) -> Header {
+        let &Node { file, offset, second, .. } = self;
+        Header::Node { sequence, file, offset, key, second }
     }
 }
 
@@ -74,6 +135,11 @@ macro_rules! ensure {
 impl Run {
     /// Formats an image of so many blocks that held random bytes.
     pub fn new(blocks: usize, seed: u64) -> Run {
+        Run::by(Maker::Second, blocks, seed)
+    }
+
+    /// The same, and the calls are then done by this maker.
+    pub fn by(maker: Maker, blocks: usize, seed: u64) -> Run {
         let mut rng = Rng::new(seed);
         let mut store = Store { image: rng.bytes(BLOCK * blocks), record: Record::blank() };
         let noise = Data::noise(rng.number());
@@ -85,7 +151,24 @@ impl Run {
         let key = |position| Key::new(position, 0);
         origins.follow(&steps.expect("the format was taken"), Power::STAYS, key, key);
         let (book, nodes) = (Book::new(), HashMap::new());
-        Run { store, on: true, book, origins, noises: vec![noise], nodes, seed }
+        Run { maker, store, on: true, book, origins, noises: vec![noise], nodes, covered: 0, seed }
+    }
+
+    /// The same, but that the commit block covers this sequence, so that the next is the one after it.
+    pub fn late(maker: Maker, blocks: usize, seed: u64, covered: u32) -> Run {
+        let mut run = Run::by(maker, blocks, seed);
+        let Store { image, record } = &mut run.store;
+        let block = &mut image[BLOCK * record.numbers.commit as usize..][..BLOCK];
+        let (pages, _) = block.as_chunks_mut::<PAGE>();
+        for page in pages as &mut [Page] {
+            if let Some(Header::Commit { epoch, part, .. }) = Header::parse(page) {
+                let header = Header::Commit { epoch, part, covered };
+                page[..HEADER].copy_from_slice(&header.spell());
+            }
+        }
+        record.numbers.sequence = covered + 1;
+        run.covered = covered;
+        run
     }
 
     /// Does one call and holds it to the book. Gives the reply, or none where the power is off and the
@@ -105,19 +188,46 @@ impl Run {
         }
 
         let before = self.store.clone();
-        let steps = before.steps(call);
-        let reply = self.store.call_with(call, power);
-        self.check_reply(&before.image, call, reply)?;
+        let steps = self.maker.steps(&before, call);
+        let reply = self.maker.call(&mut self.store, call, power);
+        self.check_reply(&before, call, reply)?;
         let is_cut = power.steps < steps.len();
         ensure!((reply == CUT) == is_cut, "reply {reply}, the call has {} steps", steps.len());
         match reply {
             DONE | CUT => {
+                self.check_played(&before, &steps, power)?;
                 self.check_programs(event, &before, &steps)?;
+                self.check_copies(call, &before, &steps)?;
                 self.enter(number, event, reply, before, &steps)?;
             }
             refusal => self.check_refused(call, refusal, before)?,
         }
         Ok(Some(reply))
+    }
+
+    /// The image is what the steps leave of the one before.
+    fn check_played(&self, before: &Store, steps: &[Step], power: Power) -> Result<(), Broken> {
+        let mut image = before.image.clone();
+        play(&mut image, steps, power);
+        ensure!(image == self.store.image, "another image than its steps leave");
+        Ok(())
+    }
+
+    /// A gather programs a copy of each live page of its block and that alone, and then the block has no live
+    /// page.
+    fn check_copies(&self, call: Call, before: &Store, steps: &[Step]) -> Result<(), Broken> {
+        let Call::Gather { block } = call else {
+            return Ok(());
+        };
+        let copies = copies::steps(before, block);
+        let (found, expected) = (steps.len(), copies.len());
+        ensure!(found == expected, "{found} steps, block {block} has {expected} live pages");
+        let other = (0..).zip(steps.iter().zip(&copies)).find(|(_, (step, copy))| step != copy);
+        let other = other.map(|(number, _)| number);
+        ensure!(other.is_none(), "step {other:?} is not the copy of its page");
+        let live = copies::live_pages(&self.store.record.map, block);
+        ensure!(live.is_empty(), "block {block} still has the live pages {live:?}");
+        Ok(())
     }
 
     /// A write that is taken programs its node and that alone, under the key that the lowest f then has
@@ -128,7 +238,7 @@ impl Run {
         before: &Store,
         steps: &[Step],
     ) -> Result<(), Broken> {
-        let Some(node) = Node::of(event.call) else {
+        let Some(mut node) = Node::of(event.call) else {
             return Ok(());
         };
         let lowest = self.book.marks.iter().position(|&mark| mark == FREE);
@@ -136,13 +246,11 @@ impl Run {
         let key = self.book.key(position);
         let noise = &self.noises[key.call as usize][in_noise(position)];
 
-        let mut enciphered = node.bytes.clone();
-        aes::stream(noise.try_into().expect("16 bytes of noise"), &mut enciphered);
-        let Node { file, offset, second, .. } = node;
-        let sequence = before.record.numbers.sequence;
-        let header = Header::Node { sequence, file, offset, key: position, second };
-        let page = page_to_take(blocks(&before.image)).expect("the call was not refused");
-        let programs = Step::Program { page, bytes: Box::new(header.page(&enciphered)) };
+        node.stored = node.bytes.clone();
+        aes::stream(noise.try_into().expect("16 bytes of noise"), &mut node.stored);
+        let header = node.header(before.record.numbers.sequence, position);
+        let page = page_to_take(blocks(&before.image), None).expect("the call was not refused");
+        let programs = Step::Program { page, bytes: Box::new(header.page(&node.stored)) };
         ensure!(*steps == [programs], "another page than that of the node");
 
         let old = self.nodes.get(&key);
@@ -179,7 +287,9 @@ impl Run {
             false => Key::new(position, number),
         };
         self.origins.follow(steps, power, |position| book.key(position), copied);
+        self.origins.clear_empty_blocks(&self.store.image);
 
+        self.check_pages_under_keys()?;
         self.on = reply == DONE;
         if !self.on {
             self.spoil_record();
@@ -215,7 +325,7 @@ impl Run {
         record.map.resize(record.map.len().saturating_add_signed(lent.map), 0);
         record.letters.resize(record.letters.len().saturating_add_signed(lent.letters), FREE);
         let wrong = self.store.clone();
-        let reply = self.store.call_with(call, power);
+        let reply = self.maker.call(&mut self.store, call, power);
         let expected = if lent.image != 0 { Refusal::Image } else { Refusal::Lengths };
         ensure!(reply == expected.number(), "reply {reply} to a wrong length");
         self.check_refused(call, reply, wrong)?;
@@ -223,21 +333,27 @@ impl Run {
         Ok(reply)
     }
 
-    /// The reply is one that the book and the image that the call found allow.
-    fn check_reply(&self, image: &[u8], call: Call, reply: u32) -> Result<(), Broken> {
-        let expected = self.expected_reply(call).map_or_else(Refusal::number, |()| DONE);
+    /// The reply is one that the book and what the call found allow.
+    fn check_reply(&self, before: &Store, call: Call, reply: u32) -> Result<(), Broken> {
+        let expected = match call {
+            Call::Gather { block } => copies::reply(before, block),
+            _ => self
+                .expected_reply(before.record.numbers, call)
+                .map_or_else(Refusal::number, |()| DONE),
+        };
         let no_page = || {
             matches!(call, Call::Write { .. } | Call::Append { .. } | Call::CutOff { .. })
                 && reply == Refusal::NoRoom.number()
-                && !has_page(image)
+                && !has_page(&before.image)
         };
         let right = reply == expected || expected == DONE && (reply == CUT || no_page());
         ensure!(right, "reply {reply}, by the book it is {expected}");
         Ok(())
     }
 
-    /// The reply by the arguments and the book, where there is a page for the call and it is not cut.
-    fn expected_reply(&self, call: Call) -> Result<(), Refusal> {
+    /// The reply by the arguments, the book and the next numbers, where there is a page for the call and it is
+    /// not cut. A gather's is in [`copies`].
+    fn expected_reply(&self, next: Numbers, call: Call) -> Result<(), Refusal> {
         let test = |holds: bool, refusal| if holds { Ok(()) } else { Err(refusal) };
         let test_node = |file, offset| match files::COUNTS.get(file) {
             Some(&count) => test(offset < count, Refusal::Offset),
@@ -248,6 +364,7 @@ impl Run {
             Call::Write { file, offset, .. } | Call::Append { file, offset, .. } => {
                 test_node(file, offset)?;
                 test(call.has_right_lengths(), Refusal::Payload)?;
+                test(next.sequence <= LAST, Refusal::NoNumber)?;
                 test(self.book.marks.contains(&FREE), Refusal::NoKey)
             }
             Call::Read { file, offset, output } => {
@@ -259,13 +376,19 @@ impl Run {
             Call::CutOff { file, offset } => {
                 test_node(file, offset)?;
                 let live = self.book.places[files::rest(file, offset)].iter().any(Option::is_some);
-                test(live, Refusal::NoNode)
+                test(live, Refusal::NoNode)?;
+                test(next.sequence <= LAST, Refusal::NoNumber)
             }
-            Call::Commit { noise } => test(noise.length == NOISE, Refusal::Noise),
+            Call::Commit { noise } => {
+                test(noise.length == NOISE, Refusal::Noise)?;
+                test(next.epoch <= LAST, Refusal::NoNumber)
+            }
             Call::Wipe { file, offset, noise } => {
                 test(noise.length == NOISE, Refusal::Noise)?;
-                test_node(file, offset)
+                test_node(file, offset)?;
+                test(next.epoch < LAST, Refusal::NoNumber)
             }
+            Call::Gather { .. } => Ok(()),
         }
     }
 
@@ -283,13 +406,58 @@ impl Run {
             let (letter, mark) = (char::from(letter), char::from(mark));
             ensure!(letter == mark, "position {position}: letter {letter}, in the book {mark}");
         }
+        self.check_counted()?;
         self.check_keys()
+    }
+
+    /// A call uses up as many sequences at most as a block has pages, or two epochs.
+    fn check_counted(&self) -> Result<(), Broken> {
+        let (calls, numbers) = (self.noises.len(), self.store.record.numbers);
+        let sequences = (numbers.sequence - self.covered) as usize;
+        ensure!(sequences <= PAGES_IN_BLOCK * calls, "sequence {sequences} after {calls} calls");
+        let epoch = numbers.epoch as usize;
+        ensure!(epoch <= 2 * calls, "epoch {epoch} after {calls} calls");
+        Ok(())
+    }
+
+    /// All pages on the flash under one key are of one node: every byte that a key enciphered is the node's
+    /// at its place in the page, and where a header can be read it is the node's.
+    pub fn check_pages_under_keys(&self) -> Result<(), Broken> {
+        let origins = self.origins.bytes().chunks_exact(PAGE);
+        for (number, (page, origins)) in pages(&self.store.image).iter().zip(origins).enumerate() {
+            let key = origins.iter().find_map(|origin| match origin {
+                Origin::Enciphered(key) => Some(*key),
+                _ => None,
+            });
+            let is_right = key.is_none_or(|key| self.is_page_under_key(key, page, origins));
+            ensure!(is_right, "page {number} is not of the node of {key:?}");
+        }
+        Ok(())
+    }
+
+    /// Whether the bytes of a page that were enciphered, and its header if it has one, are of the node that a
+    /// key has.
+    fn is_page_under_key(&self, key: Key, page: &Page, origins: &[Origin]) -> bool {
+        let Some(node) = self.nodes.get(&key) else {
+            return false;
+        };
+        let header = Header::parse(page);
+        let is_headed = match header {
+            Some(Header::Node { sequence, .. }) => {
+                header == Some(node.header(sequence, usize::from(key.position)))
+            }
+            other => other.is_none(),
+        };
+        let stored = PAYLOAD_BYTES.zip(&node.stored);
+        let mut bytes = stored.filter(|&(at, _)| origins[at] != Origin::Nothing);
+        is_headed
+            && bytes.all(|(at, &byte)| origins[at] == Origin::Enciphered(key) && page[at] == byte)
     }
 
     /// A mount is accepted, erases nothing and gives the record.
     fn check_mount(&self) -> Result<(), Broken> {
         let mut store = Store { record: Record::blank(), ..self.store.clone() };
-        let reply = store.cut(Call::MOUNT, 0, 0);
+        let reply = self.maker.call(&mut store, Call::MOUNT, Power::cut(0, 0));
         ensure!(reply == DONE, "a mount replies {reply}");
         ensure!(store.image == self.store.image, "a mount changes the image");
         let (found, own) = (&store.record, &self.store.record);
@@ -298,7 +466,7 @@ impl Run {
     }
 
     /// Each slot of the chosen key blocks holds its position's key, and no key is anywhere else. No byte
-    /// is under the key of a free position, and no two pages were ever under one key.
+    /// is or was under the key of a free position.
     fn check_keys(&self) -> Result<(), Broken> {
         let Store { image, record } = &self.store;
         for position in 0..POSITIONS {
@@ -321,13 +489,11 @@ impl Run {
             let key = self.book.key(position);
             ensure!(!self.origins.enciphered.contains(&key), "free {key:?} has enciphered a page");
         }
-        let twice = &self.origins.enciphered_twice;
-        ensure!(twice.is_empty(), "{twice:?} have enciphered two pages");
         Ok(())
     }
 
-    /// Reads give the book's payload or 8: at every place with a payload after a mount, commit or wipe,
-    /// else at the place of the call; and at some others.
+    /// Reads give the book's payload or 8: at every place with a payload after a mount, commit, wipe or
+    /// gather, else at the place of the call; and at some others.
     fn check_reads(&self, call: Call) -> Result<(), Broken> {
         let mut rng = self.rng();
         let mut places: Vec<usize> = (0..4).map(|_| rng.below(PLACES)).collect();
@@ -336,7 +502,7 @@ impl Run {
             | Call::Append { file, offset, .. }
             | Call::Read { file, offset, .. }
             | Call::CutOff { file, offset } => places.extend(files::place(file, offset)),
-            Call::Mount { .. } | Call::Commit { .. } | Call::Wipe { .. } => {
+            Call::Mount { .. } | Call::Commit { .. } | Call::Wipe { .. } | Call::Gather { .. } => {
                 places.extend((0..PLACES).filter(|&place| self.book.places[place].is_some()));
             }
         }
@@ -379,7 +545,7 @@ impl Run {
                 *byte = fill.unwrap_or_else(|| rng.number() as u8);
             }
         }
-        let reply = store.call(call);
+        let reply = self.maker.call(&mut store, call, Power::STAYS);
         ensure!(reply == DONE, "with other dead keys the reply is {reply}");
         ensure!(store.image == self.store.image, "with other dead keys the image differs");
         ensure!(store.record == self.store.record, "with other dead keys the record differs");
@@ -399,19 +565,18 @@ impl Run {
 
 /// Whether there is a page for a write, each page being tried by the words of the document.
 fn has_page(image: &[u8]) -> bool {
-    let forms: Vec<Form> = pages(image).iter().map(Form::of).collect();
-    let all_empty = |forms: &[Form]| forms.iter().all(|form| *form == Form::Empty);
-    let in_data_block = (0..forms.len()).any(|page| {
-        let start = page / PAGES_IN_BLOCK * PAGES_IN_BLOCK;
-        let block = &forms[start..start + PAGES_IN_BLOCK];
-        all_empty(&block[page - start..]) && block.iter().any(Form::is_data)
-    });
-    in_data_block || forms.chunks(PAGES_IN_BLOCK).filter(|block| all_empty(block)).count() >= 2
+    let forms = copies::forms(image);
+    let in_data_block = (0..forms.len()).any(|page| copies::is_open(&forms, page));
+    in_data_block || copies::empty_blocks(&forms).len() >= 2
 }
 
 /// Runs a list of calls on an image of so many blocks, and reads all places at its end.
 pub fn run(blocks: usize, seed: u64, events: &[Event]) -> Result<Run, Broken> {
-    let mut run = Run::new(blocks, seed);
+    run_on(Run::new(blocks, seed), events)
+}
+
+/// Runs a list of calls further, and reads all places at its end.
+pub fn run_on(mut run: Run, events: &[Event]) -> Result<Run, Broken> {
     run.check_at_rest()?;
     for (number, event) in events.iter().enumerate() {
         run.step(event).map_err(|broken| format!("call {}: {broken}", number + 1))?;

@@ -1,5 +1,5 @@
 //! Document 01, "Contracts and cases": a list of calls on one image and record, any of which may be
-//! cut, at any n and k.
+//! cut, at any n and k. Gathers, of document 02, are among them.
 
 use super::calls::Node;
 use super::image::Power;
@@ -68,6 +68,11 @@ pub enum Call {
         /// The noise.
         noise: Data,
     },
+    /// Gather.
+    Gather {
+        /// The block.
+        block: usize,
+    },
 }
 
 /// Bytes by their length and the seed that gives them, so that a list can be printed small.
@@ -95,9 +100,15 @@ impl Data {
         Data { length: NOISE, seed }
     }
 
-    /// The bytes.
+    /// The bytes. The last seeds give odd ones: what is erased, zeros, and the text of a node's header.
     pub fn bytes(self) -> Vec<u8> {
-        Rng::new(self.seed).bytes(self.length)
+        let header = b"N       7  0   0   1      40: ";
+        match u64::MAX - self.seed {
+            0 => vec![0xff; self.length],
+            1 => vec![0; self.length],
+            2 => header.iter().copied().cycle().take(self.length).collect(),
+            _ => Rng::new(self.seed).bytes(self.length),
+        }
     }
 }
 
@@ -115,6 +126,7 @@ impl Call {
             Call::CutOff { .. } => "cut-off",
             Call::Commit { .. } => "commit",
             Call::Wipe { .. } => "wipe",
+            Call::Gather { .. } => "gather",
         }
     }
 

@@ -8,16 +8,17 @@
 //! - [`image`]: the flash image, its two steps and a power cut.
 //! - [`blocks`]: key blocks, commit blocks and data blocks.
 //! - [`record`]: the working record and its fit.
-//! - [`calls`]: the seven calls; [`store`]: an image with its
+//! - [`calls`]: the eight calls; [`store`]: an image with its
 //!   record, and a call on them.
 //! - [`listing`]: the text that the listing program prints.
 //! - [`list`], [`book`], [`origin`] and [`demand`]: lists of calls with cuts, the plain book, where each
-//!   byte of the flash comes from, and demand 3 as a test.
+//!   byte of the flash comes from, and demand 3 as a test; [`copies`]: what it asks of a gather.
 
 pub mod aes;
 pub mod blocks;
 pub mod book;
 pub mod calls;
+pub mod copies;
 pub mod demand;
 pub mod files;
 pub mod image;

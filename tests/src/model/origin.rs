@@ -4,7 +4,7 @@
 use super::book::Key;
 use super::image::{Power, Step, BLOCK};
 use super::keys::{KEY, POSITIONS_IN_BLOCK, SLOTS};
-use super::pages::{Header, HEADER, PAGE, PAYLOAD_BYTES};
+use super::pages::{Header, ERASED, HEADER, PAGE, PAYLOAD_BYTES};
 use std::collections::HashSet;
 
 /// Where a byte of the image comes from.
@@ -24,8 +24,6 @@ pub struct Origins {
     bytes: Vec<Origin>,
     /// The keys that enciphered a byte at any time, also of pages erased since.
     pub enciphered: HashSet<Key>,
-    /// The keys that enciphered bytes of a second page.
-    pub enciphered_twice: Vec<Key>,
 }
 
 impl Origins {
@@ -62,6 +60,15 @@ impl Origins {
         }
     }
 
+    /// In a block all of whose bytes are FFh there is nothing, however its last erase ended.
+    pub fn clear_empty_blocks(&mut self, image: &[u8]) {
+        for (bytes, origins) in image.chunks_exact(BLOCK).zip(self.bytes.chunks_exact_mut(BLOCK)) {
+            if bytes.iter().all(|&byte| byte == ERASED) {
+                origins.fill(Origin::Nothing);
+            }
+        }
+    }
+
     /// The first `done` bytes of a page with this header are programmed at `start`.
     fn program(
         &mut self,
@@ -76,8 +83,8 @@ impl Origins {
         match header {
             Some(Header::Node { key, .. }) => {
                 payload.fill(Origin::Enciphered(present(key)));
-                if !payload.is_empty() && !self.enciphered.insert(present(key)) {
-                    self.enciphered_twice.push(present(key));
+                if !payload.is_empty() {
+                    self.enciphered.insert(present(key));
                 }
             }
             Some(Header::Keys { block, page, .. }) => {

@@ -67,6 +67,7 @@ impl Store {
             Call::Wipe { file, offset, noise } => {
                 calls::wipe(image, record, file, offset, &noise.bytes(), power)
             }
+            Call::Gather { block } => calls::gather(image, record, block, power),
         }
     }
 
@@ -99,6 +100,7 @@ impl Store {
             Call::Wipe { file, offset, noise } => {
                 steps(calls::wipe::outcome(image, record, file, offset, &noise.bytes()))
             }
+            Call::Gather { block } => steps(calls::gather::outcome(image, record, block)),
         };
         steps.unwrap_or_default()
     }

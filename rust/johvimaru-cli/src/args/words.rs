@@ -50,6 +50,7 @@ impl Shape {
             Topic::Write => (&["FILE", "OFFSET", "TEXT"], 2, &["--cut"], &[]),
             Topic::Read => (at, 2, &[], &["--raw"]),
             Topic::CutOff | Topic::Wipe => (at, 2, &["--cut"], &[]),
+            Topic::Gather => (&["BLOCK"], 0, &["--cut"], &["--thinnest"]),
             Topic::Export | Topic::Import => (&["FILE"], 1, &[], &["--text"]),
             Topic::Handover => (&[], 0, &["--keep", "--report"], &["--json", "--force"]),
             Topic::Map => (&[], 0, &["--svg", "--before", "--after"], &[]),

@@ -219,12 +219,18 @@ impl After {
             let nodes = counted(nodes, "node");
             lines.push(format!("{file}: the content of {nodes}, whose keys are on the chip"));
         }
-        let dead = self.seen.dead_headers();
+        let (dead, older) = (self.seen.dead_headers(), self.seen.older_copies());
         if dead > 0 {
             lines.push(format!(
                 "{} beside live nodes: file, offset, length and sequence of what was removed, no \
                  content",
                 counted(dead, "header")
+            ));
+        }
+        if older > 0 {
+            lines.push(format!(
+                "{} of live nodes, of before a gather: the same content once more",
+                counted(older, "older page")
             ));
         }
         lines
@@ -314,7 +320,7 @@ fn numbers_tell(record: &Record) -> Vec<String> {
     let [keys_0, keys_1] = record.key_blocks();
     vec![
         format!(
-            "next sequence {sequence}: {} since the format, written or cut off",
+            "next sequence {sequence}: {} since the format, written, cut off or gathered",
             counted(sequence as usize - 1, "page")
         ),
         format!(

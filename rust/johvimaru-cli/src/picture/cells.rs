@@ -25,6 +25,8 @@ pub enum Kind {
     Live(u32),
     /// A live node of this file that is gone in the newer image beside.
     Gone(u32),
+    /// An older copy of a live node, of before a gather.
+    OlderCopy,
     /// A node that was replaced or removed.
     Dead,
     /// A node of an image that is not mounted: nothing says whether it is live.
@@ -43,12 +45,13 @@ pub enum Kind {
 
 impl Kind {
     /// One of each, in the order of the legend.
-    pub const ALL: [Kind; 12] = [
+    pub const ALL: [Kind; 13] = [
         Kind::Keys(0),
         Kind::Keys(1),
         Kind::Commit(0),
         Kind::Live(0),
         Kind::Gone(0),
+        Kind::OlderCopy,
         Kind::Dead,
         Kind::Node,
         Kind::CutOff,
@@ -97,6 +100,7 @@ impl Kind {
             Kind::Commit(_) => 'C',
             Kind::Live(file) => file_letter(file),
             Kind::Gone(_) => '-',
+            Kind::OlderCopy => '=',
             Kind::Dead => 'x',
             Kind::Node => 'n',
             Kind::CutOff => '/',
@@ -115,6 +119,7 @@ impl Kind {
             Kind::Commit(_) => "commit",
             Kind::Live(_) => "live node, by file",
             Kind::Gone(_) => "node gone since",
+            Kind::OlderCopy => "older copy of a live node",
             Kind::Dead => "dead node",
             Kind::Node => "node",
             Kind::CutOff => "cut-off",
@@ -216,6 +221,7 @@ impl<'a> Cells<'a> {
         let forms: Vec<Form> = Form::all(&shown.seen.image).collect();
         let kinds = forms.iter().enumerate().map(|(page, form)| match kind(*form, page, record) {
             Kind::Live(file) if marks.gone.contains(&page) => Kind::Gone(file),
+            Kind::Dead if shown.seen.is_older_copy(page) => Kind::OlderCopy,
             kind => kind,
         });
         let letters = record.into_iter().flat_map(Record::letters).enumerate();

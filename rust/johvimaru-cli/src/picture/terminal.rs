@@ -322,6 +322,7 @@ fn colours_of(kind: Kind) -> &'static str {
         Kind::Commit(_) => "30;48;5;36",
         Kind::Live(_) => "30;48;5;214",
         Kind::Gone(_) => MARKED,
+        Kind::OlderCopy => "30;48;5;223",
         Kind::Dead => "30;48;5;250",
         Kind::Node => "30;48;5;229",
         Kind::CutOff => "30;48;5;175",

@@ -56,8 +56,9 @@ impl Cells<'_> {
     /// How many pages of each kind a block has, in words.
     fn data_note(&self, block: usize) -> String {
         let pages = self.block(block);
-        let named: [(&[Kind], &str); 7] = [
+        let named: [(&[Kind], &str); 8] = [
             (&[Kind::Live(0), Kind::Gone(0)], "live"),
+            (&[Kind::OlderCopy], "copied"),
             (&[Kind::Dead], "dead"),
             (&[Kind::Node], "nodes"),
             (&[Kind::CutOff], "cut-off"),
@@ -98,6 +99,7 @@ impl Cells<'_> {
         match self.kinds[page] {
             Kind::Live(_) => ", live",
             Kind::Gone(_) => ", live, gone since",
+            Kind::OlderCopy => ", older copy of the live node",
             Kind::Dead => ", dead",
             Kind::LeftOver => ", not in use",
             _ => "",

@@ -51,7 +51,7 @@ pub fn outcome(
     require(sequence <= LAST, Refusal::NoNumber)?;
     let free = record.letters.iter().position(|&letter| letter == FREE);
     let key = free.ok_or(Refusal::NoKey)?;
-    let page = page_to_take(blocks(image)).ok_or(Refusal::NoRoom)?;
+    let page = page_to_take(blocks(image), None).ok_or(Refusal::NoRoom)?;
 
     aes::stream(&record.key(image, key), &mut bytes);
     let bytes = Box::new(Header::Node { sequence, file, offset, key, second }.page(&bytes));

@@ -21,7 +21,7 @@ pub fn outcome(
     require(live, Refusal::NoNode)?;
     let sequence = record.numbers.sequence;
     require(sequence <= LAST, Refusal::NoNumber)?;
-    let page = page_to_take(blocks(image)).ok_or(Refusal::NoRoom)?;
+    let page = page_to_take(blocks(image), None).ok_or(Refusal::NoRoom)?;
 
     let bytes = Box::new(Header::CutOff { sequence, file, offset }.page(&[b' '; PAYLOAD]));
     let mut record = record.clone();

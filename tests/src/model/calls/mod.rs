@@ -1,5 +1,5 @@
-//! Document 01, "Calls and their refusals": each call in its form with a power cut, which with
-//! [`Power::STAYS`] is the plain call.
+//! Document 01, "Calls and their refusals", and document 02: each call in its form with a power cut,
+//! which with [`Power::STAYS`] is the plain call.
 //!
 //! Each module has two functions. `outcome` makes the call's tests in the document's order and tells,
 //! from the image and record that the call found, its steps on the flash and the record after them.
@@ -11,6 +11,7 @@ pub mod append;
 pub mod commit;
 pub mod cut_off;
 pub mod format;
+pub mod gather;
 pub mod mount;
 pub mod read;
 pub mod wipe;
@@ -20,6 +21,7 @@ pub use append::{append, Node};
 pub use commit::commit;
 pub use cut_off::cut_off;
 pub use format::format;
+pub use gather::gather;
 pub use mount::mount;
 pub use read::read;
 pub use wipe::wipe;
@@ -67,6 +69,8 @@ pub enum Refusal {
     NoCommitBlock = 13,
     /// A live entry does not fit, or a key is named twice.
     Entry = 14,
+    /// No live page stands in that block, or it is not a data block.
+    NothingToGather = 15,
 }
 
 impl Refusal {

@@ -1,30 +1,17 @@
--- An open page where there is one, else a fresh page.
+-- The search from the first block on.
+use mathlib.Core.Path.{_∙_}
 use borrow.Author.Needs.{needs}
-use Rattle.store.specs.Find.{newPage}
+use Rattle.store.proofs.GatherSearches.{new-from-start}
 use Rattle.store.proofs.find.new_page.Statement.{statement}
 use Rattle.store.proofs.find.new_page.Tie as tie
 
-open-page-requires : tie.Need-open-page-requires
-open-page-requires c κs = search needs
-
-enum-known-g : tie.Need-enum-known-g
-enum-known-g c = search needs
-
-enum-told : tie.Need-enum-told
-enum-told c = search needs
-
-fresh-page-requires : tie.Need-fresh-page-requires
-fresh-page-requires c κs = search needs
+new-page-from-requires : tie.Need-new-page-from-requires
+new-page-from-requires c κs = search needs
 
 returns : tie.Need-returns
-unfolding newPage
-returns c = rw (← c .before .before .before .open-page .ensures, c .before .g .given .1)
-
-returns-2 : tie.Need-returns-2
-unfolding newPage
-returns-2 c = rw (← c .before .before .before .open-page .ensures, c .before .enum-told .given .1) (c .fresh-page .ensures)
+returns c =
+    let a = c .before .before .args in
+    c .new-page-from .ensures ∙ new-from-start (a .but) (a .image .now) (a .numbers)
 
 pub new-page-spec : {M : Type 1} → statement M
-new-page-spec =
-    tie.close
-    (tie.spec open-page-requires enum-known-g enum-told fresh-page-requires returns returns-2)
+new-page-spec = tie.close (tie.spec new-page-from-requires returns)

@@ -4,6 +4,7 @@
 //!
 //! - [`ffi`]: the functions of the library `harness`, as safe Rust functions.
 //! - [`side_by_side`]: the same call by library and second implementation, and their first difference.
+//! - [`kept`]: a store of both with its plain book.
 //! - [`model`]: second implementations, written from the public documents alone.
 //! - [`random_lists`]: lists of calls of the store.
 //! - [`store_lists`]: lists of calls on library and second implementation side by side.
@@ -21,6 +22,7 @@ pub mod ffi;
 pub mod floor;
 pub mod guarded;
 pub mod hex;
+pub mod kept;
 pub mod model;
 pub mod random_lists;
 pub mod rng;

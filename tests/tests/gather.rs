@@ -2,7 +2,7 @@
 //! what is then in the store beside the plain book, the refusals in their order and at their edges, and where
 //! copies go and what they are.
 
-use johvimaru_tests::model::book::Book;
+use johvimaru_tests::kept::Kept;
 use johvimaru_tests::model::calls::{CUT, DONE};
 use johvimaru_tests::model::copies::live_pages;
 use johvimaru_tests::model::demand::{Maker, Run};
@@ -336,68 +336,27 @@ fn records_that_do_not_fit() {
 
 // ---- Power cuts
 
-/// A store with its book.
-#[derive(Clone)]
-struct Kept {
-    store: Both,
-    book: Book,
-    calls: usize,
-}
-
-impl Kept {
-    /// Does a call and enters it. Gives the reply.
-    fn call(&mut self, call: list::Call, power: Power) -> u32 {
-        let reply = match power {
-            Power::STAYS => self.store.call(call.into()),
-            Power { steps, bytes } => self.store.cut(call.into(), steps, bytes),
-        };
-        self.calls += 1;
-        self.book.enter(self.calls, call, reply, power);
-        reply
-    }
-
-    /// Five live pages in block 3 between dead ones, and one more node on a page of block 4.
-    fn thin() -> Kept {
-        let mut kept = Kept { store: Both::formatted(8), book: Book::new(), calls: 0 };
-        let write = |file, offset, length, seed| {
-            let payload = Data::of(length, seed);
-            list::Call::Write { file, offset, payload }
-        };
-        let mut calls: Vec<_> = (0..9).map(|seed| write(0, 0, 30, seed)).collect();
-        calls.extend([write(0, 1, 224, 11), write(1, 31, 1, 12), write(2, 5, 180, 13)]);
-        let bytes = Data::payload(14);
-        calls.push(list::Call::Append { file: 3, offset: 0, second: 0, bytes });
-        calls.push(list::Call::Append { file: 3, offset: 1, second: 60, bytes });
-        calls.extend([write(4, 4, 5, 15), write(4, 4, 6, 16), write(0, 0, 40, 17)]);
-        calls.push(list::Call::CutOff { file: 2, offset: 5 });
-        for call in calls {
-            assert_eq!(kept.call(call, Power::STAYS), DONE, "{call:?}");
-        }
-        kept
-    }
-
-    /// Map, letters and reads of the library are what the book says.
-    fn check(&self, at: &str) {
-        let record = &self.store.0.record;
-        assert!(record.letters == self.book.marks, "{at}: letters");
-        for place in 0..PLACES {
-            let content = self.book.places[place].as_ref();
-            let key = record.entry(place).map(|entry| usize::from(entry.key));
-            assert_eq!(key, content.map(|content| content.position), "{at}: place {place}");
-            if let Some(content) = content {
-                let (file, offset) = files::node(place);
-                let read = self.store.content(file as u32, offset as u32);
-                assert!(read.as_ref() == Ok(&content.payload), "{at}: payload of place {place}");
-            }
-        }
-    }
+/// Five live pages in block 3 between dead ones, and one more node on a page of block 4.
+fn thin() -> Kept {
+    let write = |file, offset, length, seed| {
+        let payload = Data::of(length, seed);
+        list::Call::Write { file, offset, payload }
+    };
+    let mut calls: Vec<_> = (0..9).map(|seed| write(0, 0, 30, seed)).collect();
+    calls.extend([write(0, 1, 224, 11), write(1, 31, 1, 12), write(2, 5, 180, 13)]);
+    let bytes = Data::payload(14);
+    calls.push(list::Call::Append { file: 3, offset: 0, second: 0, bytes });
+    calls.push(list::Call::Append { file: 3, offset: 1, second: 60, bytes });
+    calls.extend([write(4, 4, 5, 15), write(4, 4, 6, 16), write(0, 0, 40, 17)]);
+    calls.push(list::Call::CutOff { file: 2, offset: 5 });
+    Kept::after(8, &calls)
 }
 
 /// A gather cut at every byte of every step and a mount: the files are the book's, which the gather leaves. The
 /// same gather and a commit then finish, and the block is empty.
 #[test]
 fn every_cut_of_a_gather() {
-    let kept = Kept::thin();
+    let kept = thin();
     let (call, count) = (list::Call::Gather { block: 3 }, live(&kept.store, 3).len());
     assert_eq!(count, 5);
     for (n, k) in (0..count).flat_map(|n| (0..=PAGE).map(move |k| (n, k))) {
@@ -424,7 +383,7 @@ fn every_cut_of_a_gather() {
 /// With power for all its steps or more a gather is done.
 #[test]
 fn power_for_every_step() {
-    let kept = Kept::thin();
+    let kept = thin();
     let mut whole = kept.clone();
     assert_eq!(whole.call(list::Call::Gather { block: 3 }, Power::STAYS), DONE);
     whole.check("whole");

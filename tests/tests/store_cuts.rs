@@ -1,80 +1,31 @@
 //! A commit and a wipe of the library, cut at every byte of every step, and the library's mount after
 //! it: beside the second implementation, and what is then in the store beside the plain book.
 
-use johvimaru::raw as recorder;
-use johvimaru_tests::model::book::Book;
+use johvimaru_tests::kept::Kept;
 use johvimaru_tests::model::calls::{CUT, DONE};
-use johvimaru_tests::model::files::{self, PLACES};
 use johvimaru_tests::model::image::{Power, Step, BLOCK};
 use johvimaru_tests::model::list::{Call, Data};
 use johvimaru_tests::model::pages::{DELETED, PAGE, PAYLOAD};
-use johvimaru_tests::side_by_side::{self, Both};
 
-/// A store with its book.
-#[derive(Clone)]
-struct Kept {
-    store: Both,
-    book: Book,
-    calls: usize,
-}
-
-impl Kept {
-    /// Does a call and enters it. Gives the reply.
-    fn call(&mut self, call: Call, power: Power) -> u32 {
-        let reply = match power {
-            Power::STAYS => self.store.call(call.into()),
-            Power { steps, bytes } => self.store.cut(call.into(), steps, bytes),
-        };
-        self.calls += 1;
-        self.book.enter(self.calls, call, reply, power);
-        reply
-    }
-
-    /// A store of 8 blocks with five nodes, one of them an older recorder's, a block without a live page
-    /// and deleted keys.
-    fn rich() -> Kept {
-        let mut kept = Kept { store: Both::formatted(8), book: Book::new(), calls: 0 };
-        let write = |file, offset, seed: u64| {
-            let payload = Data::of(1 + 40 * seed as usize % PAYLOAD, seed);
-            Call::Write { file, offset, payload }
-        };
-        let mut calls: Vec<Call> = (0..17).map(|seed| write(0, 0, seed)).collect();
-        calls.extend([write(0, 31, 20), write(2, 5, 21), write(2, 6, 22), write(13, 7, 23)]);
-        calls.push(Call::Append { file: 1, offset: 0, second: 0, bytes: Data::payload(24) });
-        calls.push(Call::CutOff { file: 2, offset: 6 });
-        for call in calls {
-            assert_eq!(kept.call(call, Power::STAYS), DONE, "{call:?}");
-        }
-        assert!(kept.book.marks.contains(&DELETED));
-        kept
-    }
-
-    /// Map, letters and reads of the library are what the book says.
-    fn check(&self, at: &str) {
-        let Both(store) = &self.store;
-        let record = &store.record;
-        assert!(record.letters == self.book.marks, "{at}: letters");
-        let ours = side_by_side::to_library(record.clone());
-        for place in 0..PLACES {
-            let content = self.book.places[place].as_ref();
-            let key = record.entry(place).map(|entry| usize::from(entry.key));
-            assert_eq!(key, content.map(|content| content.position), "{at}: place {place}");
-            if let Some(content) = content {
-                let (file, offset) = files::node(place);
-                let mut output = [0; PAYLOAD];
-                let (reply, length) =
-                    recorder::read(&store.image, &ours, file as u32, offset as u32, &mut output);
-                assert_eq!(reply, DONE, "{at}: read");
-                assert!(output[..length] == content.payload, "{at}: payload of place {place}");
-                assert!(output[length..].iter().all(|&byte| byte == 0), "{at}: rest of the output");
-            }
-        }
-    }
+/// A store of 8 blocks with five nodes, one of them an older recorder's, a block without a live page
+/// and deleted keys.
+fn rich() -> Kept {
+    let write = |file, offset, seed: u64| {
+        let payload = Data::of(1 + 40 * seed as usize % PAYLOAD, seed);
+        Call::Write { file, offset, payload }
+    };
+    let mut calls: Vec<Call> = (0..17).map(|seed| write(0, 0, seed)).collect();
+    calls.extend([write(0, 31, 20), write(2, 5, 21), write(2, 6, 22), write(13, 7, 23)]);
+    calls.push(Call::Append { file: 1, offset: 0, second: 0, bytes: Data::payload(24) });
+    calls.push(Call::CutOff { file: 2, offset: 6 });
+    let kept = Kept::after(8, &calls);
+    assert!(kept.book.marks.contains(&DELETED));
+    kept
 }
 
 /// Cuts a call at every byte of every step, and mounts. Gives how many calls were compared.
 fn every_cut(call: Call) -> usize {
-    let kept = Kept::rich();
+    let kept = rich();
     let mut count = 0;
     for (n, step) in kept.store.0.steps(call).iter().enumerate() {
         let bytes = match step {

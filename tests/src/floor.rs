@@ -115,18 +115,67 @@ pub struct Floor {
     pub cipher: &'static str,
 }
 
-/// Calls a function of the floor with an image, a record and these arguments.
+/// Calls a function for C with an image, a record and these arguments.
 ///
 /// SAFETY: each pointer goes with the length of a slice that is borrowed for the whole call, and that of
 /// the record's numbers points to five. The arguments are such pairs too, or plain numbers.
 macro_rules! call {
-    ($function:ident, $image:ident, $record:ident, $($argument:expr),*) => {{
+    ($function:expr, $image:ident, $record:ident, $($argument:expr),*) => {{
         let Record { map, letters, numbers } = $record;
         $function(
             $image.as_mut_ptr(), $image.len(), map.as_mut_ptr(), map.len(),
             letters.as_mut_ptr(), letters.len(), numbers.as_mut_ptr(), $($argument),*
         )
     }};
+}
+pub(crate) use call;
+
+/// A read, as it is declared for C.
+pub(crate) type Read = unsafe extern "C" fn(
+    image: *const u8,
+    image_length: usize,
+    map: *const u16,
+    map_length: usize,
+    letters: *const u8,
+    letters_length: usize,
+    numbers: *const u32,
+    file: u32,
+    offset: u32,
+    output: *mut u8,
+    output_length: usize,
+    length: *mut usize,
+) -> u32;
+
+/// Reads by a function. Gives the reply, and the payload's length or 0.
+///
+/// # Safety
+/// The function reads and writes no more than it is lent.
+pub(crate) unsafe fn read_by(
+    function: Read,
+    image: &[u8],
+    Record { map, letters, numbers }: &Record,
+    (file, offset): (u32, u32),
+    output: &mut [u8],
+) -> (u32, usize) {
+    let mut length = usize::MAX;
+    // SAFETY: as `call` says, and one number is borrowed for the length.
+    let reply = unsafe {
+        function(
+            image.as_ptr(),
+            image.len(),
+            map.as_ptr(),
+            map.len(),
+            letters.as_ptr(),
+            letters.len(),
+            numbers.as_ptr(),
+            file,
+            offset,
+            output.as_mut_ptr(),
+            output.len(),
+            &mut length,
+        )
+    };
+    (reply, length)
 }
 
 impl Floor {
@@ -160,26 +209,8 @@ impl Floor {
         offset: u32,
         output: &mut [u8],
     ) -> (u32, usize) {
-        let Record { map, letters, numbers } = record;
-        let mut length = usize::MAX;
-        // SAFETY: as `call` says, and one number is borrowed for the length.
-        let reply = unsafe {
-            floor_read(
-                image.as_ptr(),
-                image.len(),
-                map.as_ptr(),
-                map.len(),
-                letters.as_ptr(),
-                letters.len(),
-                numbers.as_ptr(),
-                file,
-                offset,
-                output.as_mut_ptr(),
-                output.len(),
-                &mut length,
-            )
-        };
-        (reply, length)
+        // SAFETY: the floor is trusted with what it is lent, as in every call.
+        unsafe { read_by(floor_read, image, record, (file, offset), output) }
     }
 
     /// Finds the record of an image, with a scratch of 224 numbers.

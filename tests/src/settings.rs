@@ -19,6 +19,9 @@ pub const VACANT: usize = PLACES - 1;
 /// Bytes of a short payload.
 pub const SHORT: usize = 40;
 
+/// The sequence of the first write after a format.
+pub const FIRST_SEQUENCE: u32 = 1;
+
 /// The noise of every format.
 pub const FORMAT_NOISE: Data = Data { length: 7_168, seed: 3 };
 
@@ -65,12 +68,14 @@ pub fn payload(number: usize) -> Data {
 impl Setting {
     /// Image and record, made by the second implementation.
     pub fn store(&self) -> Store {
-        self.store_with(PAYLOAD)
+        self.store_with(PAYLOAD, FIRST_SEQUENCE)
     }
 
-    /// The same, but that payloads of the first place are of this length.
-    fn store_with(&self, length: usize) -> Store {
+    /// The same, but that payloads of the first place are of this length, and the first write has this
+    /// sequence.
+    fn store_with(&self, length: usize, sequence: u32) -> Store {
         let mut store = Store::formatted(self.blocks, FORMAT_NOISE);
+        store.record.numbers.sequence = sequence;
         for number in 0..self.writes {
             let place = number % self.live;
             let (file, offset) = files::node(place);
@@ -88,7 +93,12 @@ impl Setting {
 
     /// The same, but that the payload of the first place is of this length.
     pub fn lent_with(&self, length: usize) -> (Vec<u8>, Record) {
-        let Store { image, record } = self.store_with(length);
+        self.lent_from(length, FIRST_SEQUENCE)
+    }
+
+    /// The same, and the first write has this sequence.
+    pub fn lent_from(&self, length: usize, sequence: u32) -> (Vec<u8>, Record) {
+        let Store { image, record } = self.store_with(length, sequence);
         (image, to_library(record))
     }
 }

@@ -2,7 +2,7 @@
 //!
 //! In each round every way has its turn, so that whatever else the machine does falls on all of
 //! them alike. A ratio is taken within the round, and the median over the rounds counts; or the best
-//! time of each way counts, where a call is short and finds the same at each time.
+//! time of each way, or its median, where a call is short and finds the same at each time.
 
 use std::time::{Duration, Instant};
 
@@ -71,6 +71,13 @@ impl Times {
         self.best(a) / self.best(b)
     }
 
+    /// The median time of way `a` over that of way `b`.
+    pub fn median_ratio(&self, a: usize, b: usize) -> f64 {
+        let [a, b] =
+            [a, b].map(|at| median(self.0[at].iter().map(Duration::as_secs_f64).collect()));
+        a / b
+    }
+
     /// The time of way `a` over that of way `b`.
     pub fn ratio(&self, a: usize, b: usize) -> f64 {
         let ratios = self.0[a].iter().zip(&self.0[b]);
@@ -113,6 +120,13 @@ mod tests {
         let times = |rounds: [u64; 3]| rounds.map(Duration::from_millis).to_vec();
         let times = Times(vec![times([10, 90, 30]), times([60, 40, 60])]);
         assert_eq!(times.best_ratio(0, 1), 0.25);
+    }
+
+    #[test]
+    fn a_median_ratio_is_that_of_the_middle_times() {
+        let times = |rounds: [u64; 3]| rounds.map(Duration::from_millis).to_vec();
+        let times = Times(vec![times([10, 90, 30]), times([60, 40, 70])]);
+        assert_eq!(times.median_ratio(0, 1), 0.5);
     }
 
     #[test]

@@ -1,13 +1,13 @@
 -- Laws of decimal columns: what is written is what is read, and a number has one spelling.
 use Prim.Native.Nat.{ℕ, zero, suc, _+_, _*_, _-_, _/_, _%_, _^_, _<_, _≤_}
 use native.Mathlib.Omega.{arith}
-use native.Mathlib.Nat.{pow-suc}
+use native.Mathlib.Nat.{pow-suc, zero-add, suc-add, mul-comm, div-div-eq-div-mul}
 use native.Mathlib.Numerals.{sub-one}
 use mathlib.Core.Path.{_≡_, refl, sym, ap, subst, _∙_}
-use mathlib.Core.List.{List, [], _∷_}
+use mathlib.Core.List.{List, [], _∷_, _++_, append-assoc}
 use mathlib.Core.Bool.{Bool, true, false, cond}
-use lib.ListN.{length, set, drop, length-set, drop-of-length-le}
-use lib.Seq.{drop-cons, drop-set-lt, getD-set-same}
+use lib.ListN.{length, drop, replicate}
+use lib.Seq.{drop-at}
 use lib.Dec.{eqb, leb, ltb}
 use borrow.Author.Tests.{eqb-true, eq-eqb, ne-eqb, le-leb, leb-true, le-ltb, ltb-false}
 use Rattle.base.proofs.Choice.{and-true, and-intro}
@@ -23,38 +23,55 @@ use Rattle.page.specs.declared.Pair.{Pair}
 use Rattle.page.specs.declared.Pair.the-variants.{Are, Misspelt as NoPair}
 
 -- ---- columns, from the right
-pub columns-step : (i m : ℕ) (t : List ℕ) → 0 < i → columns i m t ≡ columns (i - 1) (m / 10) (column m ∷ t)
-unfolding columns
-columns-step zero m t h = absurd (omega arith)
-columns-step (suc i) m t h = rw sub-one
-
 pub length-columns : (i m : ℕ) (t : List ℕ) → length (columns i m t) ≡ i + length t
 unfolding columns
 length-columns zero m t = omega arith
 length-columns (suc i) m t = omega (arith, length-columns i (m / 10) (column m ∷ t))
 
-drop-set : (l : List ℕ) (i a : ℕ) → i < length l → drop i (set l i a) ≡ a ∷ drop (suc i) l
-drop-set l i a h =
-    drop-cons (set l i a) i 0 (simp length-set h) ∙ rw (getD-set-same l i a 0 h, drop-set-lt (suc i) l i a (omega arith))
+-- columns stand before what follows them
+columns-before : (i m : ℕ) (t : List ℕ) → columns i m t ≡ columns i m [] ++ t
+unfolding columns
+columns-before zero m t = refl
+columns-before (suc i) m t =
+    columns-before i (m / 10) (column m ∷ t) ∙ sym (append-assoc (columns i (m / 10) []) (column m ∷ []) t) ∙ ap (λ (l : List ℕ). l ++ t) (sym (columns-before i (m / 10) (column m ∷ [])))
 
--- the last of w columns: alone there, written, or another byte there
-module _ (xs : List ℕ) (w n : ℕ) (l : length xs ≡ w) (some : 1 ≤ w) where
-  none-past : drop (suc (w - 1)) xs ≡ []
-  none-past = drop-of-length-le xs {i = suc (w - 1)} (omega arith)
+-- i columns, and j more of what is left of the number
+columns-more : (i j m : ℕ) (t : List ℕ) → columns (i + j) m t ≡ columns j (m / 10 ^ i) (columns i m t)
+unfolding columns
+columns-more zero j m t = rw (zero-add j) (ap (λ (k : ℕ). columns j k t) (omega arith))
+columns-more (suc i) j m t =
+    let e : m / 10 / 10 ^ i ≡ m / 10 ^ suc i = div-div-eq-div-mul m 10 (10 ^ i) ∙ ap (λ (k : ℕ). m / k) (mul-comm 10 (10 ^ i) ∙ sym (pow-suc 10 i)) in
+    rw (suc-add i j) (columns-more i j (m / 10) (column m ∷ t) ∙ ap (λ (k : ℕ). columns j k (columns i (m / 10) (column m ∷ t))) e)
 
-  pub put-last : spell w n ≡ columns (w - 1) (n / 10) (drop (w - 1) (set xs (w - 1) (zeroDigit + n % 10)))
+-- where nothing is left of the number, spaces
+spaces-more : (i : ℕ) (t : List ℕ) → replicate i space ++ (space ∷ t) ≡ space ∷ (replicate i space ++ t)
+spaces-more zero t = refl
+spaces-more (suc i) t = ap (λ (l : List ℕ). space ∷ l) (spaces-more i t)
+
+columns-none : (i : ℕ) (t : List ℕ) → columns i 0 t ≡ replicate i space ++ t
+unfolding columns
+columns-none zero t = refl
+columns-none (suc i) t = columns-none i (space ∷ t) ∙ spaces-more i t
+
+-- w columns of a number, and k more before them
+module _ (w k n : ℕ) (some : 1 ≤ w) where
+  spell-more : spell (w + k) n ≡ columns k (n / 10 ^ w) (spell w n)
   unfolding spell
-  put-last = rw (drop-set xs (w - 1) (zeroDigit + n % 10) (omega arith), none-past)
+  spell-more =
+      let e : w + k - 1 ≡ (w - 1) + k = omega arith in
+      let f : suc (w - 1) ≡ w = omega arith in
+      let g : n / 10 / 10 ^ (w - 1) ≡ n / 10 ^ w =
+      div-div-eq-div-mul n 10 (10 ^ (w - 1)) ∙ ap (λ (m : ℕ). n / m) (mul-comm 10 (10 ^ (w - 1)) ∙ sym (pow-suc 10 (w - 1)) ∙ ap (λ (m : ℕ). 10 ^ m) f) in
+      rw e (columns-more (w - 1) k (n / 10) ((zeroDigit + n % 10) ∷ []) ∙ ap (λ (m : ℕ). columns k m (spell w n)) g)
 
--- one column more is written
-module _ (xs s : List ℕ) (i m : ℕ) (more : 0 < i) (h : i < length xs) (e : s ≡ columns i m (drop i xs)) where
-  next : s ≡ columns (i - 1) (m / 10) (column m ∷ drop (suc (i - 1)) xs)
-  next =
-      let k : suc (i - 1) ≡ i = omega arith in
-      rw k (e ∙ columns-step i m (drop i xs) more)
+  -- the last ones are the number in fewer columns
+  pub spell-last : drop k (spell (w + k) n) ≡ spell w n
+  spell-last =
+      ap (drop k) (spell-more ∙ columns-before k (n / 10 ^ w) (spell w n)) ∙ drop-at (columns k (n / 10 ^ w) []) (spell w n) k (length-columns k (n / 10 ^ w) [] ∙ omega arith)
 
-  pub put-next-column : s ≡ columns (i - 1) (m / 10) (drop (i - 1) (set xs (i - 1) (column m)))
-  put-next-column = rw (drop-set xs (i - 1) (column m) (omega arith)) next
+  -- spaces where nothing is left
+  pub spell-spaces : n / 10 ^ w ≡ 0 → replicate k space ++ spell w n ≡ spell (w + k) n
+  spell-spaces e = sym (spell-more ∙ ap (λ (m : ℕ). columns k m (spell w n)) e ∙ columns-none k (spell w n))
 
 -- ---- values
 pub digit-lt : (b : ℕ) → digit b < 10
@@ -88,6 +105,21 @@ column-none m e = rw (eq-eqb m 0 e)
 
 pub column-some : (m : ℕ) → (m ≡ 0 → ⊥) → column m ≡ zeroDigit + m % 10
 column-some m h = rw (ne-eqb m 0 h)
+
+-- a number in two parts, of which the first is one by itself
+first-part : (j m : ℕ) → (m ≡ 0 → ⊥) → columns (suc j) m [] ≡ spell (suc j) m
+unfolding columns spell
+first-part j m h = rw (sub-one, column-some m h)
+
+pub spell-joined : (w k n m : ℕ) → 1 ≤ w → 1 ≤ k → m ≡ n / 10 ^ w → (m ≡ 0 → ⊥) → spell k m ++ spell w n ≡ spell (w + k) n
+spell-joined w k n m some more e h =
+    let f : k ≡ suc (k - 1) = omega arith in
+    let first : columns k m [] ≡ spell k m = subst (λ (j : ℕ). columns j m [] ≡ spell j m) (sym f) (first-part (k - 1) m h) in
+    sym
+    (spell-more w k n some
+    ∙ ap (λ (l : ℕ). columns k l (spell w n)) (sym e)
+    ∙ columns-before k m (spell w n)
+    ∙ ap (λ (l : List ℕ). l ++ spell w n) first)
 
 pub value-column : (m : ℕ) → m / 10 * 10 + digit (column m) ≡ m
 value-column m = go (eqb m 0) refl

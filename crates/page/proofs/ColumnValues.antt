@@ -4,7 +4,7 @@ use native.Mathlib.Omega.{arith}
 use mathlib.Core.Path.{_≡_, refl, sym, ap, _∙_}
 use mathlib.Core.List.{List, [], _∷_, _++_}
 use mathlib.Core.Bool.{true, false}
-use lib.Bits.{bitAnd, and-le-r}
+use lib.Bits.{bitAnd, and-le-r, and-mask}
 use lib.ListN.{length, getD}
 use lib.Dec.{leb}
 use borrow.Author.Tests.{leb-false}
@@ -30,7 +30,7 @@ abbrev pub foursOf : ℕ → ℕ
 foursOf p = bitAnd (bitAnd p 0x0000ffff0000ffff * 100 + p / 0x10000) 0x0000ffff0000ffff
 
 abbrev pub eightOf : ℕ → ℕ
-eightOf q = q % 0x100000000 * 10000 + q / 0x100000000
+eightOf q = bitAnd q 0xffffffff * 10000 + q / 0x100000000
 
 pub pairs-le : (d : ℕ) → pairsOf d ≤ 0x00ff00ff00ff00ff
 pairs-le d = and-le-r (bitAnd d 0x00ff00ff00ff00ff * 10 + d / 0x100) 0x00ff00ff00ff00ff
@@ -39,7 +39,7 @@ pub fours-le : (p : ℕ) → foursOf p ≤ 0x0000ffff0000ffff
 fours-le p = and-le-r (bitAnd p 0x0000ffff0000ffff * 100 + p / 0x10000) 0x0000ffff0000ffff
 
 eight-of : (a b : ℕ) → a < 10000 → b < 10000 → eightOf (a + b * 0x100000000) ≡ a * 10000 + b
-eight-of a b p q = omega arith
+eight-of a b p q = rw (and-mask (a + b * 0x100000000) 32) (omega arith)
 
 -- a word of four lanes, or of two
 abbrev four : ℕ → ℕ → ℕ → ℕ → ℕ

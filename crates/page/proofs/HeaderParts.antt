@@ -1,5 +1,5 @@
 -- Headers compared in parts of eight, four and two bytes: with another that differs only in its part, and with the fields of a node.
-use Prim.Native.Nat.{ℕ, suc, _+_, _*_, _/_, _^_, _<_, _≤_}
+use Prim.Native.Nat.{ℕ, suc, _+_, _/_, _^_, _<_, _≤_}
 use native.Mathlib.Omega.{arith}
 use mathlib.Core.Path.{_≡_, refl, sym, ap, _∙_}
 use mathlib.Core.Bool.{Bool, true, false, cond, _&&_}
@@ -10,7 +10,7 @@ use lib.Dec.{eqb, leb}
 use borrow.Author.Tests.{eqb-true, eq-eqb, leb-true, le-leb}
 use Rattle.base.specs.Part.{part, splice}
 use Rattle.base.specs.Each.{same}
-use Rattle.base.proofs.Choice.{and-true, and-intro, and-passed, true-false, both-ways}
+use Rattle.base.proofs.Choice.{and-true, and-intro, and-assoc, and-passed, true-false, both-ways}
 use Rattle.base.proofs.Parts.{part-length, part-part, part-splice, part-splice-before, part-splice-after}
 use Rattle.base.proofs.Eachs.{same-true, same-refl}
 use Rattle.page.specs.Frame.{headerSize, payloadSize, pageSize, colonSpace}
@@ -33,7 +33,7 @@ use Rattle.page.specs.declared.Form.the-variants.{Whole}
 use Rattle.page.proofs.FormLaws.{whole-is}
 use Rattle.page.proofs.HeaderTests.{and-failed, put-part, spelling-decides, whole-decides, whole-node-decides}
 use Rattle.page.proofs.Spellings.{last-three}
-use Rattle.page.proofs.WordLaws.{part-join, word-length, words-decide, bytes-joined, same-append}
+use Rattle.page.proofs.WordLaws.{part-join, word-length, words-decide, same-append}
 
 -- ---- a header in parts
 module _ (xs : List ℕ) (l : length xs ≡ headerSize) where
@@ -110,21 +110,47 @@ module _ (xs first : List ℕ) (n : ℕ) (f : Frame) (l : length xs ≡ headerSi
 pub whole-like-decides : (first page : List ℕ) (n : ℕ) (f : Frame) → formOf first ≡ Whole f → headerLike (headerOf (part first 0 headerSize)) n (headerOf (part page 0 headerSize)) && closed page ≡ wholeLike (formOf first) n (formOf page)
 whole-like-decides first page n f e = rw (whole-is first f e .0, e) (whole-decides page (withPart n f))
 
--- ---- the columns of a file and an offset as one word
+-- ---- the columns of a file, which follow one byte of a word
 -- all but the first byte
 bytes-after : (n w : ℕ) (xs : List ℕ) (at : ℕ) → wordBytes (suc n) w ≡ part xs at (suc n) → wordBytes n (w / 256) ≡ part xs (at + 1) n
 unfolding wordBytes part
 bytes-after n w xs at e =
-    sym (take-all n (wordBytes n (w / 256)) (omega (arith, word-length n (w / 256)))) ∙ ap (λ (l : List ℕ). take n (drop 1 l)) e ∙ part-part xs at (suc n) 1 n (omega arith)
+    sym (take-all n (wordBytes n (w / 256)) (omega (arith, word-length n (w / 256))))
+    ∙ ap (λ (l : List ℕ). take n (drop 1 l)) e
+    ∙ part-part xs at (suc n) 1 n (omega arith)
 
-module _ (xs : List ℕ) (v text w file offset : ℕ) (e : wordBytes 8 v ≡ part xs 8 8) (t : wordBytes 4 text ≡ spell 4 file) (o : wordBytes 4 w ≡ spell 4 offset) where
-  pub place-decides : v < 256 ^ 8 → text < 256 ^ 4 → w < 256 ^ 4 → eqb (v / 256) (text / 256 + w * 0x1000000) ≡ same (part xs 9 7) (spell 3 file ++ spell 4 offset)
-  place-decides a b c =
-      words-decide 7 (v / 256) (text / 256 + w * 0x1000000) (omega arith) (omega arith)
-      ∙ (λ i. same (bytes-after 7 v xs 8 e i) (joined i))
-    where
-      joined : wordBytes 7 (text / 256 + w * 0x1000000) ≡ spell 3 file ++ spell 4 offset
-      joined = bytes-joined 3 4 7 (text / 256) w refl (omega arith) ∙ (λ i. last-three file text t i ++ o i)
+pub file-decides : (xs : List ℕ) (v text file : ℕ) → wordBytes 4 v ≡ part xs 8 4 → wordBytes 4 text ≡ spell 4 file
+    → v < 256 ^ 4 → text < 256 ^ 4 → eqb (v / 256) (text / 256) ≡ same (part xs 9 3) (spell 3 file)
+file-decides xs v text file e t g h =
+    words-decide 3 (v / 256) (text / 256) (omega arith) (omega arith)
+    ∙ (λ i. same (bytes-after 3 v xs 8 e i) (last-three file text t i))
+
+-- ---- the columns of a file and an offset, apart
+module _ (xs : List ℕ) (file offset p : ℕ) (l : length xs ≡ headerSize) where
+  place-apart : same (part xs 9 7) (spell 3 file ++ spell 4 offset) ≡ same (part xs 9 3) (spell 3 file) && same (part xs 12 4) (spell 4 offset)
+  place-apart =
+      ap (λ (t : List ℕ). same t (spell 3 file ++ spell 4 offset)) (sym (part-join xs 9 3 4))
+      ∙ same-append (part xs 9 3) (part xs 12 4) (spell 3 file) (spell 4 offset)
+      (part-length xs 9 3 (omega arith) ∙ sym (length-spell 3 file (omega arith)))
+
+  -- file, and offset with key position
+  abbrev pub named : Bool
+  named = same (part xs 9 3) (spell 3 file) && (same (part xs 12 4) (spell 4 offset) && same (part xs 16 4) (spell 4 p))
+
+  named-apart : (k : Bool) → k && same (part xs 9 7) (spell 3 file ++ spell 4 offset) && same (part xs 16 4) (spell 4 p) ≡ k && named
+  named-apart k =
+      let f = same (part xs 9 3) (spell 3 file) in
+      let o = same (part xs 12 4) (spell 4 offset) in
+      let q = same (part xs 16 4) (spell 4 p) in
+      sym (and-assoc k (same (part xs 9 7) (spell 3 file ++ spell 4 offset)) q)
+      ∙ ap (λ (b : Bool). k && b) (ap (λ (b : Bool). b && q) place-apart ∙ sym (and-assoc f o q))
+
+  -- without them there is no such node, and with them the other tests decide
+  pub unnamed-node : named ≡ false → false ≡ nodeSpelt file offset p xs
+  unnamed-node e = sym (rw (named-apart (eqb (getD xs 0 0) nodeLetter), e, and-failed (eqb (getD xs 0 0) nodeLetter)))
+
+  pub named-node : named ≡ true → eqb (getD xs 0 0) nodeLetter && same (part xs 28 2) colonSpace && numberThen (numberIn (part xs 1 8)) false (leb 1) ≡ nodeSpelt file offset p xs
+  named-node e = sym (rw (named-apart (eqb (getD xs 0 0) nodeLetter), e, and-passed (eqb (getD xs 0 0) nodeLetter)))
 
 -- ---- a node of given fields, whatever its sequence and its second number
 -- the number of eight columns is a sequence

@@ -10,6 +10,7 @@
 --   Pages         the bytes of a page: length, what reads back, what a cut program leaves
 --   FormLaws      page forms: the form of a page that was programmed whole or in part
 --   WordLaws      several bytes as one number: compared, taken from a list, written into one
+--   Countdown     how often one number goes into another, counted down and kept in the same word
 --   Spellings     three, four and eight columns as the words that code makes of them
 --   Lanes         numbers made of lanes: operations that work on each lane apart
 --   CountedWords  eight columns as one word: whether they hold a number from 1 on
@@ -29,6 +30,7 @@ pub mod Commits
 pub mod Pages
 pub mod FormLaws
 pub mod WordLaws
+pub mod Countdown
 pub mod Spellings
 pub mod Lanes
 pub mod CountedWords

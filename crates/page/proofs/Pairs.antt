@@ -5,20 +5,23 @@ use native.Mathlib.Nat.{pow-suc, zero-add}
 use mathlib.Core.Path.{_≡_, refl, sym, ap, ap₂, _∙_}
 use mathlib.Core.List.{List, [], _∷_, _++_}
 use mathlib.Core.Bool.{Bool, true, false, cond, _&&_, Bool·beq}
-use lib.Bits.{bitAnd, bitOr, bitXor, and-block, or-block, xor-block, and-lt, or-lt, xor-lt, and-le-l, or-add-and, or-zero-r}
+use lib.Bits.{bitAnd, bitOr, bitXor, and-block, or-block, xor-block, and-lt, or-lt, xor-lt, and-le-l, and-mask, or-add-and, or-zero-r}
 use lib.ListN.{length, replicate}
 use lib.Dec.{eqb}
 use lib.Ieee.Bits.{is-true}
-use borrow.Author.Tests.{eqb-true}
-use Rattle.base.specs.Each.{Bytes, Each}
-use Rattle.base.proofs.Choice.{and-true}
-use Rattle.base.proofs.Eachs.{table-rule, each-append}
+use borrow.Author.Tests.{eqb-true, eq-eqb}
+use Rattle.base.specs.Each.{Bytes, Each, same}
+use Rattle.base.proofs.Choice.{and-true, true-false, both-ways}
+use Rattle.base.proofs.Eachs.{table-rule, each-append, same-true, same-refl}
 use Rattle.page.specs.Frame.{space}
-use Rattle.page.specs.Column.{zeroDigit, digit, isDigit, valueAfter, numberThen, pairIn}
+use Rattle.page.specs.Column.{zeroDigit, spell, digit, isDigit, valueAfter, numberIn, numberThen, pairIn}
+use Rattle.page.specs.declared.Pair.{Pair}
 use Rattle.page.specs.declared.Pair.the-variants.{Are, Misspelt}
+use Rattle.page.specs.declared.Number.{Number}
 use Rattle.page.specs.declared.Number.the-variants.{Is, Misspelt as NoNumber}
 use Rattle.page.specs.Word.{wordBytes}
-use Rattle.page.proofs.Column.{digit-of-digit, each-read, value-lt}
+use Rattle.page.proofs.Column.{digit-of-digit, each-read, value-lt, number-spell, number-is, pairThen, pair-then}
+use Rattle.page.proofs.WordLaws.{word-length}
 use Rattle.page.proofs.Counted.{allDigits, isFirst, spelt, read, spelt-last, spelt-more}
 use Rattle.page.proofs.Lanes.{lanes, Keeps, lanes-same, bytes-word, low-decides}
 use Rattle.page.proofs.CountedWords.{mark, rest, over, change, are-same, byte-rule, none-rule, some-rule, mark-byte, rest-byte, over-byte}
@@ -203,10 +206,46 @@ module _ (v low high : ℕ) (h : v < 0x10000000000000000) (e : wordBytes 8 v ≡
   no-pair t = sym (read-pair (wordBytes 4 low) (wordBytes 4 high) ∙ rw (sym right-in ∙ t))
 
   pub pair-is : rightIn v ≡ true
-      → Are (foursOf (pairsOf (restsIn v)) % 0x100000000) (foursOf (pairsOf (restsIn v)) / 0x100000000)
+      → Are (bitAnd (foursOf (pairsOf (restsIn v))) 0xffffffff) (foursOf (pairsOf (restsIn v)) / 0x100000000)
       ≡ pairIn (wordBytes 4 low) (wordBytes 4 high)
   pair-is t =
       let n = foursOf (pairsOf (restsIn v)) in
-      let a : n % 0x100000000 ≡ valueAfter 0 (wordBytes 4 low) = omega (arith, pair-values t, four-lt low) in
+      let a : bitAnd n 0xffffffff ≡ valueAfter 0 (wordBytes 4 low) = and-mask n 32 ∙ omega (arith, pair-values t, four-lt low) in
       let b : n / 0x100000000 ≡ valueAfter 0 (wordBytes 4 high) = omega (arith, pair-values t, four-lt low) in
       ap₂ Are a b ∙ sym (read-pair (wordBytes 4 low) (wordBytes 4 high) ∙ rw (sym right-in ∙ t))
+
+-- ---- columns that hold a given number
+module _ (w n : ℕ) (xs : List ℕ) (some : 1 ≤ w) (l : length xs ≡ w) (h : n < 10 ^ w) where
+  held-spelt : (m : Number) → numberIn xs ≡ m → numberThen m false (λ k. eqb k n) ≡ true → same xs (spell w n) ≡ true
+  held-spelt (Is k) e t = rw (number-is xs k e, l, eqb-true k n t) (same-refl (spell w n))
+  held-spelt NoNumber e t = absurd (true-false t refl)
+
+  spelt-held : same xs (spell w n) ≡ true → numberThen (numberIn xs) false (λ k. eqb k n) ≡ true
+  spelt-held t = rw (same-true xs (spell w n) t, number-spell w n some h) (eq-eqb n n refl)
+
+  -- are those in which it is spelt
+  number-decides : numberThen (numberIn xs) false (λ k. eqb k n) ≡ same xs (spell w n)
+  number-decides = both-ways _ _ (held-spelt (numberIn xs) refl) spelt-held
+
+-- two numbers that are read one after the other, each compared with one
+each-number : (p q : Number) (a b : ℕ)
+    → numberThen p false (λ m. numberThen q false (λ n. eqb m a && eqb n b))
+    ≡ numberThen p false (λ m. eqb m a) && numberThen q false (λ n. eqb n b)
+each-number (Is m) (Is n) a b = refl
+each-number (Is m) NoNumber a b = failed (eqb m a)
+  where
+    failed : (t : Bool) → false ≡ t && false
+    failed true = refl
+    failed false = refl
+each-number NoNumber q a b = refl
+
+-- the pair that is read is of these numbers where each four columns are the spelling of one
+pub pair-holds : (low high a b : ℕ) (r : Pair) → r ≡ pairIn (wordBytes 4 low) (wordBytes 4 high) → a < 10_000 → b < 10_000
+    → pairThen r false (λ m n. eqb m a && eqb n b) ≡ same (wordBytes 4 low) (spell 4 a) && same (wordBytes 4 high) (spell 4 b)
+pair-holds low high a b r e g h =
+    let xs = wordBytes 4 low in
+    let ys = wordBytes 4 high in
+    ap (λ (p : Pair). pairThen p false (λ m n. eqb m a && eqb n b)) e
+    ∙ sym (pair-then xs ys false (λ m n. eqb m a && eqb n b))
+    ∙ each-number (numberIn xs) (numberIn ys) a b
+    ∙ ap₂ _&&_ (number-decides 4 a xs (omega arith) (word-length 4 low) g) (number-decides 4 b ys (omega arith) (word-length 4 high) h)

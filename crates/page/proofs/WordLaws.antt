@@ -8,6 +8,7 @@ use mathlib.Core.List.{List, [], _∷_, _++_, append-assoc}
 use lib.ListN.{length, getD, set, take, drop, length-append}
 use lib.Seq.{drop-cons, drop-drop, take-nil, take-at, drop-at, length-take-le, sets-eq}
 use lib.Dec.{eqb}
+use lib.Bits.{bitAnd, and-mask, mask-lt}
 use borrow.Author.Tests.{eqb-true, eq-eqb}
 use Rattle.base.specs.Part.{part, splice}
 use Rattle.base.specs.Each.{same}
@@ -27,13 +28,20 @@ pub four-bytes : (a b c d : ℕ) → a < 256 → b < 256 → c < 256 → d < 256
 unfolding wordBytes
 four-bytes a b c d g h k l = cons-eq (omega arith) (cons-eq (omega arith) (cons-eq (omega arith) (cons-eq (omega arith) refl)))
 
-pub bytes-of-three : (w : ℕ) → w % 0x100 ∷ w / 0x100 % 0x100 ∷ w / 0x10000 % 0x100 ∷ [] ≡ wordBytes 3 w
-unfolding wordBytes
-bytes-of-three w = cons-eq refl (cons-eq refl (cons-eq (omega arith) refl))
+-- the lowest byte of a number, as code takes it
+byte-of : (w : ℕ) → bitAnd w 0xff ≡ w % 0x100
+byte-of w = and-mask w 8
 
-pub bytes-of-four : (w : ℕ) → w < 0x100000000 → w % 0x100 ∷ w / 0x100 % 0x100 ∷ w / 0x10000 % 0x100 ∷ w / 0x1000000 ∷ [] ≡ wordBytes 4 w
+pub byte-lt : (w : ℕ) → bitAnd w 0xff < 0x100
+byte-lt w = mask-lt w 8
+
+pub bytes-of-three : (w : ℕ) → bitAnd w 0xff ∷ bitAnd (w / 0x100) 0xff ∷ bitAnd (w / 0x10000) 0xff ∷ [] ≡ wordBytes 3 w
 unfolding wordBytes
-bytes-of-four w h = cons-eq refl (cons-eq refl (cons-eq (omega arith) (cons-eq (omega arith) refl)))
+bytes-of-three w = cons-eq (byte-of w) (cons-eq (byte-of (w / 0x100)) (cons-eq (byte-of (w / 0x10000) ∙ omega arith) refl))
+
+pub bytes-of-four : (w : ℕ) → w < 0x100000000 → bitAnd w 0xff ∷ bitAnd (w / 0x100) 0xff ∷ bitAnd (w / 0x10000) 0xff ∷ w / 0x1000000 ∷ [] ≡ wordBytes 4 w
+unfolding wordBytes
+bytes-of-four w h = cons-eq (byte-of w) (cons-eq (byte-of (w / 0x100)) (cons-eq (byte-of (w / 0x10000) ∙ omega arith) (cons-eq (omega arith) refl)))
 
 -- the bytes of a number in two parts
 pub bytes-joined : (n m k low high : ℕ) → k ≡ n + m → low < 256 ^ n → wordBytes k (low + high * 256 ^ n) ≡ wordBytes n low ++ wordBytes m high
@@ -46,6 +54,18 @@ bytes-joined (suc n) m k low high e h =
     let r : (low + high * 256 ^ suc n) % 256 ≡ low % 256 = rw q (omega arith) in
     let s : (low + high * 256 ^ suc n) / 256 ≡ low / 256 + high * 256 ^ n = rw q (omega arith) in
     rw f (cons-eq r (ap (wordBytes (n + m)) s ∙ bytes-joined n m (n + m) (low / 256) high refl (omega (arith, p))))
+
+-- the bytes of a number of eight, by its halves
+pub half-lt : (w : ℕ) → bitAnd w 0xffffffff < 0x100000000
+half-lt w = mask-lt w 32
+
+pub bytes-of-halves : (w : ℕ) → wordBytes 4 (bitAnd w 0xffffffff) ++ wordBytes 4 (w / 0x100000000) ≡ wordBytes 8 w
+bytes-of-halves w =
+    let low = w % 0x100000000 in
+    let high = w / 0x100000000 in
+    ap (λ (l : ℕ). wordBytes 4 l ++ wordBytes 4 high) (and-mask w 32)
+    ∙ sym (bytes-joined 4 4 8 low high refl (omega arith))
+    ∙ ap (wordBytes 8) (omega arith)
 
 pub word-length : (n w : ℕ) → length (wordBytes n w) ≡ n
 unfolding wordBytes

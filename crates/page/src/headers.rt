@@ -10,7 +10,6 @@ use crate::plan;
 use crate::words;
 ghost use mathlib.Core.Path.{_≡_};
 ghost use mathlib.Core.Bool.{true};
-ghost use mathlib.Core.List.{_++_};
 ghost use Prim.Native.Nat.{_<_};
 ghost use lib.ListN.{length, getD};
 ghost use Rattle.base.specs.Lent.{old, new};
@@ -268,13 +267,12 @@ pub(crate) fn read_event(src: &[u8]) -> Header
     }
 }
 
-// Whether the columns of a header are those of a file and an offset. The file's are given as they are spelt.
-fn is_place(src: &[u8], file: u32, text: u32, offset: u32) -> bool
-    requires { ⌜ (length (now src) ≡ headerSize) × (wordBytes 4 text ≡ spell 4 file) × (offset < 1000) ⌝ }
-    ensures { λ r. ⌜ r ≡ same (part (old src) unitAt 7) (spell unitWidth file ++ spell partWidth offset) ⌝ }
+// Whether the file's columns of a header are those of a file, which are given as they are spelt.
+fn is_file(src: &[u8], file: u32, text: u32) -> bool
+    requires { ⌜ (length (now src) ≡ headerSize) × (wordBytes 4 text ≡ spell 4 file) ⌝ }
+    ensures { λ r. ⌜ r ≡ same (part (old src) unitAt unitWidth) (spell unitWidth file) ⌝ }
 {
-    let place = (text / 0x100) as u64 + (columns::spelt_three(offset) as u64) * 0x1000000;
-    words::word8(src, UNIT_AT - 1) / 0x100 == place
+    words::word4(src, UNIT_AT - 1) >> 8 == text >> 8
 }
 
 // Whether a header's second number is one that a node may have.
@@ -326,9 +324,17 @@ pub(crate) fn is_node_of(src: &[u8], file: u32, text: u32, offset: u32, position
         × (wordBytes 4 text ≡ spell 4 file) ⌝ }
     ensures { λ r. ⌜ r ≡ nodeSpelt file offset position (old src) ⌝ }
 {
+    let named = is_file(src, file, text)
+        & columns::hold(
+            words::word4(src, PART_AT),
+            words::word4(src, KEY_AT),
+            offset,
+            position,
+        );
+    if !named {
+        return false;
+    }
     (src[KIND_AT] == Frame::NODE_LETTER)
-        & is_place(src, file, text, offset)
-        & words::is_word4(src, KEY_AT, columns::spelt_three(position))
         & words::same2(src, END_AT, b": ", 0)
         & columns::is_counted(words::word8(src, NUMBER_AT))
 }

@@ -90,9 +90,9 @@ pub fn put_word3(dst: &mut [u8], at: usize, w: u32)
     requires { ⌜ at + 3 ≤ length (now dst) ⌝ }
     ensures { λ _. ⌜ new dst ≡ splice (old dst) at (wordBytes 3 w) ⌝ }
 {
-    dst[at] = (w % 0x100) as u8;
-    dst[at + 1] = (w / 0x100 % 0x100) as u8;
-    dst[at + 2] = (w / 0x10000 % 0x100) as u8;
+    dst[at] = (w & 0xff) as u8;
+    dst[at + 1] = (w >> 8 & 0xff) as u8;
+    dst[at + 2] = (w >> 16 & 0xff) as u8;
 }
 
 // Writes the four bytes of w into dst from at on.
@@ -100,8 +100,17 @@ pub fn put_word4(dst: &mut [u8], at: usize, w: u32)
     requires { ⌜ at + 4 ≤ length (now dst) ⌝ }
     ensures { λ _. ⌜ new dst ≡ splice (old dst) at (wordBytes 4 w) ⌝ }
 {
-    dst[at] = (w % 0x100) as u8;
-    dst[at + 1] = (w / 0x100 % 0x100) as u8;
-    dst[at + 2] = (w / 0x10000 % 0x100) as u8;
-    dst[at + 3] = (w / 0x1000000) as u8;
+    dst[at] = (w & 0xff) as u8;
+    dst[at + 1] = (w >> 8 & 0xff) as u8;
+    dst[at + 2] = (w >> 16 & 0xff) as u8;
+    dst[at + 3] = (w >> 24) as u8;
+}
+
+// Writes the eight bytes of w into dst from at on.
+pub fn put_word8(dst: &mut [u8], at: usize, w: u64)
+    requires { ⌜ at + 8 ≤ length (now dst) ⌝ }
+    ensures { λ _. ⌜ new dst ≡ splice (old dst) at (wordBytes 8 w) ⌝ }
+{
+    put_word4(dst, at, (w & 0xffffffff) as u32);
+    put_word4(dst, at + 4, (w >> 32) as u32);
 }

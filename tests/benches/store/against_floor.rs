@@ -118,20 +118,11 @@ fn compare_settings(floor: Floor) {
     gathers::compare_results(floor);
 }
 
-/// How often a call is timed: rounds, and times in a round.
-fn often(setting: &Setting, what: What) -> (usize, usize) {
-    match what {
-        What::Write | What::Read | What::ShortRead | What::CutOff | What::Gather => (1_000, 10),
-        _ if setting.blocks > 32 => (200, 4),
-        _ => (500, 8),
-    }
-}
-
 /// Our best time of a call over the floor's best.
 fn ratio(setting: &Setting, what: What, floor: Floor) -> f64 {
     let bed = RefCell::new(Bed::new(setting, what));
     let mut ways = [Bed::way(&bed, Side::Ours), Bed::way(&bed, Side::Floor(floor))];
-    let (rounds, turns) = often(setting, what);
+    let (rounds, turns) = what.often(setting);
     run_ready(&mut ways, rounds, turns).best_ratio(0, 1)
 }
 

@@ -1,11 +1,13 @@
-//! An image and record on which one call is made again and again, by either side, and always finds the
-//! same.
+//! An image and record on which one call is made again and again, by each side, and always finds the same.
 
 use johvimaru::raw::{self as recorder, Record, DONE};
+use johvimaru_tests::another_build::AnotherBuild;
 use johvimaru_tests::floor::Floor;
 use johvimaru_tests::model::files::PLACES;
 use johvimaru_tests::model::pages::{PAGE, PAYLOAD};
-use johvimaru_tests::settings::{full_block, payload, Setting, FORMAT_NOISE, SHORT};
+use johvimaru_tests::settings::{
+    full_block, payload, Setting, FIRST_SEQUENCE, FORMAT_NOISE, SHORT,
+};
 use johvimaru_tests::timing::Way;
 use std::cell::RefCell;
 
@@ -22,10 +24,13 @@ pub enum What {
     Wipe,
     CutOff,
     Gather,
+    /// The floor has none, so it is not timed beside one.
+    #[allow(dead_code)]
+    Format,
 }
 
 impl What {
-    /// Those that every setting has room for.
+    /// Those that every setting has room for and both sides have.
     pub const ALL: [What; 7] = [
         What::Write,
         What::Read,
@@ -37,7 +42,17 @@ impl What {
     ];
 
     pub fn name(self) -> &'static str {
-        ["write", "read", "read 40", "mount", "commit", "wipe", "cut-off", "gather"][self as usize]
+        match self {
+            What::Write => "write",
+            What::Read => "read",
+            What::ShortRead => "read 40",
+            What::Mount => "mount",
+            What::Commit => "commit",
+            What::Wipe => "wipe",
+            What::CutOff => "cut-off",
+            What::Gather => "gather",
+            What::Format => "format",
+        }
     }
 
     /// The length of the payload that the call finds at its place.
@@ -47,6 +62,21 @@ impl What {
             _ => PAYLOAD,
         }
     }
+
+    /// The reply of a read, whose payload must be as long as the one at its place.
+    fn read(self, (reply, length): (u32, usize)) -> u32 {
+        assert_eq!(length, self.length());
+        reply
+    }
+
+    /// How often the call is timed beside another side's: rounds, and times in a round.
+    pub fn often(self, setting: &Setting) -> (usize, usize) {
+        match self {
+            What::Write | What::Read | What::ShortRead | What::CutOff | What::Gather => (1_000, 10),
+            _ if setting.blocks > 32 => (200, 4),
+            _ => (500, 8),
+        }
+    }
 }
 
 /// Who makes a call.
@@ -54,6 +84,9 @@ impl What {
 pub enum Side {
     Ours,
     Floor(Floor),
+    /// The library as it was.
+    #[allow(dead_code)]
+    Before(AnotherBuild),
 }
 
 /// What a call is given and leaves.
@@ -79,7 +112,12 @@ pub struct Bed {
 impl Bed {
     /// The image of a setting for a call, which must be taken.
     pub fn new(setting: &Setting, what: What) -> Bed {
-        let (image, record) = setting.lent_with(what.length());
+        Bed::from_sequence(setting, FIRST_SEQUENCE, what)
+    }
+
+    /// The same, but that the setting's first write has this sequence.
+    pub fn from_sequence(setting: &Setting, sequence: u32, what: What) -> Bed {
+        let (image, record) = setting.lent_from(what.length(), sequence);
         let before = Lent { image, record, scratch: vec![0; PLACES], output: vec![0; PAYLOAD] };
         let (payload, noise) = (payload(1_000_000).bytes(), FORMAT_NOISE.bytes());
         let (changed, block) = (Vec::new(), full_block(&before.record));
@@ -93,32 +131,59 @@ impl Bed {
 
     /// Makes the call.
     pub fn make(&mut self, side: Side) {
-        let Lent { image, record, scratch, output } = &mut self.now;
-        let read = |(reply, length)| {
-            assert_eq!(length, self.what.length());
-            reply
-        };
-        let reply = match (self.what, side) {
-            (What::Write, Side::Ours) => recorder::write(image, record, 0, 0, &self.payload),
-            (What::Write, Side::Floor(floor)) => floor.write(image, record, 0, 0, &self.payload),
-            (What::Read | What::ShortRead, Side::Ours) => {
-                read(recorder::read(image, record, 0, 0, output))
-            }
-            (What::Read | What::ShortRead, Side::Floor(floor)) => {
-                read(floor.read(image, record, 0, 0, output))
-            }
-            (What::Mount, Side::Ours) => recorder::mount(image, record, scratch),
-            (What::Mount, Side::Floor(floor)) => floor.mount(image, record, scratch),
-            (What::Commit, Side::Ours) => recorder::commit(image, record, &self.noise),
-            (What::Commit, Side::Floor(floor)) => floor.commit(image, record, &self.noise),
-            (What::Wipe, Side::Ours) => recorder::wipe(image, record, &self.noise, 0, 0),
-            (What::Wipe, Side::Floor(floor)) => floor.wipe(image, record, &self.noise, 0, 0),
-            (What::CutOff, Side::Ours) => recorder::cut_off(image, record, 0, 0),
-            (What::CutOff, Side::Floor(floor)) => floor.cut_off(image, record, 0, 0),
-            (What::Gather, Side::Ours) => recorder::gather(image, record, self.block),
-            (What::Gather, Side::Floor(floor)) => floor.gather(image, record, self.block),
+        let reply = match side {
+            Side::Ours => self.by_library(),
+            Side::Floor(floor) => self.by_floor(floor),
+            Side::Before(build) => self.by_build(build),
         };
         assert_eq!(reply, DONE);
+    }
+
+    /// Makes the call by the library.
+    fn by_library(&mut self) -> u32 {
+        let Lent { image, record, scratch, output } = &mut self.now;
+        match self.what {
+            What::Write => recorder::write(image, record, 0, 0, &self.payload),
+            What::Read | What::ShortRead => {
+                self.what.read(recorder::read(image, record, 0, 0, output))
+            }
+            What::Mount => recorder::mount(image, record, scratch),
+            What::Commit => recorder::commit(image, record, &self.noise),
+            What::Wipe => recorder::wipe(image, record, &self.noise, 0, 0),
+            What::CutOff => recorder::cut_off(image, record, 0, 0),
+            What::Gather => recorder::gather(image, record, self.block),
+            What::Format => recorder::format(image, record, &self.noise),
+        }
+    }
+
+    /// Makes the call by the floor.
+    fn by_floor(&mut self, floor: Floor) -> u32 {
+        let Lent { image, record, scratch, output } = &mut self.now;
+        match self.what {
+            What::Write => floor.write(image, record, 0, 0, &self.payload),
+            What::Read | What::ShortRead => self.what.read(floor.read(image, record, 0, 0, output)),
+            What::Mount => floor.mount(image, record, scratch),
+            What::Commit => floor.commit(image, record, &self.noise),
+            What::Wipe => floor.wipe(image, record, &self.noise, 0, 0),
+            What::CutOff => floor.cut_off(image, record, 0, 0),
+            What::Gather => floor.gather(image, record, self.block),
+            What::Format => panic!("the floor has no format"),
+        }
+    }
+
+    /// Makes the call by another build.
+    fn by_build(&mut self, build: AnotherBuild) -> u32 {
+        let Lent { image, record, scratch, output } = &mut self.now;
+        match self.what {
+            What::Write => build.write(image, record, 0, 0, &self.payload),
+            What::Read | What::ShortRead => self.what.read(build.read(image, record, 0, 0, output)),
+            What::Mount => build.mount(image, record, scratch),
+            What::Commit => build.commit(image, record, &self.noise),
+            What::Wipe => build.wipe(image, record, &self.noise, 0, 0),
+            What::CutOff => build.cut_off(image, record, 0, 0),
+            What::Gather => panic!("gathers of two builds are not compared"),
+            What::Format => build.format(image, record, &self.noise),
+        }
     }
 
     /// Takes the call back.
@@ -141,9 +206,9 @@ impl Bed {
         }
     }
 
-    /// What the call leaves, by a side.
+    /// What the call leaves, by a side, of all that it is given: scratch and output too.
     pub fn left(&mut self, side: Side) -> Lent {
-        self.restore();
+        self.now = self.before.clone();
         self.make(side);
         let left = self.now.clone();
         self.restore();

@@ -4,8 +4,9 @@ use borrow.Author.Tests.{not-true, not-false}
 use native.Mathlib.Omega.{arith}
 use lib.Bits.{and-le-r}
 use Rattle.page.proofs.CountedWords.{restsIn}
-use Rattle.page.proofs.ColumnValues.{pairsOf, pairs-le, fours-le}
+use Rattle.page.proofs.ColumnValues.{pairsOf, foursOf, pairs-le, fours-le}
 use Rattle.page.proofs.Pairs.{rests-lt, marked-least, no-pair, pair-is}
+use Rattle.page.proofs.WordLaws.{half-lt}
 use Rattle.page.proofs.columns.pair_of.Statement.{statement}
 use Rattle.page.proofs.columns.pair_of.Tie as tie
 
@@ -40,7 +41,7 @@ add-fours c =
     omega (arith, pairs-le d, and-le-r (pairsOf d) 0x0000ffff0000ffff)
 
 cast-first : tie.Need-cast-first
-cast-first c = search needs
+cast-first c = omega (arith, half-lt (foursOf (pairsOf (restsIn (c .before .eight .result)))))
 
 cast-second : tie.Need-cast-second
 cast-second c = omega (arith, fours-le (pairsOf (restsIn (c .before .eight .result))))

@@ -1,79 +1,105 @@
--- `columns::put` writes the spelling: at each turn the columns from i on are written, and those before it are the columns of m.
-use borrow.Author.Needs.{needs}
-use Prim.Native.Nat.{_<_}
+-- `columns::put` writes the last of twelve columns, or all of them after spaces.
+use Prim.Native.Nat.{_-_}
 use native.Mathlib.Omega.{arith}
-use mathlib.Core.Path.{_≡_, sym, _∙_}
+use mathlib.Core.Path.{sym, _∙_}
+use lib.Seq.{length-take-le}
 use denote.Ref.{now}
-use lib.ListN.{length, drop, length-set}
-use Rattle.page.specs.Column.{columns, spell}
-use Rattle.page.proofs.Column.{put-last, put-next-column}
+use Rattle.page.proofs.Spellings.{last-of-twelve, past-twelve}
+use borrow.Author.Needs.{needs}
 use Rattle.page.proofs.columns.put.Statement.{statement}
 use Rattle.page.proofs.columns.put.Tie as tie
 
-abbrev Inv-loop : tie.InvT-loop
-Inv-loop dst₀ w n i₀ m₀ dst i m = (i < w) × (length dst ≡ w) × (spell w n ≡ columns i m (drop i dst))
+twelve-requires : tie.Need-twelve-requires
+twelve-requires c κs = search needs
 
-abbrev μ-loop : tie.MeasureT-loop
-μ-loop dst₀ w n i₀ m₀ dst i m = i
+sub-copy : tie.Need-sub-copy
+sub-copy c = search needs
 
-sub-i : tie.Need-sub-i Inv-loop μ-loop
-sub-i c = search needs
+part-copy-start : tie.Need-part-copy-start
+part-copy-start c = search needs
 
-digit-byte-requires : tie.Need-digit-byte-requires Inv-loop μ-loop
-digit-byte-requires c κs = search needs
+part-copy-end : tie.Need-part-copy-end
+part-copy-end c = search needs
 
-slice-write-dst : tie.Need-slice-write-dst Inv-loop μ-loop
-slice-write-dst c = search needs
+copy-requires : tie.Need-copy-requires
+copy-requires c κs = search needs
 
-loop-holds : tie.Need-loop-holds Inv-loop μ-loop
-loop-holds c =
-    let s = c .before .before in
-    (omega arith, simp length-set (s .pre .0), rw (c .digit-byte .ensures) (put-last (now (s .args .dst)) (s .args .w) (s .args .n) (s .pre .0) (s .pre .1)))
+same-length : tie.Need-same-length
+same-length c = search needs
 
-sub-i-2 : tie.Need-sub-i-2 Inv-loop μ-loop
-sub-i-2 c = search needs
-
-column-of-requires : tie.Need-column-of-requires Inv-loop μ-loop
-column-of-requires c κs = search needs
-
-slice-write-dst-2 : tie.Need-slice-write-dst-2 Inv-loop μ-loop
-slice-write-dst-2 c = search needs
-
-loop-less : tie.Need-loop-less Inv-loop μ-loop
-loop-less c = search needs
-
-loop-again : tie.Need-loop-again Inv-loop μ-loop
-loop-again c =
-    let l = c .before .before .loop in (
-      omega arith,
-      simp length-set (l .inv .1),
-      rw (c .column-of .ensures) (put-next-column (l .dst) _ (l .i) (l .m) (omega arith) (omega arith) (l .inv .2)),
-    )
-
-same-length : tie.Need-same-length Inv-loop μ-loop
-same-length c = c .before .loop .inv .1 ∙ sym (c .before .before .before .before .pre .0)
-
-returns : tie.Need-returns Inv-loop μ-loop
-unfolding columns
+returns : tie.Need-returns
 returns c =
-    let l = c .before .loop in
-    let z : l .i ≡ 0 = omega arith in
-    sym (rw z at (l .inv .2))
+    let start : tie.Start = search in
+    let twelve : tie.After-twelve = search in
+    let copied : tie.After-copy = search in
+    let a = start .args in
+    copied .copy .ensures
+    ∙ last-of-twelve (a .w) (a .n) (12 - (12 - a .w)) _ (twelve .twelve .ensures) (start .pre .1) (search needs) (search needs)
+
+sub-fill : tie.Need-sub-fill
+sub-fill c = search needs
+
+slice-relend-prefix-fill : tie.Need-slice-relend-prefix-fill
+slice-relend-prefix-fill c = search needs
+
+slice-aggregate-fill : tie.Need-slice-aggregate-fill
+slice-aggregate-fill c =
+    let start : tie.Start = search in
+    sym (length-take-le (start .args .w - 12) (now (start .args .dst)) (omega (arith, start .pre .0)))
+
+fill-requires : tie.Need-fill-requires
+fill-requires c κs = search needs
+
+sub-copy-2 : tie.Need-sub-copy-2
+sub-copy-2 c = search needs
+
+sub-copy-3 : tie.Need-sub-copy-3
+sub-copy-3 c = search needs
+
+part-copy-start-2 : tie.Need-part-copy-start-2
+part-copy-start-2 c = search needs
+
+part-copy-end-2 : tie.Need-part-copy-end-2
+part-copy-end-2 c = search needs
+
+slice-aggregate-copy : tie.Need-slice-aggregate-copy
+slice-aggregate-copy c = search needs
+
+copy-requires-2 : tie.Need-copy-requires-2
+copy-requires-2 c κs = search needs
+
+same-length-2 : tie.Need-same-length-2
+same-length-2 c = search needs
+
+returns-2 : tie.Need-returns-2
+returns-2 c =
+    let start : tie.Start = search in
+    let twelve : tie.After-twelve = search in
+    let filled : tie.After-fill = search in
+    let copied : tie.After-copy2 = search in
+    let a = start .args in
+    past-twelve (a .w) (a .n) (now (a .dst)) _ _ (search needs) (start .pre .0) (filled .fill .ensures) (copied .copy2 .ensures ∙ twelve .twelve .ensures) (search needs)
 
 pub put-spec : {M : Type 1} → statement M
 put-spec =
     tie.close
     (tie.spec
-    Inv-loop
-    μ-loop
-    sub-i
-    digit-byte-requires
-    slice-write-dst
-    loop-holds
-    sub-i-2
-    column-of-requires
-    slice-write-dst-2
-    loop-less
-    loop-again
+    twelve-requires
+    sub-copy
+    part-copy-start
+    part-copy-end
+    copy-requires
     same-length
-    returns)
+    returns
+    sub-fill
+    slice-relend-prefix-fill
+    slice-aggregate-fill
+    fill-requires
+    sub-copy-2
+    sub-copy-3
+    part-copy-start-2
+    part-copy-end-2
+    slice-aggregate-copy
+    copy-requires-2
+    same-length-2
+    returns-2)

@@ -2,7 +2,8 @@
 use borrow.Author.Needs.{needs}
 use native.Mathlib.Omega.{arith}
 use lib.Bits.{and-le-r}
-use Rattle.page.proofs.ColumnValues.{digitsOf, pairsOf, pairs-le, value-is, value-small}
+use Rattle.page.proofs.ColumnValues.{digitsOf, pairsOf, foursOf, pairs-le, value-is, value-small}
+use Rattle.page.proofs.WordLaws.{half-lt}
 use Rattle.page.proofs.columns.value_of.Statement.{statement}
 use Rattle.page.proofs.columns.value_of.Tie as tie
 
@@ -23,7 +24,7 @@ add-fours c =
     omega (arith, pairs-le d, and-le-r (pairsOf d) 0x0000ffff0000ffff)
 
 mul-result : tie.Need-mul-result
-mul-result c = search needs
+mul-result c = omega (arith, half-lt (foursOf (pairsOf (digitsOf (c .args .v)))))
 
 add-result : tie.Need-add-result
 add-result c = omega (arith, value-is (c .args .v) (search needs) (c .pre), value-small (c .args .v))

@@ -1,21 +1,23 @@
 -- `put_word3` writes the three lowest bytes of a number.
-use Rattle.page.proofs.WordLaws.{put-three, bytes-of-three}
+use Prim.Native.Nat.{_/_}
+use native.Mathlib.Omega.{arith}
 use mathlib.Core.Path.{ap, _∙_}
 use lib.ListN.{length-set}
-use Rattle.base.specs.Part.{splice}
 use denote.Ref.{now}
+use Rattle.base.specs.Part.{splice}
+use Rattle.page.proofs.WordLaws.{byte-lt, put-three, bytes-of-three}
 use borrow.Author.Needs.{needs}
 use Rattle.page.proofs.words.put_word3.Statement.{statement}
 use Rattle.page.proofs.words.put_word3.Tie as tie
 
 cast-dst : tie.Need-cast-dst
-cast-dst c = search needs
+cast-dst c = omega (arith, byte-lt (c .args .w))
 
 slice-write-dst : tie.Need-slice-write-dst
 slice-write-dst c = search needs
 
 cast-dst-2 : tie.Need-cast-dst-2
-cast-dst-2 c = search needs
+cast-dst-2 c = omega (arith, byte-lt (c .args .w / 0x100))
 
 add-dst : tie.Need-add-dst
 add-dst c = search needs
@@ -24,7 +26,7 @@ slice-write-dst-2 : tie.Need-slice-write-dst-2
 slice-write-dst-2 c = simp length-set (search needs)
 
 cast-dst-3 : tie.Need-cast-dst-3
-cast-dst-3 c = search needs
+cast-dst-3 c = omega (arith, byte-lt (c .args .w / 0x10000))
 
 add-dst-2 : tie.Need-add-dst-2
 add-dst-2 c = search needs

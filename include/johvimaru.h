@@ -44,10 +44,12 @@
  * key, so its time tells of the key whoever shares the processor's cache with it. Nobody else's code
  * may run there while keys are in use.
  *
- * What a call costs: the time of a format grows with the bytes of the image, that of a mount, a write, a
- * cut-off, a gather, a commit or a wipe with its pages, and that of a read does not grow with it. Most of a
- * write or a read is the test of the record: it looks at the 42 pages of the three blocks that the record
- * names, at each page that the map names, and at all letters.
+ * What a call costs: the time of a format grows with the bytes of the image, that of a mount with its pages
+ * and with the bytes of the blocks that it erases, that of a write, a cut-off, a gather, a commit or a wipe
+ * with its pages, and that of a read does not grow with it. Most of a write or a read is the test of the
+ * record: it looks at the 42 pages of the three blocks that the record names, at each page that the map
+ * names, and at all letters. On the chip a mount has an erase for each block that nothing needs, also after
+ * a call that was done: of B blocks that is B - 3 after a format, and one less for each data block in use.
  *
  *
  * THE IMAGE
@@ -74,7 +76,11 @@
  *     there are more; else there are no more than n.
  *   - The copies after n and after n + 1 differ by one step. A page that was empty and is no more is
  *     programmed with the 256 bytes that it now has. A block that is now empty and was not is erased.
- *     Where they do not differ, an empty block is erased, which the chip may be spared.
+ *   - The erase of an empty block makes no difference, and yet the chip must do it: that settles a block
+ *     whose erase was cut (see POWER CUTS). Only format and mount have such steps. So lend these two copies
+ *     in which the first byte of each empty block is 00h. They do to such a block what they do to an empty
+ *     one: reply, record and the list of their erases are the same, and each erase now makes a difference.
+ *     The mirror is not given that byte; when the call is done the last copy has none of them left.
  *
  * Two images far apart do not show the steps between them: format erases a block and then programs it,
  * and a call may program a page and erase it again before it is done. tests/c/chip.c is an example.
@@ -102,9 +108,11 @@
  * and removed as others are; their payloads have 224 bytes, with what their writer put after a record.
  * The other way does not go: version 1 finds no header on pages of nodes that have a length, and its mount
  * erases blocks of such pages. An image that this version has written must not be given to version 1.
- * Version 2 has no gather, and mounts, reads, commits and wipes an image on which gathers were made, whole or
- * cut, as this version does. A caller of version 2 has nothing to change but to compile anew: there are two
- * calls more and the reply 15, which these alone give.
+ * Version 2 has no gather, and reads, commits and wipes an image on which gathers were made, whole or cut, as
+ * this version does. A caller of version 2 compiles anew: there are two calls more and the reply 15, which
+ * these alone give. The mount of version 2, and of this version before the release 0.5.0, finds the same
+ * record, but leaves empty blocks and data blocks without a live page as they are. So a caller that was
+ * written for it has one thing to change: it must have the chip erase empty blocks too, as THE CHIP says.
  *
  *
  * THE WORKING RECORD
@@ -157,6 +165,11 @@
  * the record again, and erases what the cut call has left. A mount that is cut itself is followed by
  * another.
  *
+ * A block in whose erase the power failed is unsettled, however it reads: until an erase of it ends, pages
+ * that are programmed into it may not be kept. No image shows which blocks are, so a mount erases every
+ * block that nothing needs. If the chip does all steps, no step of any call programs an unsettled block, and
+ * after a call that was done no block is unsettled.
+ *
  *
  * WHAT THE CALLER OWES
  *
@@ -170,8 +183,10 @@
  * - The chip does the steps in the order in which they come, and a step is begun only when the one
  *   before it has ended. A page is programmed from its first byte on: where the power fails, some
  *   bytes at its start are written and the rest is still FFh. A block is erased from its first byte
- *   on: where the power fails, some bytes at its start are FFh and the rest is as it was. An erase
- *   that ends has left nothing but FFh, and a program that ends the whole page.
+ *   on: where the power fails, some bytes at its start are FFh and the rest is as it was, and until an
+ *   erase of it ends the block need not keep what is programmed into it. An erase that ends has left
+ *   nothing but FFh, and a program that ends in any other block the whole page. No erase is left out
+ *   because the block reads FFh.
  * - Lengths that are wrong for the call, and any content of image, map, letters and numbers, are no
  *   fault of the caller: the call refuses what it cannot take.
  */
@@ -307,7 +322,8 @@ uint32_t johvimaru_format_cut(uint8_t *image, size_t image_length,
                               uint64_t n, size_t k);
 
 /*
- * Mounts the image: finds its record from what is on it alone, and erases what cut calls have left.
+ * Mounts the image: finds its record from what is on it alone, and erases every block that nothing needs,
+ * what cut calls have left and empty blocks among them.
  *
  *   image     the image.
  *   map, letters, numbers
@@ -325,10 +341,12 @@ uint32_t johvimaru_format_cut(uint8_t *image, size_t image_length,
  * they are free, or where a later page, whole or torn, is one of a node under that key; all others are
  * free.
  *
- * Done, it has erased, in order, every block that is not empty, is not one of the three that it took,
- * and is no data block (see write): a step for each. Map, letters and numbers are the record, both next
- * numbers one above the highest that was found. scratch has for each place the sequence of the page
- * that decided, 0 where the commit did.
+ * Done, it has erased, in order, every block that is not one of the three that it took and is no data
+ * block (see write), empty ones too, since an erase of one may have been cut; and every data block without
+ * a live page on which the commit covers the sequences of all nodes and cut-offs, whole or torn: a step for
+ * each. Map, letters and numbers are the record, both next numbers one above the highest that was found.
+ * scratch has for each place the sequence of the page that decided, 0 where the commit did. A second mount
+ * finds the same record and changes no byte, but erases all blocks that are empty once more.
  *
  * Refused for image or lengths, it has set the numbers to 0 and left all else as it was. Refused for
  * what is on the image, it has left the image as it was, filled the map with JOHVIMARU_NONE and the
@@ -479,8 +497,8 @@ uint32_t johvimaru_cut_off_cut(uint8_t *image, size_t image_length,
  * bytes, length and key position are as they were; the sequences are the next ones, in that order. The map
  * has the new pages, its key positions and the letters are as they were, and the next sequence is higher by
  * the number of copies. The block itself is as it was, and no live page is on it: a commit or a wipe erases
- * it, unless a write or another gather has put a node on a page at its end before. Refused, nothing is
- * changed, and nothing was programmed.
+ * it, unless a write or another gather has put a node on a page at its end before; and so does a mount, where
+ * the last commit covers all sequences on it. Refused, nothing is changed, and nothing was programmed.
  *
  * Where a write is refused with JOHVIMARU_NO_ROOM, so is a gather: make it before. While 16 pages can be
  * taken, at the end of data blocks or in empty blocks but one, there is room for the gather of any block.

@@ -21,6 +21,7 @@ mod before;
 mod beside_before;
 
 use bed::{Bed, Side, What};
+use johvimaru_tests::another_build::AnotherBuild;
 use johvimaru_tests::dividing::{divide_by_steps, Divisions};
 use johvimaru_tests::rng::Rng;
 use johvimaru_tests::settings::{Setting, SETTINGS};
@@ -43,7 +44,7 @@ const NUMBERS: usize = 10_000;
 
 fn main() {
     let bench = std::env::args().any(|word| word == "--bench");
-    let build = beside_before::open();
+    let build = AnotherBuild::from_before();
     let mut lines = Vec::new();
     for setting in &SETTINGS {
         for what in CALLS {

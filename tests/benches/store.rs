@@ -8,10 +8,12 @@
 //! Every call is timed beside the floor, a plain program in C with the same tests, on the same image and
 //! record, and each limit is said to be met or not: read and write are to take no longer than there, and
 //! a read of 40 bytes no longer than one of 224. A mount is timed also beside one pass of the form of
-//! every page; a commit and a wipe beside the same bytes moved without a test; a gather of 16 live pages
-//! beside a write and 16 pages copied without a test.
+//! every page with the fill of the blocks that it erases, and without that fill beside a mount from before
+//! #106; a commit and a wipe beside the same bytes moved without a test; a gather of 16 live pages beside a
+//! write and 16 pages copied without a test.
 //!
-//! Under `cargo bench` it prints ratios. Under `cargo test` it only compares results.
+//! Under `cargo bench` it prints ratios. Under `cargo test` it only compares results. With the word `mounts` it
+//! times mounts alone, beside those from before #106.
 
 #[path = "store/against_floor.rs"]
 mod against_floor;
@@ -19,6 +21,8 @@ mod against_floor;
 mod bed;
 #[path = "store/gathers.rs"]
 mod gathers;
+#[path = "store/mounts.rs"]
+mod mounts;
 #[path = "store/whole_blocks.rs"]
 mod whole_blocks;
 
@@ -57,7 +61,11 @@ trait Peer {
 }
 
 fn main() {
-    let bench = std::env::args().any(|word| word == "--bench");
+    let has_word = |word: &str| std::env::args().any(|other| other == word);
+    let bench = has_word("--bench");
+    if has_word("mounts") {
+        return mounts::mounts(bench);
+    }
     against_floor::compare_results();
     let mut verdicts = Vec::new();
     for setting in &SETTINGS {
@@ -74,6 +82,7 @@ fn main() {
         verdicts.iter().for_each(|verdict| println!("{verdict}"));
     }
     whole_blocks::whole_blocks(bench);
+    mounts::mounts(bench);
     if bench {
         against_floor::times();
     }

@@ -1,6 +1,7 @@
 /*
- * How a device drives its chip: it makes each call on a mirror, learns the call's steps from the form
- * with n and k on copies, and repeats them on the chip in the same order. It is C and C++.
+ * How a device drives its chip: it makes each call on copies of a mirror, learns the call's steps from the
+ * form with n and k, and repeats them on the chip in the same order, the erases of empty blocks too. The
+ * power fails in an erase, and a mount settles the block. It is C and C++.
  */
 #include <inttypes.h>
 #include <stdio.h>
@@ -9,11 +10,19 @@
 
 #include "johvimaru.h"
 
-#define IMAGE_SIZE (JOHVIMARU_MIN_BLOCKS * JOHVIMARU_BLOCK_SIZE)
+#define BLOCKS JOHVIMARU_MIN_BLOCKS
+#define IMAGE_SIZE (BLOCKS * JOHVIMARU_BLOCK_SIZE)
+#define FOREVER UINT64_MAX
 
 /* ---- A chip: it knows two steps, and reads as memory */
 
 static uint8_t flash[IMAGE_SIZE];
+
+/* The blocks whose last erase was cut: each would lose what is programmed into it, whatever it reads. */
+static int unsettled[BLOCKS];
+
+/* The steps for which the power lasts. */
+static uint64_t power = FOREVER;
 
 static int all_erased(const uint8_t *bytes, size_t length)
 {
@@ -25,19 +34,37 @@ static int all_erased(const uint8_t *bytes, size_t length)
     return 1;
 }
 
-static void program_page(size_t page, const uint8_t *bytes)
+/* Whether the power lasts for one more step. */
+static int step_begins(void)
 {
-    uint8_t *at = flash + page * JOHVIMARU_PAGE_SIZE;
-    if (!all_erased(at, JOHVIMARU_PAGE_SIZE)) {
-        printf("page %zu is not empty\n", page);
-        exit(1);
+    if (power == 0) {
+        return 0;
     }
-    memcpy(at, bytes, JOHVIMARU_PAGE_SIZE);
+    power -= power == FOREVER ? 0 : 1;
+    return 1;
 }
 
-static void erase_block(size_t block)
+/* Programs a page. 0: the power failed before its first byte was written. */
+static int program_page(size_t page, const uint8_t *bytes)
+{
+    uint8_t *at = flash + page * JOHVIMARU_PAGE_SIZE;
+    if (!all_erased(at, JOHVIMARU_PAGE_SIZE) || unsettled[page / 16]) {
+        printf("page %zu is not empty, or unsettled\n", page);
+        exit(1);
+    }
+    if (!step_begins()) {
+        return 0;
+    }
+    memcpy(at, bytes, JOHVIMARU_PAGE_SIZE);
+    return 1;
+}
+
+/* Erases a block. 0: the power failed when all its bytes read FFh, before the erase had ended. */
+static int erase_block(size_t block)
 {
     memset(flash + block * JOHVIMARU_BLOCK_SIZE, 0xFF, JOHVIMARU_BLOCK_SIZE);
+    unsettled[block] = !step_begins();
+    return !unsettled[block];
 }
 
 /* ---- The mirror and its record */
@@ -49,7 +76,7 @@ struct store {
     uint32_t numbers[JOHVIMARU_NUMBERS_LENGTH];
 };
 
-static struct store store, now, next;
+static struct store store, lent, now, next;
 
 static uint8_t noise[JOHVIMARU_NOISE_SIZE];
 static uint8_t payload[40];
@@ -61,6 +88,14 @@ static uint32_t format(struct store *s, uint64_t n, size_t k)
 {
     return johvimaru_format_cut(s->image, sizeof s->image, s->map, JOHVIMARU_MAP_LENGTH, s->letters,
                                 JOHVIMARU_LETTERS_LENGTH, s->numbers, noise, sizeof noise, n, k);
+}
+
+static uint32_t mount(struct store *s, uint64_t n, size_t k)
+{
+    uint32_t scratch[JOHVIMARU_SCRATCH_LENGTH];
+    return johvimaru_mount_cut(s->image, sizeof s->image, s->map, JOHVIMARU_MAP_LENGTH, s->letters,
+                               JOHVIMARU_LETTERS_LENGTH, s->numbers, scratch,
+                               JOHVIMARU_SCRATCH_LENGTH, n, k);
 }
 
 static uint32_t write_node(struct store *s, uint64_t n, size_t k)
@@ -99,44 +134,88 @@ static uint32_t wipe(struct store *s, uint64_t n, size_t k)
 
 /* ---- Steps */
 
-/* Repeats on the chip the step by which two images differ. */
-static void repeat_step(const uint8_t *before, const uint8_t *after)
+/*
+ * Gives each empty block the first byte 00h. Format and mount erase empty blocks, and without that byte such
+ * an erase would make no difference. They do to a block with it what they do to an empty one.
+ */
+static void mark_empty_blocks(uint8_t *image)
 {
-    for (size_t block = 0; block < IMAGE_SIZE / JOHVIMARU_BLOCK_SIZE; block++) {
-        size_t at = block * JOHVIMARU_BLOCK_SIZE;
-        if (memcmp(before + at, after + at, JOHVIMARU_BLOCK_SIZE) != 0
-            && all_erased(after + at, JOHVIMARU_BLOCK_SIZE)) {
-            erase_block(block);
-        }
-    }
-    for (size_t page = 0; page < IMAGE_SIZE / JOHVIMARU_PAGE_SIZE; page++) {
-        size_t at = page * JOHVIMARU_PAGE_SIZE;
-        if (memcmp(before + at, after + at, JOHVIMARU_PAGE_SIZE) != 0
-            && !all_erased(after + at, JOHVIMARU_PAGE_SIZE)) {
-            program_page(page, after + at);
+    for (size_t at = 0; at < IMAGE_SIZE; at += JOHVIMARU_BLOCK_SIZE) {
+        if (all_erased(image + at, JOHVIMARU_BLOCK_SIZE)) {
+            image[at] = 0;
         }
     }
 }
 
-/* Makes a call on the mirror and repeats its steps on the chip, which must then be the same. */
-static void on_chip(const char *name, call *call)
+/* Repeats the step by which two images differ, on the chip and then on the mirror. 0: the power failed. */
+static int repeat_step(const uint8_t *before, const uint8_t *after)
+{
+    for (size_t block = 0; block < BLOCKS; block++) {
+        size_t at = block * JOHVIMARU_BLOCK_SIZE;
+        if (memcmp(before + at, after + at, JOHVIMARU_BLOCK_SIZE) != 0
+            && all_erased(after + at, JOHVIMARU_BLOCK_SIZE)) {
+            if (!erase_block(block)) {
+                return 0;
+            }
+            memset(store.image + at, 0xFF, JOHVIMARU_BLOCK_SIZE);
+            return 1;
+        }
+    }
+    for (size_t page = 0; page < IMAGE_SIZE / JOHVIMARU_PAGE_SIZE; page++) {
+        size_t at = page * JOHVIMARU_PAGE_SIZE;
+        if (memcmp(before + at, after + at, JOHVIMARU_PAGE_SIZE) != 0) {
+            if (!program_page(page, after + at)) {
+                return 0;
+            }
+            memcpy(store.image + at, after + at, JOHVIMARU_PAGE_SIZE);
+            return 1;
+        }
+    }
+    return 1;
+}
+
+/* Makes a call on the lent copies and repeats its steps, after each of which chip and mirror are the same. */
+static void drive(const char *name, call *call)
 {
     uint64_t n = 0;
     uint32_t reply = JOHVIMARU_POWER_CUT;
-    now = store;
+    now = lent;
     while (reply == JOHVIMARU_POWER_CUT) {
         n++;
-        next = store;
+        next = lent;
         reply = call(&next, n, 0);
-        repeat_step(now.image, next.image);
+        if (!repeat_step(now.image, next.image)) {
+            printf("%s: the power failed in step %" PRIu64 "\n", name, n);
+            return;
+        }
         now = next;
-        if (memcmp(now.image, flash, IMAGE_SIZE) != 0) {
+        if (memcmp(store.image, flash, IMAGE_SIZE) != 0) {
             printf("%s: after %" PRIu64 " steps the chip is another\n", name, n);
             exit(1);
         }
     }
+    if (memcmp(now.image, flash, IMAGE_SIZE) != 0) {
+        printf("%s: the call leaves another image\n", name);
+        exit(1);
+    }
     store = now;
     printf("%s: reply %" PRIu32 ", steps %" PRIu64 "\n", name, reply, n);
+}
+
+/* A call that erases no empty block. */
+static void on_chip(const char *name, call *call)
+{
+    lent = store;
+    drive(name, call);
+}
+
+/* A format or a mount. The chip is read first. */
+static void from_chip(const char *name, call *call)
+{
+    memcpy(store.image, flash, IMAGE_SIZE);
+    lent = store;
+    mark_empty_blocks(lent.image);
+    drive(name, call);
 }
 
 /* ---- Reads, on the chip itself */
@@ -160,11 +239,23 @@ static void read_chip(uint32_t file, uint32_t offset)
            stars);
 }
 
+static void print_unsettled(void)
+{
+    for (size_t block = 0; block < BLOCKS; block++) {
+        if (unsettled[block]) {
+            printf("block %zu is unsettled and reads %s\n", block,
+                   all_erased(flash + block * JOHVIMARU_BLOCK_SIZE, JOHVIMARU_BLOCK_SIZE)
+                       ? "FFh"
+                       : "other bytes");
+        }
+    }
+}
+
 int main(void)
 {
     const uint8_t counts[JOHVIMARU_FILES] = JOHVIMARU_FILE_COUNTS;
     memset(payload, 'p', sizeof payload);
-    on_chip("format", format);
+    from_chip("format", format);
     on_chip("write", write_node);
     on_chip("write", write_node);
 
@@ -177,5 +268,17 @@ int main(void)
     on_chip("cut-off", cut_off);
     on_chip("write", write_node);
     on_chip("wipe", wipe);
+
+    /* Whenever the power comes on, a mount erases the spare blocks, also after a call that was done. */
+    from_chip("mount", mount);
+
+    /* The power fails in the first erase of a commit. A mount settles the block before it is used again. */
+    power = 16;
+    on_chip("commit", commit);
+    print_unsettled();
+    power = FOREVER;
+    from_chip("mount", mount);
+    print_unsettled();
+    on_chip("commit", commit);
     return 0;
 }

@@ -2,8 +2,9 @@
 #include "floor.h"
 #include "floor_look.h"
 
-/* What a block is for a mount. OTHER has no event and is not empty. */
-enum { EMPTY, WHOLE, OTHER, DATA };
+/* What a block is for a mount. NEEDED has a live page or an event above the covered sequence: all others
+   are erased, but for the chosen ones. */
+enum { EMPTY, WHOLE, OTHER, NEEDED };
 
 /* What the blocks give: the chosen ones as the record has them, their epochs, and the highest epoch. */
 struct survey {
@@ -58,10 +59,10 @@ static void read_commit(const uint8_t *block, uint16_t *map, uint8_t *letters, u
             letters[PAYLOAD * part + i] = block[PAGE * part + HEADER + i] == 'f' ? 'f' : 'd';
 }
 
-/* The lists that the events alter. */
+/* The lists that the events alter, and what the blocks are. */
 struct lists {
     uint16_t *map;
-    uint8_t *letters;
+    uint8_t *letters, *states;
     uint32_t *scratch, covered, highest;
 };
 
@@ -92,23 +93,25 @@ static void replay_event(struct lists *l, const uint8_t *page, unsigned g, struc
     }
 }
 
-static void replay(const uint8_t *image, uint32_t blocks, uint8_t *states, struct lists *l)
+static void replay(const uint8_t *image, uint32_t blocks, struct lists *l)
 {
     struct event e;
     for (uint32_t b = 0; b < blocks; b++) {
-        if (states[b] != OTHER)
+        if (l->states[b] != OTHER)
             continue;
         for (unsigned g = b * PAGES_IN_BLOCK; g < (b + 1) * PAGES_IN_BLOCK; g++) {
             const uint8_t *page = image + (size_t)PAGE * g;
             if (is_event_letter(page[0]) && read_event(page, &e)) {
-                states[b] = DATA;
+                if (e.sequence > l->covered)
+                    l->states[b] = NEEDED;
                 replay_event(l, page, g, e);
             }
         }
     }
 }
 
-/* Whether the deciding entries of eight places fit, and no key is named again; named letters become u. */
+/* Whether the deciding entries of eight places fit, and no key is named again; named letters become u, and
+   the blocks of the pages are needed. */
 static bool settle_eight(const uint8_t *image, size_t pages, struct lists *l, uint32_t file,
                          uint32_t offset)
 {
@@ -125,6 +128,7 @@ static bool settle_eight(const uint8_t *image, size_t pages, struct lists *l, ui
         }
         wrong |= l->letters[key] == 'u';
         l->letters[key] = 'u';
+        l->states[page / PAGES_IN_BLOCK] = NEEDED;
     }
     return wrong == 0;
 }
@@ -163,16 +167,16 @@ uint32_t floor_mount(uint8_t *image, size_t image_length, uint16_t *map, size_t 
         return refuse(map, letters, scratch, 13);
     if (!s.epoch[KEYS_0] || !s.epoch[KEYS_1])
         return refuse(map, letters, scratch, 12);
-    struct lists l = { map, letters, scratch, s.covered, s.covered };
+    struct lists l = { map, letters, s.states, scratch, s.covered, s.covered };
     read_commit(image + (size_t)BLOCK * s.at[COMMIT], map, letters, scratch);
-    replay(image, blocks, s.states, &l);
+    replay(image, blocks, &l);
     if (!settle(image, image_length / PAGE, &l))
         return refuse(map, letters, scratch, 14);
     memcpy(numbers, s.at, sizeof s.at);
     numbers[SEQUENCE] = l.highest + 1;
     numbers[EPOCH] = s.highest + 1;
     for (uint32_t b = 0; b < blocks; b++)
-        if (s.states[b] == OTHER || (s.states[b] == WHOLE && !is_chosen(numbers, b)))
+        if (s.states[b] != NEEDED && !is_chosen(numbers, b))
             memset(image + (size_t)BLOCK * b, 0xFF, BLOCK);
     return 0;
 }

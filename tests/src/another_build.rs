@@ -1,6 +1,14 @@
 //! Another build of the library, opened at run time as a shared library: its calls stand beside those of the
 //! one that is linked.
 //!
+//! The repository keeps its archive, so that one from before is made at its top by
+//!
+//!     git show 056eff0:lib/x86_64/librecorder.a > /tmp/before.a
+//!     cc -shared -o /tmp/before.so -Wl,--whole-archive /tmp/before.a -Wl,--no-whole-archive
+//!
+//! (056eff0 is before #103, 5262952 before #106) and stands beside the one that is linked, where
+//! `JOHVIMARU_BEFORE` is its whole path, /tmp/before.so.
+//!
 //! Nothing compares the types here with include/johvimaru.h, neither this one nor that of the other build.
 
 use crate::floor::{call, read_by, Read};
@@ -47,7 +55,24 @@ const NAMES: [&CStr; 7] = [
     c"johvimaru_wipe",
 ];
 
+/// Names the shared library from before.
+const VARIABLE: &str = "JOHVIMARU_BEFORE";
+
 impl AnotherBuild {
+    /// The build that the variable names; none where it is not set.
+    ///
+    /// Panics where it cannot be opened or lacks a function.
+    pub fn from_before() -> Option<AnotherBuild> {
+        let Some(file) = std::env::var_os(VARIABLE) else {
+            println!("to have a build from before beside it, set {VARIABLE} to a shared library, made as the head of tests/src/another_build.rs says");
+            return None;
+        };
+        match AnotherBuild::open(file.as_ref()) {
+            Ok(build) => Some(build),
+            Err(why) => panic!("{VARIABLE}: {file:?} cannot be opened as a shared library: {why}"),
+        }
+    }
+
     /// Opens a shared library. Where it cannot be opened, the system's words.
     ///
     /// Panics where it lacks a function, or where one of them is not in that file.

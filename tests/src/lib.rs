@@ -15,6 +15,7 @@
 //! - [`guarded`]: buffers that show a write outside the part that was lent.
 //! - [`hex`]: bytes to and from hexadecimal text.
 //! - [`floor`]: the same calls by a plain program in C, which our times are measured against.
+//! - `driven_chip`: the chip of [`model::chip`], as one that a driver of the crate drives.
 //! - [`another_build`]: the same calls by another build of the library.
 //! - [`settings`]: the images that benchmark and profile work on.
 //! - [`shared_library`], [`databases`] and [`timing`]: what speed is compared with, and the clock.
@@ -22,6 +23,7 @@
 pub mod another_build;
 pub mod databases;
 pub mod dividing;
+mod driven_chip;
 pub mod edits;
 pub mod ffi;
 pub mod floor;

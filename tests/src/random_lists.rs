@@ -29,6 +29,10 @@ struct Habit {
     reads: usize,
     gathers: usize,
     cuts: usize,
+    /// Of a hundred mounts after a cut so many are cut too.
+    cut_mounts: usize,
+    /// Of a hundred payloads and noises so many read FFh on the flash.
+    erased: usize,
     /// Files and offsets are below these, so that nodes are met again.
     files: usize,
     offsets: usize,
@@ -45,6 +49,8 @@ const MIXED: Habit = Habit {
     reads: 9,
     gathers: 9,
     cuts: 30,
+    cut_mounts: 40,
+    erased: 0,
     files: 4,
     offsets: 4,
     longest: 40,
@@ -88,6 +94,7 @@ const TORN: Habit = Habit {
     files: FILES,
     offsets: 2,
     longest: 60,
+    ..MIXED
 };
 
 /// Images that fill up. The list is longer, the larger the image.
@@ -102,6 +109,23 @@ const FULL: Habit = Habit {
     files: FILES,
     offsets: 32,
     longest: 0,
+    ..MIXED
+};
+
+/// Payloads and keys that read FFh on the flash, so that what is left of a cut erase may look empty, and
+/// mounts that are cut again and again.
+const ERASED: Habit = Habit {
+    writes: 40,
+    cut_offs: 10,
+    commits: 18,
+    wipes: 14,
+    reads: 1,
+    gathers: 9,
+    cuts: 70,
+    cut_mounts: 75,
+    erased: 90,
+    longest: 80,
+    ..MIXED
 };
 
 impl RandomList {
@@ -117,10 +141,18 @@ impl RandomList {
         RandomList { rng, habit, blocks, length }
     }
 
+    /// A list of this seed whose payloads and keys read FFh on the flash, and with cuts upon cuts. The format
+    /// before it is to have noise of FFh.
+    pub fn erased(seed: u64, blocks: usize) -> RandomList {
+        let mut rng = Rng::new(seed);
+        let length = 1 + rng.below(ERASED.longest);
+        RandomList { rng, habit: ERASED, blocks, length }
+    }
+
     /// The next call. While the power is off only mounts can be made.
     pub fn next(&mut self, on: bool) -> Event {
         let call = if on { self.call() } else { self.mount() };
-        let cuts = if on { self.habit.cuts } else { 40 };
+        let cuts = if on { self.habit.cuts } else { self.habit.cut_mounts };
         let power = if self.happens(cuts) { self.cut(&call) } else { Power::STAYS };
         let lent = if self.happens(2) { self.wrong_lengths() } else { Lent::RIGHT };
         Event { call, lent, power }
@@ -159,6 +191,9 @@ impl RandomList {
 
     /// A write of this store, now and then one of an older recorder or of another.
     fn write(&mut self, file: usize, offset: usize) -> Call {
+        if self.happens(self.habit.erased) {
+            return Call::Write { file, offset, payload: Data::payload(Data::ERASED_ON_FLASH) };
+        }
         let seed = self.seed();
         if !self.happens(FOREIGN) {
             return Call::Write { file, offset, payload: Data::of(self.payload_length(), seed) };
@@ -216,6 +251,9 @@ impl RandomList {
 
     /// Bytes of the right length, now and then of a wrong one or odd ones.
     fn data(&mut self, right: fn(u64) -> Data) -> Data {
+        if self.happens(self.habit.erased) {
+            return right(Data::ALL_ERASED);
+        }
         let data = right(self.seed());
         Data { length: self.length(data.length), ..data }
     }
@@ -250,7 +288,7 @@ impl RandomList {
     /// A power cut, most often one that the call meets.
     fn cut(&mut self, call: &Call) -> Power {
         let steps = match call {
-            Call::Mount { .. } => 2,
+            Call::Mount { .. } => [2, self.blocks - 3][self.rng.below(2)],
             Call::Write { .. } | Call::Append { .. } | Call::CutOff { .. } => 2,
             Call::Read { .. } => 2,
             Call::Commit { .. } => 50,

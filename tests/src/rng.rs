@@ -3,6 +3,7 @@
 //! Each case of a test makes a generator from its own seed, so a failing case can be run alone.
 
 /// The state of the generator.
+#[derive(Clone)]
 pub struct Rng(u64);
 
 impl Rng {

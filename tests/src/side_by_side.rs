@@ -5,7 +5,7 @@
 //! implementation alone, and both go on from what it leaves.
 
 use crate::model::calls::{self, Node, CUT, DONE};
-use crate::model::image::{Power, BLOCK};
+use crate::model::image::{Power, Step, BLOCK};
 use crate::model::list::{self, Data, Lent};
 use crate::model::pages::{PAGE, PAYLOAD};
 use crate::model::record::{self as model, Numbers, SCRATCH};
@@ -332,6 +332,36 @@ pub fn call_by_library(store: &mut Store, call: list::Call, power: Power) -> u32
     after.reply
 }
 
+/// The steps of a call, by the second implementation; none where it is refused.
+pub fn steps(store: &Store, call: Call) -> Vec<Step> {
+    let wide = |number: u32| number as usize;
+    let call = match call {
+        Call::Format { noise } => {
+            let model::Record { map, letters, .. } = &store.record;
+            let outcome =
+                calls::format::outcome(&store.image, map.len(), letters.len(), &noise.bytes());
+            return outcome.unwrap_or_default();
+        }
+        Call::Mount { scratch } => list::Call::Mount { scratch },
+        Call::Write { file, offset, payload } => {
+            list::Call::Write { file: wide(file), offset: wide(offset), payload }
+        }
+        Call::Append { file, offset, second, bytes } => {
+            list::Call::Append { file: wide(file), offset: wide(offset), second, bytes }
+        }
+        Call::Read { .. } => return Vec::new(),
+        Call::CutOff { file, offset } => {
+            list::Call::CutOff { file: wide(file), offset: wide(offset) }
+        }
+        Call::Commit { noise } => list::Call::Commit { noise },
+        Call::Wipe { file, offset, noise } => {
+            list::Call::Wipe { file: wide(file), offset: wide(offset), noise }
+        }
+        Call::Gather { block } => list::Call::Gather { block: wide(block) },
+    };
+    store.steps(call)
+}
+
 /// Does a call by both. Gives what they left, or where they differ.
 pub fn compare(store: &Store, call: Call, power: Power) -> Result<After, String> {
     let data = call.data();
@@ -490,6 +520,8 @@ pub struct Tally {
     replies: BTreeMap<(&'static str, u32), usize>,
     /// For each reply of a mount the hashes of the images that it found.
     refused: BTreeMap<u32, HashSet<u64>>,
+    /// How many calls left a block unsettled.
+    pub unsettled: usize,
 }
 
 impl Tally {
@@ -516,6 +548,7 @@ impl Tally {
         for (reply, images) in &other.refused {
             self.refused.entry(*reply).or_default().extend(images);
         }
+        self.unsettled += other.unsettled;
     }
 
     /// How many calls were counted.

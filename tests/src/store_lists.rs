@@ -2,6 +2,7 @@
 //! damaged too.
 
 use crate::model::calls::{CUT, DONE};
+use crate::model::chip::Chip;
 use crate::model::files::{self, PLACES};
 use crate::model::image::{Power, BLOCK, PAGES_IN_BLOCK};
 use crate::model::list::{self, Data, Lent};
@@ -13,7 +14,7 @@ use crate::model::record::{Record, LETTERS, MAP, NONE};
 use crate::model::store::Store;
 use crate::random_lists::RandomList;
 use crate::rng::Rng;
-use crate::side_by_side::{self, compare, garbage, stretch_all, Call, Tally};
+use crate::side_by_side::{self, compare, garbage, steps, stretch_all, Call, Tally};
 use std::fmt;
 
 /// A page to damage.
@@ -259,6 +260,9 @@ pub struct Run {
     /// Image and record.
     pub store: Store,
     on: bool,
+    /// The chip that each call's steps are done on, beside the image. There is none from a format that was
+    /// cut to one that is done: the image may then be mounted, but its blocks may be unsettled.
+    chip: Option<Chip>,
     /// The replies of all calls.
     pub tally: Tally,
     /// What each call found, where that is kept.
@@ -270,7 +274,7 @@ impl Run {
     pub fn new(blocks: usize, seed: u64) -> Run {
         let image = Rng::new(seed).bytes(BLOCK * blocks);
         let store = Store { image, record: Record::blank() };
-        Run { store, on: true, tally: Tally::default(), met: None }
+        Run { store, on: true, chip: None, tally: Tally::default(), met: None }
     }
 
     /// Does an event, or says where library and second implementation differ.
@@ -291,6 +295,7 @@ impl Run {
             }
             Event::Damage(changes) => {
                 changes.iter().for_each(|change| change.apply(&mut self.store));
+                self.chip = Some(Chip::settled(&self.store.image, self.seed()));
                 self.power_off();
             }
         }
@@ -303,7 +308,7 @@ impl Run {
         let mut after = compare(&copy, call, power)?;
         self.tally.count_on(&copy.image, call, after.reply);
         if after.reply == CUT {
-            after.store.record = garbage(self.tally.calls() as u64);
+            after.store.record = garbage(self.seed());
             self.keep(&after.store, Call::MOUNT);
             let mounted = compare(&after.store, Call::MOUNT, Power::STAYS)?;
             self.tally.count_on(&after.store.image, Call::MOUNT, mounted.reply);
@@ -319,8 +324,11 @@ impl Run {
         let after = compare(&self.store, call, power)?;
         let reply = after.reply;
         self.tally.count_on(&self.store.image, call, reply);
-        self.store = after.store;
         let refused = !matches!(reply, DONE | CUT);
+        let before = std::mem::replace(&mut self.store, after.store);
+        if !refused {
+            self.follow(&before, call, reply, power)?;
+        }
         match call {
             // Refused for a scratch of a wrong length it leaves map and letters, but no numbers.
             Call::Mount { .. } | Call::Format { .. } if refused => self.power_off(),
@@ -332,6 +340,44 @@ impl Run {
             self.read_after(call)?;
         }
         Ok(reply)
+    }
+
+    /// Does the steps of a call that was done or cut on the chip, which must then have what the image has.
+    /// After a call that finished no block is unsettled. Before a format any may be.
+    fn follow(
+        &mut self,
+        before: &Store,
+        call: Call,
+        reply: u32,
+        power: Power,
+    ) -> Result<(), String> {
+        if matches!(call, Call::Format { .. }) {
+            let chip = Chip::of_unknown_past(&before.image, self.seed());
+            self.chip = (reply == DONE).then_some(chip);
+        }
+        let Some(chip) = &mut self.chip else {
+            return Ok(());
+        };
+        if reply == DONE && chip.unsettled().is_empty() {
+            // All blocks are settled and every step is done, so that nothing can be lost.
+            chip.take(&self.store.image);
+            return Ok(());
+        }
+        chip.play(&steps(before, call), power);
+        let unsettled = chip.unsettled();
+        self.tally.unsettled += usize::from(!unsettled.is_empty());
+        if chip.bytes() != self.store.image {
+            return Err("the chip has lost a page\n".into());
+        }
+        if reply == DONE && !unsettled.is_empty() {
+            return Err(format!("the blocks {unsettled:?} are left unsettled\n"));
+        }
+        Ok(())
+    }
+
+    /// A seed for what is chosen at random in the present call.
+    fn seed(&self) -> u64 {
+        self.tally.calls() as u64
     }
 
     /// Reads by both what a write has written, and after a mount one of the nodes that are there.
@@ -363,7 +409,7 @@ impl Run {
     /// Nothing of the record is of use until a mount has finished.
     fn power_off(&mut self) {
         self.on = false;
-        self.store.record = garbage(self.tally.calls() as u64);
+        self.store.record = garbage(self.seed());
     }
 
     /// Gives the image a record again: by a mount, or where that is refused by a format.

@@ -1,12 +1,14 @@
 //! The crate `johvimaru` beside the second implementation: random lists of calls with power cuts, by a
-//! `Store` and by a `Driver` on a chip; and the forms of pages.
+//! `Store` and by a `Driver` on a chip that loses what is programmed into an unsettled block; and the forms
+//! of pages.
 
 use johvimaru::{
-    Chip, Cut, CutChip, CutError, Driver, Failure, Letter, MemoryChip, Misuse, Noise, Offset,
+    Chip as _, Cut, CutChip, CutError, Driver, Failure, Letter, MemoryChip, Misuse, Noise, Offset,
     Outcome, Record, Refusal, Store, MAX_BLOCKS, MIN_BLOCKS,
 };
 use johvimaru_tests::model;
 use johvimaru_tests::model::calls::{CUT, DONE};
+use johvimaru_tests::model::chip::Chip;
 use johvimaru_tests::model::image::{Power, BLOCK, SIZES};
 use johvimaru_tests::model::list::{Call, Data, Event, Lent};
 use johvimaru_tests::model::pages::{PAGE, PAYLOAD};
@@ -110,7 +112,7 @@ fn plain(mut store: Store<Vec<u8>>, call: &Typed) -> (u32, Ours) {
 }
 
 /// Does a call on a chip. Gives the reply.
-fn by_driver(driver: &mut Driver<CutChip<MemoryChip>>, call: &Typed, power: Power) -> u32 {
+fn by_driver(driver: &mut Driver<CutChip<Chip>>, call: &Typed, power: Power) -> u32 {
     driver.chip_mut().power_on();
     if power != Power::STAYS {
         driver.chip_mut().cut_at(Cut { n: power.steps as u64, k: power.bytes });
@@ -158,8 +160,10 @@ fn assert_record(ours: &Record, second: &model::record::Record, at: &str) {
 struct Three {
     second: model::store::Store,
     ours: Ours,
-    driver: Driver<CutChip<MemoryChip>>,
+    driver: Driver<CutChip<Chip>>,
     on: bool,
+    /// How many calls left a block of the chip unsettled.
+    unsettled: usize,
 }
 
 impl Three {
@@ -167,10 +171,10 @@ impl Three {
         let data = Data::noise(1_000);
         let second = model::store::Store::formatted(blocks, data);
         let store = Store::format(vec![0; BLOCK * blocks], noise(data)).expect("a right size");
-        let chip = MemoryChip::new(vec![0x77; BLOCK * blocks]);
+        let chip = Chip::of_unknown_past(&vec![0x77; BLOCK * blocks], 5);
         let mut driver = Driver::new(CutChip::new(chip));
         assert_eq!(driver.format(noise(data)), Ok::<(), Failure<CutError<Misuse>>>(()));
-        Three { second, ours: Ours::On(store), driver, on: true }
+        Three { second, ours: Ours::On(store), driver, on: true, unsettled: 0 }
     }
 
     /// Does a call by all three, and compares what they leave.
@@ -191,6 +195,9 @@ impl Three {
             self.compare_read(file, offset, at);
         }
         self.on = reply != CUT && (self.on || matches!(call, Call::Mount { .. }) && reply == DONE);
+        let unsettled = self.driver.chip().inner().unsettled();
+        assert!(!self.on || unsettled.is_empty(), "{at}: {unsettled:?} are unsettled");
+        self.unsettled += usize::from(!unsettled.is_empty());
         self.compare(at);
         reply
     }
@@ -200,7 +207,7 @@ impl Three {
         let reply = self.second.call_with(call, power);
         if matches!(reply, DONE | CUT) {
             let image = &self.second.image;
-            self.driver = Driver::new(CutChip::new(MemoryChip::new(image.clone())));
+            self.driver = Driver::new(CutChip::new(Chip::settled(image, 5)));
             self.ours = Ours::Off(image.clone());
             self.call(Call::MOUNT, Power::STAYS, at);
         }
@@ -246,8 +253,8 @@ fn is_typed(call: Call) -> bool {
     }
 }
 
-/// Runs a list, and gives how many of its calls were cut.
-fn run(blocks: usize, seed: u64) -> usize {
+/// Runs a list. Gives how many of its calls were cut, and how many left a block unsettled.
+fn run(blocks: usize, seed: u64) -> (usize, usize) {
     let mut list = RandomList::new(seed, blocks);
     let mut three = Three::formatted(blocks);
     let mut cuts = 0;
@@ -266,13 +273,18 @@ fn run(blocks: usize, seed: u64) -> usize {
         };
         cuts += usize::from(reply == CUT);
     }
-    cuts
+    (cuts, three.unsettled)
 }
 
 #[test]
 fn random_lists_by_store_and_driver() {
-    let cuts: usize = (0..240).map(|seed| run([8, 9, 12, 33][seed as usize % 4], seed)).sum();
-    assert!(cuts > 500, "{cuts} cuts");
+    let mut all = (0, 0);
+    for seed in 0..240 {
+        let (cuts, unsettled) = run([8, 9, 12, 33][seed as usize % 4], seed);
+        all = (all.0 + cuts, all.1 + unsettled);
+    }
+    println!("{} calls were cut, {} left a block unsettled", all.0, all.1);
+    assert!(all.0 > 500 && all.1 > 300, "{all:?}");
 }
 
 /// The forms of pages that the crate sees are those of the second implementation.

@@ -161,6 +161,32 @@ fn the_next_commit_erases_the_block() {
     }
 }
 
+/// Where the last commit covers all headers of a gathered block, the next mount erases it, be mounts before it
+/// cut. Else it waits for the next commit.
+#[test]
+fn the_next_mount_erases_a_covered_block() {
+    let mut store = after(&nodes(16));
+    store.done(&[gather(3)]);
+    store.mount();
+    assert!(!is_empty(&store, 3), "its headers are above what format covers");
+    store.done(&[commit(5)]);
+    let [from, to] = [3, 4].map(|block| is_empty(&store, block));
+    assert_eq!((from, to, live(&store, 4).len()), (true, false, 16));
+
+    store.done(&[gather(4)]);
+    let block = usize::from(store.0.record.map[0]) / 16;
+    assert!(!is_empty(&store, 4) && live(&store, 4).is_empty() && block != 4);
+    for bytes in [0, 1_000, BLOCK] {
+        let mut cut = store.clone();
+        assert_eq!(cut.cut(Call::MOUNT, 0, bytes), CUT);
+        assert_eq!(cut.cut(Call::MOUNT, 1, bytes), CUT);
+        cut.mount();
+        assert!(is_empty(&cut, 4), "a block that was gathered and is covered");
+        assert_eq!(live(&cut, block).len(), 16);
+        assert_eq!(cut.0.record, store.0.record);
+    }
+}
+
 /// A node that was replaced and one that was removed are not copied, and their keys stay deleted.
 #[test]
 fn dead_pages_are_not_copied() {

@@ -53,14 +53,18 @@ fn the_example_in_both_languages() {
     }
 }
 
-/// The steps of each call, as the header says that they are learnt, leave a chip as the image.
+/// The steps of each call, as the header says that they are learnt, leave a chip as the image, and no block of it
+/// unsettled that is then programmed.
 #[test]
 fn the_steps_on_a_chip() {
     let text = "format: reply 0, steps 50\nwrite: reply 0, steps 1\nwrite: reply 0, steps 1\n\
                 read: reply 0, 40 bytes, the payload, then 184 stars\n\
                 read: reply 8, 0 bytes, none, then 224 stars\n\
                 gather: reply 0, steps 1\ncommit: reply 0, steps 46\n\
-                cut-off: reply 0, steps 1\nwrite: reply 0, steps 1\nwipe: reply 0, steps 57\n";
+                cut-off: reply 0, steps 1\nwrite: reply 0, steps 1\nwipe: reply 0, steps 57\n\
+                mount: reply 0, steps 5\ncommit: the power failed in step 17\n\
+                block 1 is unsettled and reads FFh\n\
+                mount: reply 0, steps 5\ncommit: reply 0, steps 45\n";
     for (compiler, words) in LANGUAGES {
         assert_eq!(run("chip", compiler, &words), text, "{compiler}");
     }

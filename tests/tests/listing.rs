@@ -4,7 +4,7 @@
 
 use johvimaru_tests::model::calls::DONE;
 use johvimaru_tests::model::image::BLOCK;
-use johvimaru_tests::model::list::{Call, Data};
+use johvimaru_tests::model::list::{write, Call, Data};
 use johvimaru_tests::model::listing;
 use johvimaru_tests::model::store::Store;
 use johvimaru_tests::rng::Rng;
@@ -19,10 +19,6 @@ fn repository() -> PathBuf {
 
 fn formatted(blocks: usize) -> Store {
     Store::formatted(blocks, Data { length: 7_168, seed: 1_000 })
-}
-
-fn write(file: usize, offset: usize, seed: u64) -> Call {
-    Call::Write { file, offset, payload: Data::payload(seed) }
 }
 
 /// The write of a recorder from before lengths were kept.

@@ -5,7 +5,7 @@ use johvimaru_tests::model::aes;
 use johvimaru_tests::model::calls::{self, CUT, DONE};
 use johvimaru_tests::model::files;
 use johvimaru_tests::model::image::{pages, play, Power, Step, BLOCK};
-use johvimaru_tests::model::list::{Call, Data};
+use johvimaru_tests::model::list::{commit, cut_off, wipe, write, Call, Data};
 use johvimaru_tests::model::listing;
 use johvimaru_tests::model::pages::{Entry, Form, Header, PAGE};
 use johvimaru_tests::model::record::{Numbers, Record, LETTERS, MAP, NONE, SCRATCH};
@@ -15,22 +15,6 @@ const FORMAT_NOISE: Data = Data { length: 7_168, seed: 1_000 };
 
 fn formatted(blocks: usize) -> Store {
     Store::formatted(blocks, FORMAT_NOISE)
-}
-
-fn write(file: usize, offset: usize, seed: u64) -> Call {
-    Call::Write { file, offset, payload: Data::payload(seed) }
-}
-
-fn cut_off(file: usize, offset: usize) -> Call {
-    Call::CutOff { file, offset }
-}
-
-fn commit(seed: u64) -> Call {
-    Call::Commit { noise: Data::noise(seed) }
-}
-
-fn wipe(file: usize, offset: usize, seed: u64) -> Call {
-    Call::Wipe { file, offset, noise: Data::noise(seed) }
 }
 
 fn payload(seed: u64) -> Result<Vec<u8>, u32> {
@@ -293,15 +277,15 @@ fn pages_are_taken_in_order() {
     assert_eq!(store.record.entry(0), Some(Entry { page: 111, key: 63 }));
 }
 
-/// After a cut erase there are empty pages before used ones, and they are not taken.
+/// Of a dead block whose erase was cut, mount erases the rest: no empty pages stand before used ones.
 #[test]
-fn empty_pages_before_used_ones_are_not_taken() {
+fn a_dead_block_half_erased_is_erased_by_the_mount() {
     let mut store = formatted(8);
     done(&mut store, &[write(0, 0, 1), write(0, 1, 2), cut_off(0, 0)]);
     assert_eq!(store.cut(commit(3), 45, PAGE), CUT);
     assert_eq!(store.call(Call::MOUNT), DONE);
     done(&mut store, &[write(0, 0, 4)]);
-    assert_eq!(store.record.entry(0), Some(Entry { page: 51, key: 0 }));
+    assert_eq!(store.record.entry(0), Some(Entry { page: 32, key: 0 }));
 }
 
 /// A spoilt page is passed over, and so is a torn one.
@@ -322,7 +306,7 @@ fn spoilt_and_torn_pages_are_passed_over() {
 fn a_first_page_cut_within_its_header() {
     let mut store = formatted(8);
     assert_eq!(store.cut(write(0, 0, 1), 0, 29), CUT);
-    assert_eq!(store.steps(Call::MOUNT).len(), 1);
+    assert_eq!(store.steps(Call::MOUNT).len(), 5);
     assert_eq!(store.call(Call::MOUNT), DONE);
     assert!(store == formatted(8));
 }
@@ -358,7 +342,7 @@ fn steps_of_format() {
 #[test]
 fn steps_of_the_other_calls() {
     let store = listing_case();
-    check_steps(&store, Call::MOUNT, 0);
+    check_steps(&store, Call::MOUNT, 4);
     check_steps(&store, write(0, 0, 1), 1);
     check_steps(&store, cut_off(0, 0), 1);
     check_steps(&store, Call::Gather { block: 3 }, 2);
@@ -385,20 +369,20 @@ fn steps_with_dead_blocks() {
     check_steps(&store, commit(1), 48);
 }
 
-/// A mount has a step for each block that is not chosen, not data and not empty.
+/// A mount has a step for each block but the chosen ones and those with data; an empty one counts.
 #[test]
 fn steps_of_mount() {
     let mut store = listing_case();
     assert_eq!(store.cut(commit(1), 3, 7), CUT);
-    check_steps(&store, Call::MOUNT, 1);
+    check_steps(&store, Call::MOUNT, 4);
     assert_eq!(store.cut(Call::MOUNT, 0, 17), CUT);
-    check_steps(&store, Call::MOUNT, 1);
+    check_steps(&store, Call::MOUNT, 4);
     for block in [5, 7] {
         store.image[BLOCK * block + 100] = 0;
     }
-    check_steps(&store, Call::MOUNT, 3);
+    check_steps(&store, Call::MOUNT, 4);
     assert_eq!(store.call(Call::MOUNT), DONE);
-    check_steps(&store, Call::MOUNT, 0);
+    check_steps(&store, Call::MOUNT, 4);
 }
 
 /// The kinds of a call's steps, in order: P for a program, E for an erase.

@@ -1,17 +1,23 @@
 //! Demand 3 of document 01 on the second implementation: lists of calls with cuts, beside the plain
-//! book.
+//! book and a chip that loses what is programmed into an unsettled block.
 
 use johvimaru_tests::model::calls::{CUT, DONE};
 use johvimaru_tests::model::demand::{run, shrink, Run};
 use johvimaru_tests::model::image::{Power, BLOCK};
-use johvimaru_tests::model::list::{Call, Data, Event};
+use johvimaru_tests::model::list::{commit, cut_off, wipe, write, Call, Event};
 use johvimaru_tests::model::pages::{HEADER, PAGE};
 use johvimaru_tests::random_lists::RandomList;
 use std::collections::BTreeMap;
 use std::ops::Range;
 
-/// How often each call got each reply.
-type Tally = BTreeMap<(&'static str, u32), usize>;
+/// What was met in lists.
+#[derive(Default)]
+struct Tally {
+    /// How often each call got each reply.
+    replies: BTreeMap<(&'static str, u32), usize>,
+    /// How many calls left a block unsettled.
+    unsettled: usize,
+}
 
 /// A list that breaks, for reading.
 fn report(blocks: usize, seed: u64, broken: &str, events: &[Event]) -> String {
@@ -23,13 +29,17 @@ fn report(blocks: usize, seed: u64, broken: &str, events: &[Event]) -> String {
 
 /// Runs the random lists of these seeds on images of so many blocks, and holds them to a mix of replies.
 fn check_random_lists(blocks: usize, seeds: Range<u64>) {
-    let mut tally = Tally::new();
+    let mut tally = Tally::default();
     for seed in seeds {
         if let Err((broken, events)) = check_random_list(blocks, seed, &mut tally) {
             let (shorter, why) = shrink(blocks, seed, events);
             panic!("{}", report(blocks, seed, &why.unwrap_or(broken), &shorter));
         }
     }
+    let Tally { replies: tally, unsettled } = tally;
+    let calls: usize = tally.values().sum();
+    println!("{blocks} blocks: {calls} calls, {unsettled} left a block unsettled");
+    assert!(unsettled > 100, "{unsettled} of {calls} calls left a block unsettled");
     for (call, replies) in [
         ("mount", [DONE, 1, 2, CUT].as_slice()),
         ("write", &[DONE, 1, 2, 4, 5, 6, 10, CUT]),
@@ -58,7 +68,11 @@ fn check_random_list(
         let event = list.next(state.on);
         events.push(event);
         match state.step(&event) {
-            Ok(reply) => *tally.entry((event.call.name(), reply.unwrap_or(0))).or_default() += 1,
+            Ok(reply) => {
+                let key = (event.call.name(), reply.unwrap_or(0));
+                *tally.replies.entry(key).or_default() += 1;
+                tally.unsettled += usize::from(!state.chip.unsettled().is_empty());
+            }
             Err(broken) => return Err((broken, events)),
         }
     }
@@ -89,22 +103,6 @@ fn random_lists_on_16_blocks() {
 }
 
 // ---- Chosen lists
-
-fn write(file: usize, offset: usize, seed: u64) -> Call {
-    Call::Write { file, offset, payload: Data::payload(seed) }
-}
-
-fn cut_off(file: usize, offset: usize) -> Call {
-    Call::CutOff { file, offset }
-}
-
-fn commit(seed: u64) -> Call {
-    Call::Commit { noise: Data::noise(seed) }
-}
-
-fn wipe(file: usize, offset: usize, seed: u64) -> Call {
-    Call::Wipe { file, offset, noise: Data::noise(seed) }
-}
 
 /// Runs a list and holds each call to its reply.
 fn check_replies(blocks: usize, list: &[(Event, u32)]) {

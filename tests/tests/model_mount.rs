@@ -82,7 +82,7 @@ fn the_highest_sequence_decides() {
     assert_eq!(with_letter(&record, b'd'), [0, 1]);
     assert_eq!(record.numbers.sequence, 6);
     assert_eq!(scratch[0], 5);
-    assert_eq!(steps, []);
+    assert_eq!(steps, [4, 5, 6, 7].map(|block| Step::Erase { block }));
 }
 
 #[test]
@@ -118,7 +118,7 @@ fn covered_pages_are_no_events() {
     assert_eq!(with_letter(&record, b'd'), []);
     assert_eq!(record.numbers, Numbers { sequence: 10, epoch: 3, keys0: 0, keys1: 1, commit: 7 });
     assert_eq!(scratch, [0; PLACES]);
-    assert_eq!(steps, [Step::Erase { block: 2 }]);
+    assert_eq!(steps, [2, 4, 5, 6].map(|block| Step::Erase { block }));
 }
 
 /// A torn page is no event. A torn node above the covered sequence spends its key, and any torn page
@@ -161,14 +161,14 @@ fn the_chosen_blocks() {
     put(&mut image, 112, &commit(3, 6, &[]).pages());
     let Mounted { record, steps, .. } = mounted(&image);
     assert_eq!(record.numbers, Numbers { sequence: 5, epoch: 6, keys0: 4, keys1: 1, commit: 6 });
-    assert_eq!(steps, [0, 2, 5, 7].map(|block| Step::Erase { block }));
+    assert_eq!(steps, [0, 2, 3, 5, 7].map(|block| Step::Erase { block }));
 
     // Blocks that are not whole count for nothing.
     image[BLOCK * 4 + 255] = 0;
     image[BLOCK * 6 + 15 * PAGE] = 0;
     let Mounted { record, steps, .. } = mounted(&image);
     assert_eq!(record.numbers, Numbers { sequence: 7, epoch: 6, keys0: 5, keys1: 1, commit: 7 });
-    assert_eq!(steps, [0, 2, 4, 6].map(|block| Step::Erase { block }));
+    assert_eq!(steps, [0, 2, 3, 4, 6].map(|block| Step::Erase { block }));
 
     // A whole block that is not chosen counts for the next epoch too.
     image[BLOCK * 5 + 255] = 0;
@@ -178,7 +178,7 @@ fn the_chosen_blocks() {
     assert_eq!(numbers, Numbers { sequence: 1, epoch: 10, keys0: 0, keys1: 3, commit: 2 });
 }
 
-/// Strays are erased, whatever is in them.
+/// Strays are erased, whatever is in them, and so are empty blocks.
 #[test]
 fn what_mount_erases() {
     let mut image = image();
@@ -188,8 +188,21 @@ fn what_mount_erases() {
     put(&mut image, 96, &[Header::Commit { epoch: 9, part: 0, covered: 0 }.page(&[b'f'; 224])]);
     put(&mut image, 97, &[node(2, 0, 0, 0)]);
     let Mounted { record, steps, .. } = mounted(&image);
-    assert_eq!(steps, [4, 5].map(|block| Step::Erase { block }));
+    assert_eq!(steps, [4, 5, 7].map(|block| Step::Erase { block }));
     assert_eq!(record.numbers, Numbers { sequence: 3, epoch: 2, keys0: 0, keys1: 1, commit: 2 });
+}
+
+/// A data block without a live page is erased where the commit covers all its headers, torn ones too.
+#[test]
+fn covered_data_blocks_are_erased() {
+    let mut image = image_with(&commit(2, 9, &[(0, 48, 0)]));
+    put(&mut image, 48, &[node(3, 0, 0, 0)]);
+    put(&mut image, 64, &[node(9, 0, 1, 1), torn(node(8, 0, 2, 2)), cut_off(4, 3, 0)]);
+    put(&mut image, 80, &[node(7, 0, 3, 3), torn(node(10, 0, 4, 4))]);
+    let erases = |image: &[u8]| mounted(image).steps;
+    assert_eq!(erases(&image), [2, 4, 6].map(|block| Step::Erase { block }));
+    put(&mut image, 96, &[cut_off(10, 0, 0)]);
+    assert_eq!(erases(&image), [2, 3, 4].map(|block| Step::Erase { block }));
 }
 
 fn refusal(image: &[u8]) -> Option<Refusal> {
@@ -458,7 +471,7 @@ fn damaged_images() {
             continue;
         }
         let once = store.clone();
-        assert_eq!(store.cut(Call::MOUNT, 0, 0), DONE, "seed {seed}");
+        assert_eq!(store.call(Call::MOUNT), DONE, "seed {seed}");
         assert!(store == once, "seed {seed}: a second mount changes something");
         for _ in 0..4 {
             let call = some_call(&mut rng);

@@ -1,19 +1,20 @@
-//! The calls of the library beside the second implementation: every cut of format, write and cut-off, the
-//! order of the tests, and wrong lengths.
+//! The calls of the library beside the second implementation: every cut of format, write, cut-off and mount,
+//! what a mount erases, the order of the tests, and wrong lengths.
 
 use johvimaru::raw as recorder;
 use johvimaru_tests::guarded::Guarded;
 use johvimaru_tests::model::calls::{CUT, DONE};
 use johvimaru_tests::model::files::COUNTS;
-use johvimaru_tests::model::image::{Power, BLOCK};
+use johvimaru_tests::model::image::{Power, Step, BLOCK};
 use johvimaru_tests::model::keys::NOISE;
 use johvimaru_tests::model::list::{Data, Lent};
 use johvimaru_tests::model::pages::{Entry, LAST, PAGE, PAYLOAD};
 use johvimaru_tests::model::record::{Record, LETTERS, MAP, SCRATCH};
 use johvimaru_tests::model::store::Store;
 use johvimaru_tests::rng::Rng;
-use johvimaru_tests::side_by_side::{compare_lent, Both, Call, Tally};
-use johvimaru_tests::store_lists::Change;
+use johvimaru_tests::side_by_side::{self, compare, compare_lent, Both, Call, Tally};
+use johvimaru_tests::store_lists::{met_in_random_list, Change};
+use std::collections::BTreeMap;
 
 const FORMAT: Call = Call::Format { noise: Data { length: NOISE, seed: 1_000 } };
 
@@ -89,25 +90,117 @@ fn every_cut_of_a_cut_off() {
     }
 }
 
-/// A mount that erases two blocks, cut at every byte, and the mount after it.
-#[test]
-fn every_cut_of_a_mount() {
+/// The blocks that a mount erases, in its order.
+fn erased_by_mount(store: &Both) -> Vec<usize> {
+    let block = |step: Step| match step {
+        Step::Erase { block } => block,
+        Step::Program { .. } => panic!("a mount programs a page"),
+    };
+    side_by_side::steps(&store.0, Call::MOUNT).into_iter().map(block).collect()
+}
+
+/// Block 5 is a copy of a key block, 6 is spoilt, and 4 and 7 are empty.
+fn with_strays() -> Both {
     let mut store = Both::formatted(8);
     store.done(&[write(0, 0, 1), write(2, 5, 2)]);
     store.0.image.copy_within(0..BLOCK, 5 * BLOCK);
     store.0.image[6 * BLOCK + 77] = 0;
-    let mut whole = store.clone();
-    whole.mount();
-    for steps in 0..2 {
-        for bytes in 0..=BLOCK + 1 {
-            let mut cut = store.clone();
-            assert_eq!(cut.cut(Call::MOUNT, steps, bytes), CUT);
-            cut.mount();
-            assert!(cut == whole, "cut at {steps}, {bytes}");
+    store
+}
+
+/// Block 3 was full when it was committed and has no live page any more. Block 6 is spoilt, 5 and 7 are empty.
+fn with_covered_block() -> Both {
+    let mut store = Both::formatted(8);
+    (0..16).for_each(|seed| store.done(&[write(0, 0, seed)]));
+    store.done(&[commit(NOISE), write(0, 0, 20)]);
+    store.0.image[6 * BLOCK + 77] = 0;
+    store
+}
+
+/// A mount that erases four blocks, cut at every byte, and the mount after it. Another one erases the same
+/// blocks where they are still to be erased, and changes no byte.
+#[test]
+fn every_cut_of_a_mount() {
+    for (store, blocks) in [(with_strays(), [4, 5, 6, 7]), (with_covered_block(), [3, 5, 6, 7])] {
+        assert_eq!(erased_by_mount(&store), blocks);
+        let mut whole = store.clone();
+        whole.mount();
+        for steps in 0..4 {
+            for bytes in 0..=BLOCK + 1 {
+                let mut cut = store.clone();
+                assert_eq!(cut.cut(Call::MOUNT, steps, bytes), CUT);
+                cut.mount();
+                assert!(cut == whole, "cut at {steps}, {bytes}");
+            }
+        }
+        for steps in [4, 5, usize::MAX - 1] {
+            let mut other = store.clone();
+            assert_eq!(other.cut(Call::MOUNT, steps, 0), DONE);
+            assert!(other == whole, "power for {steps} steps");
+        }
+        let mut again = whole.clone();
+        assert_eq!(erased_by_mount(&again), blocks, "they are empty now");
+        again.mount();
+        assert!(again == whole, "a second mount changes something");
+    }
+}
+
+/// A data block without a live page is erased by a mount where the commit covers all its headers. A torn one
+/// above is as good as a whole one to keep it, and so is a live page.
+#[test]
+fn covered_blocks_and_their_headers() {
+    let mut store = Both::formatted(8);
+    (0..15).for_each(|seed| store.done(&[write(0, 0, seed)]));
+    store.done(&[commit(NOISE)]);
+    assert_eq!(erased_by_mount(&store), [2, 5, 6, 7], "block 3 has a live page");
+
+    let mut torn = store.clone();
+    assert_eq!(torn.cut(write(1, 0, 20), 0, 100), CUT);
+    torn.mount();
+    torn.done(&[write(0, 0, 21)]);
+    assert_eq!(torn.0.record.entry(0), Some(Entry { page: 32, key: 1 }));
+    assert_eq!(erased_by_mount(&torn), [5, 6, 7], "page 63 is torn and above");
+    torn.mount();
+    assert_eq!(torn.0.record.letters[0], b'd', "the key of page 63");
+
+    let mut spoilt = store.clone();
+    assert_eq!(spoilt.cut(write(1, 0, 20), 0, 29), CUT);
+    spoilt.mount();
+    spoilt.done(&[write(0, 0, 21)]);
+    assert_eq!(erased_by_mount(&spoilt), [3, 5, 6, 7], "page 63 has no header");
+    spoilt.mount();
+    assert!(spoilt.0.image[3 * BLOCK..4 * BLOCK].iter().all(|&byte| byte == 0xff));
+
+    store.done(&[cut_off(0, 0)]);
+    assert_eq!(erased_by_mount(&store), [2, 5, 6, 7], "page 63 removes the node");
+    store.mount();
+    assert_eq!(store.content(0, 0), Err(8));
+}
+
+/// The reply of a mount by both, whose power fails then.
+fn mount_of(store: &Store, power: Power) -> u32 {
+    compare(store, Call::MOUNT, power).unwrap_or_else(|why| panic!("{power:?}:\n{why}")).reply
+}
+
+/// On what random lists find, damaged images too, a mount has as many steps as the second implementation's: a
+/// cut in the last one cuts it, and a cut behind it does not.
+#[test]
+fn steps_of_a_mount_on_damaged_images() {
+    let mut lengths = BTreeMap::new();
+    for (blocks, seeds, longest) in [(8, 0..300, 40), (9, 300..450, 40), (32, 450..480, 60)] {
+        for (store, _) in seeds.flat_map(|seed| met_in_random_list(blocks, seed, longest)) {
+            if mount_of(&store, Power::STAYS) == DONE {
+                let length = side_by_side::steps(&store, Call::MOUNT).len();
+                assert_eq!(mount_of(&store, Power::cut(length, 0)), DONE);
+                for cut in (0..length).rev().take(2) {
+                    assert_eq!(mount_of(&store, Power::cut(cut, BLOCK)), CUT);
+                }
+                *lengths.entry(length).or_insert(0) += 1;
+            }
         }
     }
-    assert_eq!(store.cut(Call::MOUNT, 2, 0), DONE);
-    assert!(store == whole);
+    println!("steps of mounts, and on how many images: {lengths:?}");
+    assert!(lengths.len() > 7 && lengths.values().sum::<usize>() > 5_000, "{lengths:?}");
 }
 
 #[test]

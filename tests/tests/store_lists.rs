@@ -1,5 +1,6 @@
 //! All calls of the library on random lists, beside the second implementation: with power cuts,
-//! wrong lengths, damaged images and records that almost fit.
+//! wrong lengths, damaged images and records that almost fit. Beside them goes a chip that loses what is
+//! programmed into an unsettled block.
 
 use johvimaru_tests::model::calls::{CUT, DONE};
 use johvimaru_tests::side_by_side::Tally;
@@ -18,13 +19,15 @@ struct Lists {
 const LISTS: [Lists; 5] = [
     Lists { blocks: 8, seeds: 0..18_000, longest: 400 },
     Lists { blocks: 9, seeds: 100_000..108_000, longest: 400 },
-    Lists { blocks: 16, seeds: 200_000..202_500, longest: 600 },
+    Lists { blocks: 16, seeds: 200_000..203_500, longest: 600 },
     Lists { blocks: 32, seeds: 300_000..300_500, longest: 1_200 },
     Lists { blocks: 256, seeds: 400_000..400_150, longest: 100 },
 ];
 
 /// Each refusal of a mount for what is on the image is met on so many images at least.
 const REFUSED_IMAGES: usize = 1_000;
+/// So many calls leave a block unsettled at least.
+const UNSETTLED: usize = 4_000;
 /// So many calls are compared at least.
 const CALLS: usize = 1_000_000;
 
@@ -70,6 +73,7 @@ fn random_lists() {
         println!("mounts refused {refusal} on {images} images");
         assert!(images >= REFUSED_IMAGES, "{images} images with refusal {refusal}");
     }
-    println!("{} calls", tally.calls());
+    println!("{} calls, {} left a block unsettled", tally.calls(), tally.unsettled);
+    assert!(tally.unsettled >= UNSETTLED, "{} calls left a block unsettled", tally.unsettled);
     assert!(tally.calls() >= CALLS, "{} calls", tally.calls());
 }

@@ -26,21 +26,21 @@ use Rattle.image.proofs.KeyBlock.{keys-agree, renewed-other}
 use Rattle.image.proofs.Looks.{sized, block-inside, lowest-empty}
 use Rattle.image.proofs.Step.{page-of-same}
 use Rattle.store.specs.Kind.{pageIn, kindOf, keysEpoch, isChosen}
+use Rattle.store.specs.Record.{isDead}
 use Rattle.store.specs.Format.{formatted}
-use Rattle.store.specs.Commit.{Stage, keysReplaced, commitReplaced, isDead, deadErased, commitStages}
+use Rattle.store.specs.Commit.{Stage, keysReplaced, commitReplaced, deadErased, commitStages}
 use Rattle.store.specs.declared.Numbers.{Numbers}
 use Rattle.store.proofs.Copies.{keys-kind, commit-kind, other-unchosen, empty-kind}
 use Rattle.store.proofs.IdleBlocks.{Idle}
 use Rattle.store.proofs.Quiets.{Mountable, Unchosen}
 use Rattle.store.proofs.Views.{keysAt, commitAt}
 use Rattle.guarantee.specs.Book.{Book, bookRenewed}
-use Rattle.guarantee.specs.Origin.{Origin, plain, cipher, copied, byteOrigin}
+use Rattle.guarantee.specs.Origin.{Origin, copied}
 use Rattle.guarantee.specs.Handover.{handedPage, handedByte, handedImage}
-use Rattle.guarantee.proofs.Chains.{originsAfter}
 use Rattle.guarantee.proofs.KeysOnward.{KeysMoved}
 use Rattle.guarantee.proofs.CommitOnward.{Chosen, naming-chosen, CommitMoved, all-idle}
 use Rattle.guarantee.proofs.CommitChain.{Starting, e, withKeys0, withKeys1, withCommit, ended, bookEnd, going-begun, keys-below, new-first, new-second, booksKeys0, booksKeys1, keys0, keys1, commit, recommitting}
-use Rattle.guarantee.proofs.CommitPages.{keys-page, keys-other, keys-cipher, commit-page, commit-rest, commit-other, commit-cipher, idle-other, erased-cipher}
+use Rattle.guarantee.proofs.CommitPages.{keys-page, keys-other, commit-page, commit-rest, commit-other, idle-other}
 
 -- ---- the chosen blocks of an image are three
 keys-two : (img : List ℕ) → Mountable img → keysAt img 0 ≡ keysAt img 1 → ⊥
@@ -57,7 +57,7 @@ keys-commit img ok q h z =
     let same : kindOf img (keysAt img q) ≡ kindOf img (commitAt img) = ap (kindOf img) z in
     let t : _≡_ {A = ℕ} 0 1 = cc in omega arith
 
-chosen-one : (n : Numbers) (b : ℕ) → isChosen n b ≡ true → (b ≡ n .keys0) ⊎ (b ≡ n .keys1) ⊎ (b ≡ n .commit)
+pub chosen-one : (n : Numbers) (b : ℕ) → isChosen n b ≡ true → (b ≡ n .keys0) ⊎ (b ≡ n .keys1) ⊎ (b ≡ n .commit)
 chosen-one n b = go (eqb b (n .keys0)) refl (eqb b (n .keys1)) refl
   where
     go : (x : Bool) → eqb b (n .keys0) ≡ x → (y : Bool) → eqb b (n .keys1) ≡ y → x || y || eqb b (n .commit) ≡ true → (b ≡ n .keys0) ⊎ (b ≡ n .keys1) ⊎ (b ≡ n .commit)
@@ -201,32 +201,6 @@ module _ (img : List ℕ) (b : Book) (o : ℕ → Origin) (noise : ℕ → List 
   same2 : blockAt (s4 .image) at2 ≡ blockAt (s3 .image) at2
   same2 = other3 at2 (λ d i z. i .unchosen .no-commit (commit-at3 ∙ sym z))
 
-  -- no enciphered byte stands in them
-  abbrev of : List ℕ → ℕ → Origin
-  of = byteOrigin now new
-
-  abbrev origins : Stage → ℕ → Origin
-  origins = originsAfter img o of noise c c
-
-  cipher2 : (a p d : ℕ) → origins s4 a ≡ cipher p d → origins s2 a ≡ cipher p d
-  cipher2 a p d z =
-      commit-cipher img o now new noise c c s2 _ _ (k1 .reached) chosen2 (bookEnd img b o noise c now begun books first) epoch (omega arith) (k1 .going .epoch) (recommitting img b o noise c now begun books first) a p d
-      (erased-cipher img o of noise c c s3 a p d z)
-
-  cipher1 : (a p d : ℕ) → origins s4 a ≡ cipher p d → origins s1 a ≡ cipher p d
-  cipher1 a p d z =
-      keys-cipher img o now new noise c c s1 _ (bookRenewed c 0 b) epoch 1 (k0 .reached) (omega arith) (k0 .going) (omega arith) (first .noiseFull) below1 (new-second img b o noise c now begun books first) a p d
-      (cipher2 a p d z)
-
-  cipher0 : (a p d : ℕ) → origins s4 a ≡ cipher p d → origins begun a ≡ cipher p d
-  cipher0 a p d z =
-      keys-cipher img o now new noise c c begun books b epoch 0 (first .reached) (omega arith) (going-begun img b o noise c now begun books first) (omega arith) (first .noiseFull)
-      (keys-below img b o noise c now begun books first 0 (omega arith)) (new-first img b o noise c now begun books first) a p d (cipher1 a p d z)
-
-  -- a block that was empty had none
-  not-plain : (x : Origin) (p d : ℕ) → x ≡ plain → x ≡ cipher p d → ⊥
-  not-plain x p d y z = let t : _≡_ {A = ℕ} 0 1 = cc in omega arith
-
   -- ---- the record's numbers
   abbrev numbers : Numbers
   numbers = record { sequence = begun .after .numbers .sequence; epoch = epoch + 1; keys0 = at0; keys1 = at1; commit = at2 }
@@ -234,14 +208,6 @@ module _ (img : List ℕ) (b : Book) (o : ℕ → Origin) (noise : ℕ → List 
   numbers-are : commitStages (noise c) begun .after .numbers ≡ numbers
   unfolding commitStages deadErased commitReplaced keysReplaced
   numbers-are = ap (λ (t : ℕ). record { sequence = begun .after .numbers .sequence; epoch = t + 1; keys0 = at0; keys1 = at1; commit = at2 }) (going-begun img b o noise c now begun books first .epoch)
-
-  pub chosen-no-cipher : (a p d : ℕ) → isChosen (commitStages (noise c) begun .after .numbers) (a / blockSize) ≡ true → origins s4 a ≡ cipher p d → ⊥
-  chosen-no-cipher a p d h z = go (chosen-one numbers (a / blockSize) (subst (λ (n : Numbers). isChosen n (a / blockSize) ≡ true) numbers-are h))
-    where
-      go : (a / blockSize ≡ at0) ⊎ (a / blockSize ≡ at1) ⊎ (a / blockSize ≡ at2) → ⊥
-      go (inl y) = not-plain _ p d (first .reached .sound .clear a (rw y (lowest-empty (begun .image) (first .room)))) (cipher0 a p d z)
-      go (inr (inl y)) = not-plain _ p d (k0 .reached .sound .clear a (rw y (lowest-empty (s1 .image) (k0 .going .room)))) (cipher1 a p d z)
-      go (inr (inr y)) = not-plain _ p d (k1 .reached .sound .clear a (rw y (lowest-empty (s2 .image) (k1 .going .room)))) (cipher2 a p d z)
 
   -- ---- no letter but f, no entry, and the other blocks empty: every page
   module _ (free : begun .after .letters ≡ formatted .letters) (vacant : begun .after .map ≡ formatted .map)

@@ -1,48 +1,50 @@
--- A mount that is cut. Where the power of a commit fails among the pages of its first copy, the block that the copy began in is neither chosen nor data nor
--- empty: the next mount has to erase it, and a mount without power for a step is cut.
-use Prim.Native.Nat.{ℕ, _+_, _<_}
+-- A mount that is cut. Where the power of a commit fails among the pages of its first copy, the block that the copy began in is neither chosen nor data:
+-- the next mount has to erase it, and a mount without power for a step is cut.
+use Prim.Native.Nat.{ℕ, zero, suc, _+_, _<_, min}
 use native.Mathlib.Omega.{arith}
-use mathlib.Core.Path.{_≡_, sym, ap, _∙_}
-use mathlib.Core.Bool.{true, false, not, _&&_, _||_}
-use mathlib.Core.List.{List, map}
+use native.Mathlib.Decide.{ℕ-discrete}
+use mathlib.Core.Path.{_≡_, refl, sym, ap, subst, _∙_}
+use mathlib.Core.Bool.{Bool, true, false, _&&_, _||_}
+use mathlib.Core.List.{List, [], _∷_, _++_, map}
 use lib.Dec.{T, eqb, leb, ltb}
-use lib.ListN.{length}
-use borrow.Author.Tests.{lt-ltb, le-ltb, ne-eqb, not-true}
-use Rattle.base.proofs.Choice.{and-true, true-false}
-use Rattle.base.proofs.Eachs.{each-map}
+use lib.ListN.{length, take, drop, replicate, take-append-drop}
+use borrow.Author.Tests.{lt-ltb, le-ltb, ne-eqb}
+use Rattle.base.specs.Each.{Each, allAre}
+use Rattle.base.proofs.Choice.{and-true}
+use Rattle.base.proofs.Eachs.{allAre-replicate}
 use Rattle.base.proofs.Folds.{length-listFrom}
 use Rattle.base.proofs.Searches.{count-some}
-use Rattle.page.specs.Frame.{pageSize}
+use Rattle.page.specs.Frame.{pageSize, erased}
+use Rattle.page.specs.Form.{isEmpty}
 use Rattle.page.specs.Header.{keysFrame}
 use Rattle.page.specs.Key.{positions, keyBlock}
-use Rattle.image.specs.Size.{pagesInBlock, blocks}
+use Rattle.image.specs.Size.{blockSize, pagesInBlock, blocks}
 use Rattle.image.specs.Look.{blockAt, blockEmpty, lowestEmpty}
 use Rattle.image.specs.Block.{renewedKey, keyBlockPage}
-use Rattle.image.specs.Step.{Step, erase, Inside, play}
+use Rattle.image.specs.Step.{Step, erase, Inside, upTo, whole, play}
 use Rattle.image.proofs.Looks.{block-inside}
 use Rattle.image.proofs.Empties.{block-empty-same}
-use Rattle.image.proofs.Plays.{play-append-first, block-play-other}
+use Rattle.image.proofs.Plays.{play-append-first}
 use Rattle.image.proofs.Rows.{rowSteps}
-use Rattle.image.proofs.Step.{blockOf}
-use Rattle.store.specs.Kind.{kindOf, keysEpoch, isChosen, isData}
+use Rattle.image.proofs.Step.{cleared, whole-length, upTo-whole, block-upTo-other, block-erase-upTo}
+use Rattle.store.specs.Kind.{kindOf, keysEpoch}
 use Rattle.store.specs.Record.{Record}
 use Rattle.store.specs.Outcome.{Outcome, left}
-use Rattle.store.specs.Mount.{isStray, mountNumbers, mountSteps, mounted, mountOf}
+use Rattle.store.specs.Mount.{isSwept, mountSteps, mounted, mountOf}
 use Rattle.store.specs.Commit.{Stage, begin, cleaned, replaceKeys, keysReplaced, commitReplaced, deadErased, commitStages, commitOf}
 use Rattle.store.specs.declared.Reply.the-variants.{Done}
 use Rattle.store.proofs.Counts.{keys-replaced-count, commit-replaced-count, commit-steps, mount-steps}
 use Rattle.store.proofs.Outcomes.{commit-outcome}
 use Rattle.store.proofs.Views.{keysAt}
 use Rattle.store.proofs.Quiets.{Mountable}
-use Rattle.store.proofs.Copies.{Row, Filled, row-begun, row-filled, filled-eventless, keys-unfinished, other-unchosen}
-use Rattle.store.proofs.IdleBlocks.{Idle}
+use Rattle.store.proofs.Copies.{Row, Filled, row-filled, filled-eventless, keys-unfinished, other-unchosen}
+use Rattle.store.proofs.IdleBlocks.{idle-swept}
 use Rattle.guarantee.specs.Call.{mount, commit, Event, lentRight}
 use Rattle.guarantee.specs.Book.{Book, bookRenewed, keysDone, commitDone, bookCommitted, entered}
 use Rattle.guarantee.specs.Origin.{copied}
 use Rattle.guarantee.specs.Machine.{Machine, step}
 use Rattle.guarantee.proofs.Sounds.{Loose, Settled}
-use Rattle.guarantee.proofs.StepBytes.{false-of}
-use Rattle.guarantee.proofs.Loosenings.{strays, strays-idle, loose-stray, which-each}
+use Rattle.guarantee.proofs.Loosenings.{swept, loose-idle, which-each}
 use Rattle.guarantee.proofs.KeysCopy.{Replacing, row as keys-row}
 use Rattle.guarantee.proofs.KeysOnward.{Going, replacing, more-is}
 use Rattle.guarantee.proofs.CommitChain.{Starting, going-begun, keys-below, new-first}
@@ -140,16 +142,14 @@ module _ (m : Machine) (s : Settled m) (on : T (m .on)) (arg : List ℕ) (done :
   loose : Loose image copyBlock
   loose =
       record {
+        inside = let same = filled .only .size in rw same (filled .inside);
         unchosen = other-unchosen image ok copyBlock (keys-unfinished (m .image) copyBlock epoch 0 (keyBlockPage epoch 0 key) row n k (omega arith) (λ z. absurd (omega arith)));
         eventless = filled-eventless (m .image) image copyBlock filled;
       }
 
-  begun-full : blockEmpty image copyBlock ≡ false
-  begun-full = false-of (blockEmpty image copyBlock) (row-begun (m .image) copyBlock pagesInBlock (keyBlockPage epoch 0 key) (keysFrame epoch 0) row n k some (omega arith))
-
   -- so it is one that mount erases
-  copy-stray : isStray (step m cutCommit .image) (mountNumbers (step m cutCommit .image)) copyBlock ≡ true
-  copy-stray = rw image-is (loose-stray image ok copyBlock loose begun-full)
+  copy-swept : isSwept (step m cutCommit .image) (mounted (step m cutCommit .image)) copyBlock ≡ true
+  copy-swept = rw image-is (idle-swept image ok copyBlock (loose-idle image copyBlock ok loose))
 
   copy-inside : copyBlock < blocks (step m cutCommit .image)
   copy-inside = let same = filled .only .size in rw (image-is, same) (filled .inside)
@@ -158,7 +158,12 @@ module _ (m : Machine) (s : Settled m) (on : T (m .on)) (arg : List ℕ) (done :
   mount-has-step map letters scratch lent =
       let after = step m cutCommit .image in
       let taken = mount-accepted (step m cutCommit) map letters scratch 0 0 (commit-settled m arg s on n k) lent in
-      omega (arith, mount-steps after map letters scratch taken, count-some (isStray after (mountNumbers after)) (blocks after) 0 copyBlock (omega arith) (omega (arith, copy-inside)) copy-stray)
+      omega (
+        arith,
+        mount-steps after map letters scratch taken,
+        count-some (isSwept after (mounted after)) (blocks after) 0 copyBlock (omega arith)
+            (omega (arith, copy-inside)) copy-swept,
+      )
 
   -- no other block changed, and the book is as it was
   pub others-empty : (b : ℕ) → (b ≡ lowestEmpty (m .image) → ⊥) → blockEmpty (m .image) b ≡ true → blockEmpty (step m cutCommit .image) b ≡ true
@@ -173,20 +178,48 @@ module _ (m : Machine) (s : Settled m) (on : T (m .on)) (arg : List ℕ) (done :
       later : (i : ℕ) → n < i → ltb i n || eqb i n && leb pageSize k ≡ false
       later i l = rw (le-ltb i n (omega arith), ne-eqb i n (λ z. omega arith))
 
--- ---- a mount, cut or not, erases no empty block
-stray-full : (img : List ℕ) (b : ℕ) → isStray img (mountNumbers img) b ≡ true → blockEmpty img b ≡ false
-unfolding isStray
-stray-full img b e = not-true (blockEmpty img b) (and-true (not (isChosen (mountNumbers img) b) && not (isData img (mountNumbers img) b)) (not (blockEmpty img b)) e .1)
+-- ---- a mount, cut or not, leaves an empty block empty
+allAre-append : (v : ℕ) (xs ys : List ℕ) → allAre v (xs ++ ys) ≡ allAre v xs && allAre v ys
+unfolding allAre
+allAre-append v [] ys = refl
+allAre-append v (x ∷ xs) ys = go (eqb x v) (allAre-append v xs ys)
+  where
+    go : (b : Bool) → allAre v (xs ++ ys) ≡ allAre v xs && allAre v ys → b && allAre v (xs ++ ys) ≡ (b && allAre v xs) && allAre v ys
+    go true e = e
+    go false e = refl
+
+isEmpty-cleared : (k : ℕ) (xs : List ℕ) → isEmpty xs ≡ true → isEmpty (cleared k xs) ≡ true
+unfolding isEmpty cleared
+isEmpty-cleared k xs e =
+    let m = min k (length xs) in
+    let two = and-true (allAre erased (take m xs)) (allAre erased (drop m xs))
+    (sym (allAre-append erased (take m xs) (drop m xs)) ∙ ap (allAre erased) (take-append-drop m xs) ∙ e) in
+    allAre-append erased (replicate m erased) (drop m xs) ∙ rw (allAre-replicate erased m, two .1)
+
+erase-stays-empty : (k d : ℕ) (img : List ℕ) (b : ℕ) → Inside (length img) (erase d) → blockEmpty img b ≡ true → blockEmpty (upTo k (erase d) img) b ≡ true
+unfolding blockEmpty
+erase-stays-empty k d img b ins e = elim (ℕ-discrete d b) [
+  | yes z ↦ rw (← z) (ap isEmpty (block-erase-upTo k d img ins) ∙ isEmpty-cleared k (blockAt img d) (rw z e))
+  | no z ↦ ap isEmpty (block-upTo-other k (erase d) img ins b z) ∙ e
+]
+
+empty-stays : (bs : List ℕ) (img : List ℕ) (n k b : ℕ) → Each (λ (d : ℕ). d < blocks img) bs → blockEmpty img b ≡ true
+    → blockEmpty (play n k (map erase bs) img) b ≡ true
+unfolding play
+empty-stays [] img n k b each e = e
+empty-stays (d ∷ bs) img zero k b each e = erase-stays-empty k d img b (block-inside img d (each .0)) e
+empty-stays (d ∷ bs) img (suc n) k b each e =
+    let ins = block-inside img d (each .0) in
+    let same = whole-length (erase d) img ins in
+    empty-stays bs (whole (erase d) img) n k b (rw same (each .1))
+    (subst (λ (i : List ℕ). blockEmpty i b ≡ true) (upTo-whole blockSize (length img) (erase d) img ins (omega arith))
+    (erase-stays-empty blockSize d img b ins e))
 
 pub mount-keeps-empty : (m : Machine) → Settled m → (map letters scratch : List ℕ) → T (lentRight (mount map letters scratch)) → (n k b : ℕ) → blockEmpty (m .image) b ≡ true
     → blockEmpty (step m (record { call = mount map letters scratch; n = n; k = k }) .image) b ≡ true
 unfolding mountSteps
 mount-keeps-empty m s map' letters scratch lent n k b z =
     let ok = s .sound .mountable in
-    let bs = strays (m .image) ok in
-    let inside = each-map (Idle (m .image)) (Inside (length (m .image))) erase (λ d i. block-inside (m .image) d (i .inside)) bs (strays-idle (m .image) ok) in
-    let elsewhere =
-    each-map (λ (d : ℕ). d ≡ b → ⊥) (λ (t : Step). blockOf t ≡ b → ⊥) erase (λ d f. f) bs
-    (which-each (λ (d : ℕ). d ≡ b → ⊥) (isStray (m .image) (mountNumbers (m .image))) (blocks (m .image)) 0 (λ d l h e q. true-false z (rw q at (stray-full (m .image) d e)))) in
     rw (mount-image m map' letters scratch n k s (mount-accepted m map' letters scratch n k s lent))
-    (block-empty-same (m .image) _ b (block-play-other n k (map erase bs) (m .image) b inside elsewhere) ∙ z)
+    (empty-stays (swept (m .image) ok) (m .image) n k b (which-each (λ (d : ℕ). d < blocks (m .image)) (isSwept (m .image) (mounted (m .image)))
+    (blocks (m .image)) 0 (λ d l h e. omega arith)) z)

@@ -10,7 +10,7 @@ use lib.Dec.{T, eqb, ltb}
 use lib.ListN.{length}
 use borrow.Author.Tests.{not-true, le-ltb, ltb-false}
 use Rattle.base.specs.Each.{Each}
-use Rattle.base.specs.Search.{anyFrom, whichFrom}
+use Rattle.base.specs.Search.{whichFrom}
 use Rattle.base.proofs.Choice.{and-true, true-false}
 use Rattle.base.proofs.Searches.{any-fails, any-all-fail}
 use Rattle.page.specs.Plan.{places, filePlan, countOf}
@@ -26,12 +26,12 @@ use Rattle.image.proofs.Looks.{sized, size-same, lowest-empty}
 use Rattle.image.proofs.Plays.{play-all, playAll-append, playAll-cons, playAll-nil}
 use Rattle.image.proofs.Step.{blockOf, whole-length, block-whole-other}
 use Rattle.store.specs.Kind.{isChosen, isData, hasEvents}
-use Rattle.store.specs.Record.{Record, withNumbers, pageOf, live}
+use Rattle.store.specs.Record.{Record, withNumbers, pageOf, live, hasLive, isDead}
 use Rattle.store.specs.Outcome.{Outcome, left}
 use Rattle.store.specs.Mount.{removes}
 use Rattle.store.specs.Write.{keysBlock}
 use Rattle.store.specs.CutOff.{removed}
-use Rattle.store.specs.Commit.{replaceKeys, replaceCommit, withKeys, withCommit, isDead, cleaned}
+use Rattle.store.specs.Commit.{replaceKeys, replaceCommit, withKeys, withCommit, cleaned}
 use Rattle.store.specs.Commit.{Stage, begin, onward, keysReplaced, commitReplaced, deadErased, commitStages}
 use Rattle.store.specs.Wipe.{removedFirst}
 use Rattle.store.specs.declared.Numbers.{Numbers}
@@ -43,7 +43,7 @@ use Rattle.store.proofs.Legals.{commit-legal, wipe-legal}
 use Rattle.store.proofs.Outcomes.{Full, commit-outcome, wipe-outcome, read-stepless}
 use Rattle.store.proofs.Removals.{removed-numbers, removed-page}
 use Rattle.store.proofs.Verdicts.{wipe-taken}
-use Rattle.guarantee.specs.Call.{Call, mount, write, read, cutOff, commit, wipe, gather, Event, outcomeOf, isMount, lentRight}
+use Rattle.guarantee.specs.Call.{Call, mount, write, read, cutOff, commit, wipe, gather, Event, outcomeOf}
 use Rattle.guarantee.specs.Machine.{Machine, outcomeAt, leftAt, isCut, step}
 use Rattle.guarantee.specs.Statement.{purges}
 use Rattle.guarantee.specs.Handover.{Purge, afterPurge}
@@ -53,23 +53,19 @@ use Rattle.guarantee.proofs.Events.{on-uncut}
 use Rattle.guarantee.proofs.Histories.{History, endOf, while-on, next, standing}
 use Rattle.guarantee.proofs.TakenCalls.{gathered-block-dead}
 use Rattle.guarantee.proofs.Strays.{chosen-not, not-chosen, events-same, legal-first, legal-other, Swept, swept, swept-block, Staged, onward-staged}
-use Rattle.guarantee.proofs.Remounts.{remount-same-record, remount-no-steps}
 use Rattle.guarantee.proofs.KeysLeft.{purge-on}
 
 -- ---- a dead block of an image
-abbrev livesIn : List ℕ → ℕ → Bool
-livesIn map b = anyFrom (λ x. live map x && eqb (pageOf map x / pagesInBlock) b) places 0
-
 pub record Dead (b : ℕ) (img : List ℕ) (r : Record) : Type 0 where
   pub inside : b < blocks img
   pub events : hasEvents img b ≡ true
   pub unchosen : isChosen (r .numbers) b ≡ false
-  pub unnamed : livesIn (r .map) b ≡ false
+  pub unnamed : hasLive (r .map) b ≡ false
 
 dead-is : (img : List ℕ) (r : Record) (b : ℕ) → sizeRight img ≡ true → isDead img r b ≡ true → Dead b img r
 unfolding isDead isData
 dead-is img r b size d =
-    let p = and-true (isData img (r .numbers) b) (not (livesIn (r .map) b)) d in
+    let p = and-true (isData img (r .numbers) b) (not (hasLive (r .map) b)) d in
     let q = and-true (hasEvents img b) (not (isChosen (r .numbers) b)) (p .0) in
     let z = sized img size in
     record {
@@ -79,7 +75,7 @@ dead-is img r b size d =
       ];
       events = q .0;
       unchosen = not-true (isChosen (r .numbers) b) (q .1);
-      unnamed = not-true (livesIn (r .map) b) (p .1);
+      unnamed = not-true (hasLive (r .map) b) (p .1);
     }
 
 is-dead : (img : List ℕ) (r : Record) (b : ℕ) → Dead b img r → isDead img r b ≡ true
@@ -244,6 +240,7 @@ module _ (b : ℕ) (noise img : List ℕ) (s : Stage) (legal : AllLegal img (com
 -- ---- the calls
 module _ (b : ℕ) (img : List ℕ) (r : Record) where
   removed-dead : (file offset : ℕ) → Full r → offset < countOf filePlan file → Dead b img r → Dead b img (removed r file offset)
+  unfolding hasLive
   removed-dead file offset full right d =
       record {
         inside = d .inside;
@@ -336,18 +333,18 @@ module _ (x : Purge) (b : ℕ) where
       ∙ purge-undead b (m .image) (m .store) size (x .event .call) (x .purging) (succeeded m (x .event) (x .done) .1)
 
 -- ---- a block that was gathered
--- calls that leave image and record after a finished call: mounts and reads. They have no steps then, and so cannot be cut
-abbrev pub rests : Call → Bool
-rests (mount map letters scratch) = true
-rests (write file offset given) = false
-rests (read file offset output) = true
-rests (cutOff file offset) = false
-rests (commit noise) = false
-rests (wipe noise file offset) = false
-rests (gather block) = false
+-- reads, which leave image and record
+abbrev pub isRead : Call → Bool
+isRead (mount map letters scratch) = false
+isRead (write file offset given) = false
+isRead (read file offset output) = true
+isRead (cutOff file offset) = false
+isRead (commit noise) = false
+isRead (wipe noise file offset) = false
+isRead (gather block) = false
 
-abbrev pub Resting : Event → Type 0
-Resting e = T (rests (e .call)) × T (lentRight (e .call))
+abbrev pub Reading : Event → Type 0
+Reading e = T (isRead (e .call))
 
 record Same (m m' : Machine) : Type 0 where
   history : History m'
@@ -355,45 +352,43 @@ record Same (m m' : Machine) : Type 0 where
   image : m' .image ≡ m .image
   store : m' .store ≡ m .store
 
-stepless-same : (m : Machine) (h : History m) (e : Event) → T (m .on) → T (lentRight (e .call)) → outcomeAt m e .steps ≡ []
-    → outcomeAt m e .after ≡ m .store → Same m (step m e)
+read-same : (m : Machine) (h : History m) → T (m .on) → (call : Call) (n k : ℕ) → T (isRead call) → Same m (step m (record { call = call; n = n; k = k }))
 unfolding step left play
-stepless-same m h e on lent none same =
-    record { history = next m h e (while-on m on (isMount (e .call)), lent); on = rw (none, le-ltb (e .n) 0 (omega arith)) tt; image = rw none; store = same }
-
-resting-same : (m : Machine) (h : History m) → T (m .on) → (call : Call) (n k : ℕ) → T (rests call) → T (lentRight call)
-    → Same m (step m (record { call = call; n = n; k = k }))
-resting-same m h on (mount map letters scratch) n k t lent =
-    stepless-same m h (record { call = mount map letters scratch; n = n; k = k }) on lent (remount-no-steps m h on map letters scratch lent)
-    (remount-same-record m h on map letters scratch lent)
-resting-same m h on (write file offset given) n k t lent = absurd t
-resting-same m h on (read file offset output) n k t lent =
+read-same m h on (mount map letters scratch) n k t = absurd t
+read-same m h on (write file offset given) n k t = absurd t
+read-same m h on (read file offset output) n k t =
+    let e : Event = record { call = read file offset output; n = n; k = k } in
     let o = read-stepless (m .image) (m .store) file offset output in
-    stepless-same m h (record { call = read file offset output; n = n; k = k }) on lent (ap (λ (o : Outcome). o .steps) o) (ap (λ (o : Outcome). o .after) o)
-resting-same m h on (cutOff file offset) n k t lent = absurd t
-resting-same m h on (commit noise) n k t lent = absurd t
-resting-same m h on (wipe noise file offset) n k t lent = absurd t
-resting-same m h on (gather block) n k t lent = absurd t
+    record {
+      history = next m h e (while-on m on false, tt);
+      on = rw (ap (λ (o : Outcome). o .steps) o, le-ltb n 0 (omega arith)) tt;
+      image = rw (ap (λ (o : Outcome). o .steps) o);
+      store = ap (λ (o : Outcome). o .after) o;
+    }
+read-same m h on (cutOff file offset) n k t = absurd t
+read-same m h on (commit noise) n k t = absurd t
+read-same m h on (wipe noise file offset) n k t = absurd t
+read-same m h on (gather block) n k t = absurd t
 
-rested : (m : Machine) (h : History m) → T (m .on) → (es : List Event) → Each Resting es → Same m (endOf m es)
-rested m h on [] r = record { history = h; on = on; image = refl; store = refl }
-rested m h on (e ∷ es) r =
-    let one = resting-same m h on (e .call) (e .n) (e .k) (r .0 .0) (r .0 .1) in
-    let more = rested (step m e) (one .history) (one .on) es (r .1) in
+reads-same : (m : Machine) (h : History m) → T (m .on) → (es : List Event) → Each Reading es → Same m (endOf m es)
+reads-same m h on [] r = record { history = h; on = on; image = refl; store = refl }
+reads-same m h on (e ∷ es) r =
+    let one = read-same m h on (e .call) (e .n) (e .k) (r .0) in
+    let more = reads-same (step m e) (one .history) (one .on) es (r .1) in
     record { history = more .history; on = more .on; image = more .image ∙ one .image; store = more .store ∙ one .store }
 
 uncut-on : (m : Machine) (e : Event) → isCut e (outcomeAt m e) ≡ false → T (step m e .on)
 unfolding step
 uncut-on m e q = rw q tt
 
--- a gather that is done, then mounts and reads at will, then a commit or wipe that is done: the block is empty
+-- a gather that is done, then reads at will, then a commit or wipe that is done: the block is empty
 pub gathered-block-empty : (m : Machine) → History m → T (m .on) → (block n k : ℕ) → leftAt m (record { call = gather block; n = n; k = k }) .reply ≡ Done
-    → (es : List Event) → Each Resting es → (e : Event) → T (purges (e .call))
+    → (es : List Event) → Each Reading es → (e : Event) → T (purges (e .call))
     → leftAt (endOf (step m (record { call = gather block; n = n; k = k })) es) e .reply ≡ Done
     → blockEmpty (step (endOf (step m (record { call = gather block; n = n; k = k })) es) e .image) block ≡ true
-gathered-block-empty m h on block n k done es rests e purging ended =
+gathered-block-empty m h on block n k done es reading e purging ended =
     let g : Event = record { call = gather block; n = n; k = k } in
     let w = succeeded m g done in
-    let later = rested (step m g) (next m h g (while-on m on false, tt)) (uncut-on m g (w .0)) es rests in
+    let later = reads-same (step m g) (next m h g (while-on m on false, tt)) (uncut-on m g (w .0)) es reading in
     let x : Purge = record { before = endOf (step m g) es; history = later .history; on = later .on; event = e; purging = purging; done = ended } in
     dead-block-empty x block (rw (later .image, later .store) (gathered-block-dead m block n k (w .1) (ltb-false n (length (outcomeAt m g .steps)) (w .0))))

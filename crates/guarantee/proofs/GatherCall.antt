@@ -7,6 +7,7 @@ use mathlib.Core.List.{List, [], _∷_}
 use mathlib.Core.Option.{some}
 use lib.Dec.{T}
 use lib.ListN.{length}
+use Rattle.base.proofs.Choice.{true-false}
 use Rattle.image.specs.Size.{blockSize, pagesInBlock}
 use Rattle.image.specs.Look.{pageAt, formAt}
 use Rattle.image.specs.Step.{Step, program, whole, upTo, play}
@@ -23,17 +24,18 @@ use Rattle.store.specs.declared.Found.the-variants.{At}
 use Rattle.store.specs.declared.Reply.the-variants.{Done}
 use Rattle.store.proofs.Outcomes.{gather-outcome, gather-refused}
 use Rattle.store.proofs.Verdicts.{gather-taken, done-true}
+use Rattle.store.proofs.Views.{coveredNow}
 use Rattle.store.proofs.Gathers.{Copying, page-same, sequence-next, copying-next, gather-copying, gather-emptied}
 use Rattle.guarantee.specs.Call.{Call, gather, Event, Fate, replied}
 use Rattle.guarantee.specs.Book.{Book, entered}
-use Rattle.guarantee.specs.Origin.{Origin, bringerIn, byteOrigin, traceUpTo, trace, onFlash}
+use Rattle.guarantee.specs.Origin.{Origin, bringerIn, byteOrigin, traceUpTo, trace}
+use Rattle.guarantee.specs.Unsettled.{unsettledAfter}
 use Rattle.guarantee.specs.Machine.{Machine, outcomeAt, leftAt, fateOf, step}
 use Rattle.guarantee.specs.Statement.{copyFor, copiesFor}
 use Rattle.guarantee.proofs.Sounds.{SomeEmpty, Sound, Tight, Settled}
-use Rattle.guarantee.proofs.Origins.{on-flash-same}
-use Rattle.guarantee.proofs.Steps.{sound-later, sound-ext}
+use Rattle.guarantee.proofs.Steps.{sound-later}
 use Rattle.guarantee.proofs.Events.{later-noise, calls-next, on-uncut, call-settled}
-use Rattle.guarantee.proofs.GatherPages.{step-cut, step-sound, step-tight, step-record, step-some}
+use Rattle.guarantee.proofs.GatherPages.{step-cut, step-sound, step-tight, step-record, step-some, step-covered}
 
 -- ---- the copies in a row, at each cut and at their end
 module _ (block : ℕ) (b : Book) (noise : ℕ → List ℕ) (t : ℕ) (new : ℕ → ℕ) where
@@ -42,32 +44,35 @@ module _ (block : ℕ) (b : Book) (noise : ℕ → List ℕ) (t : ℕ) (new : �
 
   -- what stands after n steps and k bytes
   pub record Through (gs img : List ℕ) (r : Record) (o : ℕ → Origin) (n k : ℕ) : Type 0 where
-    pub sound : Sound (play n k (copySteps block gs img r) img) b (onFlash (play n k (copySteps block gs img r) img) (trace of n k (copySteps block gs img r) o)) noise t t
-    pub tight : length (copySteps block gs img r) ≤ n
-        → Tight (play n k (copySteps block gs img r) img) b (onFlash (play n k (copySteps block gs img r) img) (trace of n k (copySteps block gs img r) o))
+    pub sound : Sound (play n k (copySteps block gs img r) img) b (trace of n k (copySteps block gs img r) o) noise t t
+    pub tight : length (copySteps block gs img r) ≤ n → Tight (play n k (copySteps block gs img r) img) b (trace of n k (copySteps block gs img r) o)
     pub good : length (copySteps block gs img r) ≤ n → copiedAll block gs img r ≡ mounted (play n k (copySteps block gs img r) img)
     pub some : length (copySteps block gs img r) ≤ n → SomeEmpty (play n k (copySteps block gs img r) img)
+    pub covered : length (copySteps block gs img r) ≤ n → coveredNow (play n k (copySteps block gs img r) img) ≡ coveredNow img
+    pub pages : length (copySteps block gs img r) ≤ n → (h : ℕ) → h / pagesInBlock ≡ block → pageAt (play n k (copySteps block gs img r) img) h ≡ pageAt img h
 
   pub copies-through : (gs img : List ℕ) (r : Record) (o : ℕ → Origin) → Sound img b o noise t t → Tight img b o → r ≡ mounted img → SomeEmpty img
       → Copying block gs img r
       → (n k : ℕ) → Through gs img r o n k
   unfolding copySteps copiedAll play trace
   copies-through [] img r o s tight good room c n k =
-      let same = on-flash-same img o (s .clear) in
       record {
-        sound = sound-ext img b o (onFlash img o) noise t t (λ a. sym (same a)) s;
-        tight = λ l a p d i e. tight a p d i (same a ∙ e);
+        sound = s;
+        tight = λ l. tight;
         good = λ l. good;
         some = λ l. room;
+        covered = λ l. refl;
+        pages = λ l h e. refl;
       }
   copies-through (g ∷ gs) img r o s tight good room c zero k =
       record {
-        sound = subst (λ (r : Record). Sound (upTo k (copyStep block img r g) img) b
-            (onFlash (upTo k (copyStep block img r g) img) (traceUpTo of k (copyStep block img r g) o)) noise t t) (sym good)
+        sound = subst (λ (r : Record). Sound (upTo k (copyStep block img r g) img) b (traceUpTo of k (copyStep block img r g) o) noise t t) (sym good)
             (step-cut block g gs img b o noise t s tight (subst (Copying block (g ∷ gs) img) good c) new k);
         tight = λ l. absurd (omega arith);
         good = λ l. absurd (omega arith);
         some = λ l. absurd (omega arith);
+        covered = λ l. absurd (omega arith);
+        pages = λ l. absurd (omega arith);
       }
   copies-through (g ∷ gs) img r o s tight good room c (suc n) k =
       let c' = subst (Copying block (g ∷ gs) img) good c in
@@ -80,7 +85,23 @@ module _ (block : ℕ) (b : Book) (noise : ℕ → List ℕ) (t : ℕ) (new : �
       (step-record block g gs img b o noise t s tight c' new))
       (subst (λ (r : Record). SomeEmpty (whole (copyStep block img r g) img)) (sym good) (step-some block g gs img b o noise t s tight c' new room))
       (copying-next block g gs img r c) n k in
-      record { sound = rest .sound; tight = λ l. rest .tight (omega arith); good = λ l. rest .good (omega arith); some = λ l. rest .some (omega arith) }
+      record {
+        sound = rest .sound;
+        tight = λ l. rest .tight (omega arith);
+        good = λ l. rest .good (omega arith);
+        some = λ l. rest .some (omega arith);
+        covered = λ l. rest .covered (omega arith)
+            ∙ subst (λ (r : Record). coveredNow (whole (copyStep block img r g) img) ≡ coveredNow img) (sym good)
+            (step-covered block g gs img b o noise t s tight c' new);
+        pages = λ l h e. rest .pages (omega arith) h e ∙ page-same block g gs img r c h e;
+      }
+
+-- a row of copies erases nothing
+pub copies-unsettled : (block : ℕ) (gs img : List ℕ) (r : Record) (n : ℕ) (u : ℕ → Bool) → unsettledAfter n (copySteps block gs img r) u ≡ u
+unfolding copySteps copyStep unsettledAfter
+copies-unsettled block [] img r n u = refl
+copies-unsettled block (g ∷ gs) img r zero u = refl
+copies-unsettled block (g ∷ gs) img r (suc n) u = copies-unsettled block gs (whole (copyStep block img r g) img) (copied block img r g) n u
 
 -- ---- the event
 gather-unnoted : (c block : ℕ) (fate : Fate) (b : Book) → entered c (gather block) fate b ≡ b
@@ -118,7 +139,7 @@ module _ (m : Machine) (block : ℕ) (s : Settled m) (on : T (m .on)) where
     unfolding step left
     book-is = gather-unnoted (m .calls) block (fateOf e (outcomeAt m e) (leftAt m e)) (m .book)
 
-    origin-is : step m e .origin ≡ onFlash (play n k (copySteps block gs (m .image) (m .store)) (m .image)) (trace (byteOrigin (m .book .bringer) (bringerIn (m .calls) call (m .book))) n k (copySteps block gs (m .image) (m .store)) (m .origin))
+    origin-is : step m e .origin ≡ trace (byteOrigin (m .book .bringer) (bringerIn (m .calls) call (m .book))) n k (copySteps block gs (m .image) (m .store)) (m .origin)
     unfolding step left
     origin-is = rw (is .0)
 
@@ -129,6 +150,11 @@ module _ (m : Machine) (block : ℕ) (s : Settled m) (on : T (m .on)) where
     uncut : T (step m e .on) → length (copySteps block gs (m .image) (m .store)) ≤ n
     uncut h = subst (λ (ss : List Step). length ss ≤ n) (is .0) (on-uncut m e h)
 
+    -- no block is erased
+    unsettled-same : step m e .unsettled ≡ m .unsettled
+    unfolding step
+    unsettled-same = rw (is .0) (copies-unsettled block gs (m .image) (m .store) n (m .unsettled))
+
     taken-settled : Settled (step m e)
     taken-settled =
         record {
@@ -138,7 +164,16 @@ module _ (m : Machine) (block : ℕ) (s : Settled m) (on : T (m .on)) where
           good = λ h. store-is ∙ through .good (uncut h) ∙ ap mounted (sym image-is);
           tight = λ h. rw (image-is, book-is, origin-is) (through .tight (uncut h));
           someEmpty = λ h. rw image-is (through .some (uncut h));
+          unsettledIdle = λ d q. absurd (true-false (subst (λ (u : ℕ → Bool). u d ≡ true) unsettled-same q) (s .allSettled on d));
+          allSettled = λ h. rw unsettled-same (s .allSettled on);
         }
+
+    -- finished, it leaves the commit, and the pages of its block
+    pub gather-covered : length (out .steps) ≤ n → coveredNow (step m e .image) ≡ coveredNow (m .image)
+    gather-covered l = ap coveredNow image-is ∙ through .covered (subst (λ (ss : List Step). length ss ≤ n) (is .0) l)
+
+    pub gather-pages : length (out .steps) ≤ n → (h : ℕ) → h / pagesInBlock ≡ block → pageAt (step m e .image) h ≡ pageAt (m .image) h
+    gather-pages l h q = ap (λ (i : List ℕ). pageAt i h) image-is ∙ through .pages (subst (λ (ss : List Step). length ss ≤ n) (is .0) l) h q
 
   pub gather-settled : (n k : ℕ) → Settled (step m (record { call = call; n = n; k = k }))
   gather-settled = call-settled m call s on (gather-refused (m .image) (m .store) block)

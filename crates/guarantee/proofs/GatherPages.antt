@@ -20,7 +20,7 @@ use Rattle.page.specs.declared.Frame.{Frame}
 use Rattle.page.specs.declared.Form.the-variants.{Whole, Torn}
 use Rattle.page.specs.declared.Place.the-variants.{At as PlaceAt}
 use Rattle.page.proofs.FormLaws.{cutForm}
-use Rattle.image.specs.Size.{blockSize}
+use Rattle.image.specs.Size.{blockSize, pagesInBlock}
 use Rattle.image.specs.Look.{pageAt, formAt}
 use Rattle.image.specs.Step.{Step, program, whole, upTo}
 use Rattle.image.proofs.Step.{program-upTo-whole}
@@ -34,20 +34,19 @@ use Rattle.store.specs.Gather.{placeOn, copyTo, copyStep, moved, copied}
 use Rattle.store.specs.declared.Found.the-variants.{At}
 use Rattle.store.proofs.Fits.{Fit, fits-is, Named, live-named, live-key, live-used}
 use Rattle.store.proofs.Outcomes.{mounted-full}
-use Rattle.store.proofs.Views.{commitAt, mounted-map}
-use Rattle.store.proofs.Quiets.{Mountable}
+use Rattle.store.proofs.Views.{commitAt, coveredNow, mounted-map}
+use Rattle.store.proofs.Quiets.{Mountable, commit-aside, covered-aside}
 use Rattle.store.proofs.Appends.{Appended}
 use Rattle.store.proofs.Nodes.{mounted-node, node-mountable, mountable-apart, live-page-append}
 use Rattle.store.proofs.TornPages.{mounted-torn-copy, torn-mountable}
 use Rattle.store.proofs.Gathers.{Copying, live-place, header, payload, payload-length, header-range, copy-found, copy-is, placed-moved}
 use Rattle.guarantee.specs.Book.{Book, Holding}
-use Rattle.guarantee.specs.Origin.{Origin, plain, cipher, byteOrigin, traceUpTo, onFlash}
+use Rattle.guarantee.specs.Origin.{Origin, plain, cipher, byteOrigin, traceUpTo}
 use Rattle.guarantee.specs.Statement.{UnderKey}
 use Rattle.guarantee.proofs.Sounds.{Holds, SomeEmpty, Sound, Tight}
 use Rattle.guarantee.proofs.Room.{append-some}
-use Rattle.guarantee.proofs.Origins.{on-flash-clear, on-flash-same}
-use Rattle.guarantee.proofs.Steps.{Written, written-sound, written-tight, sound-ext}
-use Rattle.guarantee.proofs.Anchors.{Lives, holds-live, sound-lives, under-same, changed-flashed}
+use Rattle.guarantee.proofs.Steps.{Written, written-sound, written-tight}
+use Rattle.guarantee.proofs.Anchors.{Lives, sound-lives, under-same, changed-anchored}
 use Rattle.guarantee.proofs.NodePages as N
 use Rattle.guarantee.proofs.NodePages.{Put}
 
@@ -120,11 +119,8 @@ module _ (block g : ℕ) (gs img : List ℕ) (b : Book) (o : ℕ → Origin) (no
     abbrev image : List ℕ
     image = N.image (At block) img b o noise t s tight to f sealed put new k
 
-    abbrev raw : ℕ → Origin
-    raw = N.raw (At block) img b o noise t s tight to f sealed put new k
-
     abbrev origin : ℕ → Origin
-    origin = onFlash image raw
+    origin = N.origin (At block) img b o noise t s tight to f sealed put new k
 
     origins : (a : ℕ) → (origin a ≡ plain) ⊎ (origin a ≡ o a) ⊎ ((origin a ≡ cipher (f .key) (b .bringer (f .key))) × (b .mark (f .key) ≡ freeLetter → ⊥))
     origins a = go (N.origins (At block) img b o noise t s tight to f sealed put new k a)
@@ -135,7 +131,7 @@ module _ (block g : ℕ) (gs img : List ℕ) (b : Book) (o : ℕ → Origin) (no
         go (inr (inl e)) = inr (inl e)
         go (inr (inr e)) = inr (inr (e .0, λ z. omega (arith, marked)))
 
-    pages : (y : ℕ) → y < places → live m y ≡ true → (a : ℕ) → a / pageSize ≡ pageOf m y → raw a ≡ o a
+    pages : (y : ℕ) → y < places → live m y ≡ true → (a : ℕ) → a / pageSize ≡ pageOf m y → origin a ≡ o a
     pages = N.pages (At block) img b o noise t s tight to f sealed put new k
 
     -- ---- torn: mount sees the sequence, and no more
@@ -165,14 +161,12 @@ module _ (block g : ℕ) (gs img : List ℕ) (b : Book) (o : ℕ → Origin) (no
             marks = λ j i. rw torn-record (s .marks j i);
             still-free = λ j e. e;
             origins = origins;
-            clear = λ a e. on-flash-clear image _ a e;
             anchored =
-                changed-flashed img image b b o raw ok (s .anchored) (N.append-keys img image to (Torn f) ok torn) (λ j. refl)
-                (λ y i. rw torn-record (under-same m m o raw (b .bringer) (b .bringer) y (b .content y) (λ v e. (refl, refl, pages y i (lives y i v e)))
+                changed-anchored img image b b o origin ok (s .anchored) (N.append-keys img image to (Torn f) ok torn) (λ j. refl)
+                (λ y i. rw torn-record (under-same m m o origin (b .bringer) (b .bringer) y (b .content y) (λ v e. (refl, refl, pages y i (lives y i v e)))
                 (s .anchored .ciphered y i)))
                 (N.slots (At block) img b o noise t s tight to f sealed put new k)
-                (N.accounts (At block) img b o noise t s tight to f sealed put new k)
-                torn-ok (λ y i v e. holds-live image noise (b .bringer) y (b .content y) v (torn-content y i (b .content y) (s .content y i)) e);
+                (N.accounts (At block) img b o noise t s tight to f sealed put new k);
             roomy = N.room (At block) img b o noise t s tight to f sealed put new k;
           }
 
@@ -232,16 +226,16 @@ module _ (block g : ℕ) (gs img : List ℕ) (b : Book) (o : ℕ → Origin) (no
         | no e ↦ content-old y i e (b .content y) (s .content y i)
       ]
 
-      under-new : (v : Option Holding) → Holds img noise (b .bringer) x v → UnderKey (mounted image .map) raw (b .bringer) x v
+      under-new : (v : Option Holding) → Holds img noise (b .bringer) x v → UnderKey (mounted image .map) origin (b .bringer) x v
       under-new none e = tt
       under-new (some v) e = λ j l.
           let q : f .key ≡ v .position = key-is ∙ e .1 in
           rw (whole-record, page-new, ← q) (N.node-under (At block) img b o noise t s tight to f sealed put new k h j l)
 
-      under-old : (y : ℕ) → y < places → (x ≡ y → ⊥) → UnderKey (mounted image .map) raw (b .bringer) y (b .content y)
+      under-old : (y : ℕ) → y < places → (x ≡ y → ⊥) → UnderKey (mounted image .map) origin (b .bringer) y (b .content y)
       under-old y i n =
           rw whole-record
-          (under-same m (moved (mounted img) x to .map) o raw (b .bringer) (b .bringer) y (b .content y)
+          (under-same m (moved (mounted img) x to .map) o origin (b .bringer) (b .bringer) y (b .content y)
           (λ v e. (page-old y n, refl, pages y i (lives y i v e))) (s .anchored .ciphered y i))
 
       whole-written : Written img image b b o origin noise (f .key)
@@ -254,17 +248,15 @@ module _ (block g : ℕ) (gs img : List ℕ) (b : Book) (o : ℕ → Origin) (no
             marks = λ j i. rw whole-record (s .marks j i);
             still-free = λ j e. e;
             origins = origins;
-            clear = λ a e. on-flash-clear image _ a e;
             anchored =
-                changed-flashed img image b b o raw ok (s .anchored) (N.append-keys img image to (Whole f) ok app) (λ j. refl)
+                changed-anchored img image b b o origin ok (s .anchored) (N.append-keys img image to (Whole f) ok app) (λ j. refl)
                 (λ y i. elim (ℕ-discrete x y) [
-                  | yes e ↦ subst (λ (y : ℕ). UnderKey (mounted image .map) raw (b .bringer) y (b .content y)) e
+                  | yes e ↦ subst (λ (y : ℕ). UnderKey (mounted image .map) origin (b .bringer) y (b .content y)) e
                       (under-new (b .content x) (s .content x (here .0)))
                   | no e ↦ under-old y i e
                 ])
                 (N.slots (At block) img b o noise t s tight to f sealed put new k)
-                (N.accounts (At block) img b o noise t s tight to f sealed put new k)
-                whole-ok (λ y i v e. holds-live image noise (b .bringer) y (b .content y) v (whole-content y i) e);
+                (N.accounts (At block) img b o noise t s tight to f sealed put new k);
             roomy = N.room (At block) img b o noise t s tight to f sealed put new k;
           }
 
@@ -278,7 +270,7 @@ module _ (block g : ℕ) (gs img : List ℕ) (b : Book) (o : ℕ → Origin) (no
       ]
     ]
 
-  -- ---- the whole step, and the origins as traced
+  -- ---- the whole step
   step-is : copyStep block img (mounted img) g ≡ program to (pageBytes f sealed)
   step-is = copy-is block g gs img (mounted img) c
 
@@ -289,8 +281,7 @@ module _ (block g : ℕ) (gs img : List ℕ) (b : Book) (o : ℕ → Origin) (no
   of = byteOrigin (b .bringer) new
 
   -- cut at byte k
-  pub step-cut : (k : ℕ)
-      → Sound (upTo k (copyStep block img (mounted img) g) img) b (onFlash (upTo k (copyStep block img (mounted img) g) img) (traceUpTo of k (copyStep block img (mounted img) g) o)) noise t t
+  pub step-cut : (k : ℕ) → Sound (upTo k (copyStep block img (mounted img) g) img) b (traceUpTo of k (copyStep block img (mounted img) g) o) noise t t
   step-cut k = rw step-is (copy-sound k)
 
   -- done: invariant, record and an empty block for the next
@@ -303,27 +294,29 @@ module _ (block g : ℕ) (gs img : List ℕ) (b : Book) (o : ℕ → Origin) (no
   image-is : image blockSize ≡ image'
   image-is = whole-step ∙ ap (λ (d : Step). whole d img) (sym step-is)
 
-  raw-is : raw blockSize ≡ origin'
-  raw-is = ap (λ (d : Step). traceUpTo of blockSize d o) (sym step-is)
-
-  flash-is : (a : ℕ) → raw blockSize a ≡ origin blockSize a
-  flash-is = on-flash-same (image blockSize) (raw blockSize)
-      (N.raw-clear (At block) img b o noise t s tight to f sealed put new blockSize (omega arith))
+  origin-is : origin blockSize ≡ origin'
+  origin-is = ap (λ (d : Step). traceUpTo of blockSize d o) (sym step-is)
 
   pub step-sound : Sound image' b origin' noise t t
   step-sound =
-      subst (λ (i : List ℕ). Sound i b origin' noise t t) image-is (subst (λ (p : ℕ → Origin). Sound (image blockSize) b p noise t t) raw-is
-      (sound-ext (image blockSize) b (origin blockSize) (raw blockSize) noise t t flash-is (copy-sound blockSize)))
+      subst (λ (i : List ℕ). Sound i b origin' noise t t) image-is (subst (λ (p : ℕ → Origin). Sound (image blockSize) b p noise t t) origin-is
+      (copy-sound blockSize))
 
   pub step-tight : Tight image' b origin'
   step-tight =
-      subst (λ (i : List ℕ). Tight i b origin') image-is (subst (λ (p : ℕ → Origin). Tight (image blockSize) b p) raw-is
-      (λ a p d i e. written-tight img (image blockSize) b b o (origin blockSize) noise (f .key) t s tight (whole-written blockSize (omega arith)) a p d i
-      (sym (flash-is a) ∙ e)))
+      subst (λ (i : List ℕ). Tight i b origin') image-is (subst (λ (p : ℕ → Origin). Tight (image blockSize) b p) origin-is
+      (written-tight img (image blockSize) b b o (origin blockSize) noise (f .key) t s tight (whole-written blockSize (omega arith))))
 
   pub step-record : copied block img (mounted img) g ≡ mounted image'
   unfolding copied
   step-record = sym (ap mounted (sym image-is) ∙ whole-record blockSize (omega arith))
+
+  -- the commit stays, and what it covers
+  pub step-covered : coveredNow image' ≡ coveredNow img
+  step-covered =
+      let a = N.appended (At block) img b o noise t s tight to f sealed put new blockSize .aside in
+      let e = commit-aside img (image blockSize) (to / pagesInBlock) ok a in
+      subst (λ (i : List ℕ). coveredNow i ≡ coveredNow img) image-is (rw e (covered-aside img (image blockSize) (to / pagesInBlock) ok a))
 
   pub step-some : SomeEmpty img → SomeEmpty image'
   step-some e =

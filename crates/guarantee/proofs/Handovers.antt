@@ -19,12 +19,13 @@ use Rattle.base.proofs.Searches.{any-all-fail}
 use Rattle.page.specs.Plan.{filePlan, lastFile, places, countOf, startOf}
 use Rattle.page.specs.Key.{positions}
 use Rattle.page.specs.Entry.{none as vacant, mapSize, freeLetter, usedLetter, deletedLetter}
-use Rattle.page.specs.Frame.{erased}
+use Rattle.page.specs.Frame.{pageSize, erased}
 use Rattle.page.specs.Form.{isEmpty}
 use Rattle.page.proofs.Plans.{plan-some, plan-file, places-from}
 use Rattle.image.specs.Size.{blockSize, pagesInBlock, blocks, sizeRight}
 use Rattle.image.specs.Look.{pageAt, blockAt, blockEmpty}
 use Rattle.image.specs.Step.{AllLegal, playAll}
+use Rattle.image.proofs.Empties.{empty-block-page}
 use Rattle.image.proofs.Looks.{sized}
 use Rattle.image.proofs.Plays.{play-all}
 use Rattle.store.specs.Kind.{pageIn, isChosen}
@@ -58,7 +59,8 @@ use Rattle.guarantee.proofs.Strays.{Neat, Neatly, begin-neatly, stages-
 use Rattle.guarantee.proofs.Remounts.{first-neatly, neat-end}
 use Rattle.guarantee.proofs.TakenCalls.{after-format-taken}
 use Rattle.guarantee.proofs.KeysLeft.{used-held, purge-history, purge-on, purge-book, keys-used-or-new, wiped-none}
-use Rattle.guarantee.proofs.BareCommits.{chosen-no-cipher, bare-page, bare-image}
+use Rattle.guarantee.proofs.BareCommits.{bare-page, bare-image}
+use Rattle.guarantee.proofs.UncipheredBlocks.{empty-unciphered, chosen-unciphered}
 
 -- ---- the book: no position is d after a commit, or the commit in a wipe, that is done
 committed-clean : (c i p : ℕ) (b : Book) → bookCommitted c i (replied Done) b .mark p ≡ deletedLetter → ⊥
@@ -220,18 +222,17 @@ module _ (x : Handover) where
       rw (play-all (e .n) (e .k) (outcomeAt m e .steps) (m .image) (on-uncut m e (purge-on (x .purge))))
       (purged-empty (m .image) (m .store) (neat-end m (x .purge .history) (x .purge .on)) call (x .purge .purging) (succeeded m e (x .purge .done) .1) none-live)
 
-  -- no byte is enciphered: none in the blocks of the last stage, and none in an empty block
+  -- no byte is enciphered: none in the chosen blocks, and none in an empty block
   handed-unciphered : (a p d : ℕ) → after .origin a ≡ cipher p d → ⊥
   handed-unciphered a p d z = go (isChosen (after .store .numbers) (a / blockSize)) refl
     where
       hollow : blockEmpty (after .image) (a / blockSize) ≡ true → ⊥
-      hollow y = let q = settled .sound .clear a y in let t : _≡_ {A = ℕ} 0 1 = cc in omega arith
+      hollow y =
+          let here : a / blockSize ≡ a / pageSize / pagesInBlock = omega arith in
+          empty-unciphered after (purge-history (x .purge)) (purge-on (x .purge)) a p d z (empty-block-page (after .image) (a / pageSize) (rw here at y))
 
       go : (t : Bool) → isChosen (after .store .numbers) (a / blockSize) ≡ t → ⊥
-      go true q =
-          let y = purge-ended (x .purge) in
-          chosen-no-cipher (m .image) (y .book) (m .origin) (y .noise) (m .calls) (m .book .bringer) (y .begun) (y .books) (y .first) a p d
-          (subst (λ (r : Record). isChosen (r .numbers) (a / blockSize) ≡ true) (y .store) q) (sym (y .origin a) ∙ z)
+      go true q = chosen-unciphered after (purge-history (x .purge)) (purge-on (x .purge)) a p d z q
       go false q = elim (decLt (a / blockSize) (blocks (after .image))) [
         | yes l ↦ hollow (handed-blocks (a / blockSize) l q)
         | no l ↦ hollow (outside-empty (after .image) (a / blockSize) (settled .sound .mountable .size) (omega arith))

@@ -19,11 +19,9 @@ use Rattle.page.specs.declared.Form.the-variants.{Empty, Whole, Torn}
 use Rattle.page.proofs.FormLaws.{cutForm, cut-torn, cut-all}
 use Rattle.page.proofs.Pages.{payload-back, page-length, cut-whole}
 use Rattle.image.specs.Size.{blockSize, pagesInBlock}
-use Rattle.image.specs.Look.{pageAt, formAt, blockEmpty}
+use Rattle.image.specs.Look.{pageAt, formAt}
 use Rattle.image.specs.Step.{program, Inside, upTo}
 use Rattle.image.proofs.Step.{page-program-upTo}
-use Rattle.image.proofs.Empties.{block-empty-same, empty-block-page}
-use Rattle.image.proofs.Forms.{empty-form-at}
 use Rattle.store.specs.Record.{pageOf, live}
 use Rattle.store.specs.Find.{newPageBut}
 use Rattle.store.specs.Mount.{mounted}
@@ -36,14 +34,14 @@ use Rattle.store.proofs.Appends.{Appended}
 use Rattle.store.proofs.Copies.{live-whole}
 use Rattle.store.proofs.NewPages.{ins, page-appended, header-cut-quiet}
 use Rattle.guarantee.specs.Book.{Book}
-use Rattle.guarantee.specs.Origin.{Origin, plain, cipher, byteOrigin, traceUpTo, onFlash}
+use Rattle.guarantee.specs.Origin.{Origin, plain, cipher, byteOrigin, traceUpTo}
 use Rattle.guarantee.proofs.Sounds.{Roomy, Sound, Tight}
 use Rattle.guarantee.proofs.Room.{append-roomy}
-use Rattle.guarantee.proofs.Origins.{page-origin, node-origin, program-origin, on-flash, on-flash-clear}
+use Rattle.guarantee.proofs.Origins.{page-origin, node-origin, program-origin}
 use Rattle.guarantee.proofs.Steps.{SameKeys, sound-tight}
 use Rattle.guarantee.proofs.StepBytes.{origin-programmed, origin-unprogrammed}
 use Rattle.guarantee.proofs.Accounts.{Accounted, sealed-spelt, node-sealed, step-accounted}
-use Rattle.guarantee.proofs.Anchors.{Lives, sound-lives, flashed-still}
+use Rattle.guarantee.proofs.Anchors.{Lives, sound-lives, anchored-still}
 
 -- the chosen key blocks stay where a page was appended elsewhere
 pub append-keys : (img img' : List ℕ) (g : ℕ) (m : Form) → Mountable img → Appended img img' g m → SameKeys img img'
@@ -96,44 +94,39 @@ module _ (but : Found) (img : List ℕ) (b : Book) (o : ℕ → Origin) (noise :
     abbrev pub image : List ℕ
     image = upTo k (program g (pageBytes f sealed)) img
 
-    abbrev pub raw : ℕ → Origin
-    raw = traceUpTo of k (program g (pageBytes f sealed)) o
-
     abbrev pub origin : ℕ → Origin
-    origin = onFlash image raw
+    origin = traceUpTo of k (program g (pageBytes f sealed)) o
 
     pub appended : Appended img image g (cutForm k f)
     appended = page-appended but img (mounted img .numbers) g f sealed ok (put .found) (put .ranges) (put .full) event k
 
     -- the bytes really written: those of the payload are under the position's key
     pub origins : (a : ℕ) → (origin a ≡ plain) ⊎ (origin a ≡ o a) ⊎ ((origin a ≡ cipher p (b .bringer p)) × (headerSize < k))
-    origins a = go (on-flash image _ a) (program-origin (byteOrigin (b .bringer) new) k g (pageBytes f sealed) o a)
+    origins a = go (program-origin (byteOrigin (b .bringer) new) k g (pageBytes f sealed) o a)
       where
-        go : {y z : Origin} → (y ≡ plain) ⊎ (y ≡ z)
-            → (z ≡ plain) ⊎ (z ≡ o a) ⊎ ((g * pageSize ≤ a) × (a < g * pageSize + pageSize) × (a - g * pageSize < k)
-            × (z ≡ byteOrigin (b .bringer) new (pageBytes f sealed) (a - g * pageSize)))
+        go : {y : Origin}
+            → (y ≡ o a) ⊎ ((g * pageSize ≤ a) × (a < g * pageSize + pageSize) × (a - g * pageSize < k)
+            × (y ≡ byteOrigin (b .bringer) new (pageBytes f sealed) (a - g * pageSize)))
             → (y ≡ plain) ⊎ (y ≡ o a) ⊎ ((y ≡ cipher p (b .bringer p)) × (headerSize < k))
-        go (inl e) q = inl e
-        go (inr e) (inl q) = inl (e ∙ q)
-        go (inr e) (inr (inl q)) = inr (inl (e ∙ q))
-        go {y} {z} (inr e) (inr (inr q)) = byte (node-origin (b .bringer) new f sealed (put .ranges) (put .full) (a - g * pageSize) (put .node))
+        go (inl q) = inr (inl q)
+        go {y} (inr q) = byte (node-origin (b .bringer) new f sealed (put .ranges) (put .full) (a - g * pageSize) (put .node))
           where
             byte : (byteOrigin (b .bringer) new (pageBytes f sealed) (a - g * pageSize) ≡ plain)
                 ⊎ ((headerSize ≤ a - g * pageSize) × (byteOrigin (b .bringer) new (pageBytes f sealed) (a - g * pageSize) ≡ cipher p (b .bringer p)))
                 → (y ≡ plain) ⊎ (y ≡ o a) ⊎ ((y ≡ cipher p (b .bringer p)) × (headerSize < k))
-            byte (inl v) = inl (e ∙ q .3 ∙ v)
-            byte (inr v) = inr (inr (e ∙ q .3 ∙ v .1, omega (arith, q .2)))
+            byte (inl v) = inl (q .3 ∙ v)
+            byte (inr v) = inr (inr (q .3 ∙ v .1, omega (arith, q .2)))
 
-    pub pages : (y : ℕ) → y < places → live (mounted img .map) y ≡ true → (a : ℕ) → a / pageSize ≡ pageOf (mounted img .map) y → raw a ≡ o a
+    pub pages : (y : ℕ) → y < places → live (mounted img .map) y ≡ true → (a : ℕ) → a / pageSize ≡ pageOf (mounted img .map) y → origin a ≡ o a
     pages = append-pages img image g (cutForm k f) ok appended of k (pageBytes f sealed) o
 
-    pub slots : (q : ℕ) → q < 2 → (a : ℕ) → a / blockSize ≡ keysAt img q → raw a ≡ o a
+    pub slots : (q : ℕ) → q < 2 → (a : ℕ) → a / blockSize ≡ keysAt img q → origin a ≡ o a
     slots = append-slots img image g (cutForm k f) ok appended of k (pageBytes f sealed) o
 
     pub inside : Inside (length img) (program g (pageBytes f sealed))
     inside = ins but img (mounted img .numbers) g f sealed ok (put .found) (put .ranges) (put .full) event k
 
-    pub accounts : Accounted image raw
+    pub accounts : Accounted image origin
     accounts = step-accounted of k (program g (pageBytes f sealed)) img o inside
         (sealed-spelt (b .bringer) new f sealed (put .ranges) (put .full) (rw (put .node) tt) (node-sealed (b .bringer) new f (put .node)))
         (s .anchored .accounted)
@@ -154,8 +147,8 @@ module _ (but : Found) (img : List ℕ) (b : Book) (o : ℕ → Origin) (noise :
     unheaded-sound h =
         let still = quiet-still img image (g / pagesInBlock) ok (header-cut-quiet but img (mounted img .numbers) g f sealed ok (put .found) (put .ranges)
         (put .full) event k h) in
-        sound-tight img image b o origin noise t t s still (less h) (λ a e. on-flash-clear image _ a e) tight
-        (flashed-still img image b o raw ok lives (s .anchored) still pages slots accounts) room
+        sound-tight img image b o origin noise t t s still (less h) tight
+        (anchored-still img image b o origin ok lives (s .anchored) still pages slots accounts) room
 
     -- ---- torn, whole
     pub torn-appended : headerSize ≤ k → k < pageSize → Appended img image g (Torn f)
@@ -171,7 +164,7 @@ module _ (but : Found) (img : List ℕ) (b : Book) (o : ℕ → Origin) (noise :
           ∙ payload-back f sealed (put .full)
 
       -- the payload's bytes are under the position's key
-      pub node-under : (j : ℕ) → j < payloadSize → raw (g * pageSize + headerSize + j) ≡ cipher p (b .bringer p)
+      pub node-under : (j : ℕ) → j < payloadSize → origin (g * pageSize + headerSize + j) ≡ cipher p (b .bringer p)
       node-under j l =
           let a = g * pageSize + headerSize + j in
           let i : a % pageSize ≡ headerSize + j = omega arith in
@@ -181,13 +174,3 @@ module _ (but : Found) (img : List ℕ) (b : Book) (o : ℕ → Origin) (noise :
           ∙ ap (λ (i : ℕ). of (pageBytes f sealed) i) i
           ∙ page-origin (b .bringer) new f sealed (put .ranges) (put .full) (headerSize + j)
           ∙ rw (v, eq-eqb _ _ (put .node))
-
-      -- the block is not empty, so that the origins are as traced
-      pub raw-clear : (a : ℕ) → blockEmpty image (a / blockSize) ≡ true → raw a ≡ plain
-      raw-clear a e =
-          let n : a / blockSize ≡ g / pagesInBlock → ⊥ = λ q.
-          let v : formAt image g ≡ Empty = empty-form-at image g (empty-block-page image g (rw q at e)) in
-          let w = whole-appended h .after in
-          let z : _≡_ {A = ℕ} 0 1 = cc in omega arith in
-          let same = block-empty-same img image (a / blockSize) (whole-appended h .aside .only .others (a / blockSize) n) in
-          origin-unprogrammed of k o a g (pageBytes f sealed) (λ q. n (omega arith)) ∙ s .clear a (sym same ∙ e)

@@ -31,13 +31,13 @@ use Rattle.image.proofs.CommitBlock.{commit-block-steps}
 use Rattle.image.proofs.KeyBlock.{key-block-steps}
 use Rattle.image.proofs.Rows.{rowSteps}
 use Rattle.store.specs.Reply.{isDone}
-use Rattle.store.specs.Record.{Record}
+use Rattle.store.specs.Record.{Record, isDead}
 use Rattle.store.specs.Outcome.{Outcome}
 use Rattle.store.specs.Format.{firstEpoch, formatted, formatSteps}
-use Rattle.store.specs.Mount.{isStray, mountNumbers, mountSteps, mountOf}
+use Rattle.store.specs.Mount.{isSwept, mounted, mountSteps, mountOf}
 use Rattle.store.specs.Write.{keysBlock}
 use Rattle.store.specs.CutOff.{cutOffSteps, cutOffOf}
-use Rattle.store.specs.Commit.{Stage, begin, cleaned, replaceKeys, replaceCommit, keysReplaced, commitReplaced, isDead, deadErased, commitStages, commitOf}
+use Rattle.store.specs.Commit.{Stage, begin, cleaned, replaceKeys, replaceCommit, keysReplaced, commitReplaced, deadErased, commitStages, commitOf}
 use Rattle.store.specs.Wipe.{removedFirst, wipeOf}
 use Rattle.store.proofs.Outcomes.{mount-outcome, mount-refused, cut-off-outcome, cut-off-refused, commit-outcome, commit-refused, wipe-outcome, wipe-refused}
 use Rattle.store.proofs.Verdicts.{done-true}
@@ -171,7 +171,7 @@ unfolding mountSteps
 mount-nodeless img map letters scratch =
     by-reply (mountOf img map letters scratch)
     (λ q. rw (ap (λ (o : Outcome). o .steps) (mount-outcome img map letters scratch (done-true _ q)))
-    (erases-nodeless (whichFrom (isStray img (mountNumbers img)) (blocks img) 0)))
+    (erases-nodeless (whichFrom (isSwept img (mounted img)) (blocks img) 0)))
     (λ q. ap (λ (o : Outcome). o .steps) (mount-refused img map letters scratch q))
 
 pub cut-off-nodeless : (img : List ℕ) (r : Record) (file offset : ℕ) → Each Nodeless (cutOffOf img r file offset .steps)

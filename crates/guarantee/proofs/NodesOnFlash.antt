@@ -44,20 +44,22 @@ use Rattle.store.proofs.Outcomes.{read-stepless, gather-outcome, gather-refused
 use Rattle.store.proofs.Verdicts.{done-true, gather-taken}
 use Rattle.guarantee.specs.Call.{Given, secondGiven, bytesGiven, writeGiven, Call, mount, write, read, cutOff, commit, wipe, gather, Event}
 use Rattle.guarantee.specs.Book.{Holding, firstBook, lowestMarked}
-use Rattle.guarantee.specs.Origin.{Origin, plain, cipher, bringerIn, byteOrigin, traceUpTo, trace, onFlash}
+use Rattle.guarantee.specs.Origin.{Origin, plain, cipher, bringerIn, byteOrigin, traceUpTo, trace}
 use Rattle.guarantee.specs.Machine.{Machine, Node, start, outcomeAt, step, Allowed}
 use Rattle.guarantee.specs.Statement.{MapHas, UnderKey}
+use Rattle.guarantee.specs.Unsettled.{anyBlock, afterWhole, OnSettled, AllOnSettled}
 use Rattle.guarantee.specs.Copies.{payloadByte, Names, InPayloads, OneNodeOnFlash, SameNode}
-use Rattle.guarantee.proofs.Origins.{erase-origin, on-flash}
+use Rattle.guarantee.proofs.Origins.{erase-origin}
 use Rattle.guarantee.proofs.StepBytes.{cut-byte, origin-programmed, origin-unreached, origin-unprogrammed}
 use Rattle.guarantee.proofs.StepBytes.{origin-erased, origin-remaining, origin-elsewhere}
 use Rattle.guarantee.proofs.NodelessSteps.{byte-payload, byte-cipher, Nodeless, nodeless-byte}
 use Rattle.guarantee.proofs.NodelessSteps.{mount-nodeless, cut-off-nodeless, commit-nodeless, wipe-nodeless, format-nodeless}
 use Rattle.guarantee.proofs.Givens.{given-taken, given-refused}
 use Rattle.guarantee.proofs.Events.{later-noise, or-on}
-use Rattle.guarantee.proofs.FormatCall.{format-taken}
+use Rattle.guarantee.proofs.FormatCall.{format-taken, format-on-settled}
 use Rattle.guarantee.proofs.Histories.{History, Permitted, endOf, history, while-on, next, at-end, at-call, standing}
 use Rattle.guarantee.proofs.Slips.{taken-free}
+use Rattle.guarantee.proofs.BegunPages.{Begun, KeepsBegun, empty-first, none-begun, whole-begun, begun-end}
 use Rattle.guarantee.proofs.KeysOnce.{node-noted, one-node-per-key}
 
 -- ---- pages, by the nodes and the noise of a machine
@@ -79,14 +81,6 @@ module _ (m : Machine) where
   abbrev Known : List ℕ → (ℕ → Origin) → Type 0
   Known img o = (g j p c : ℕ) → j < payloadSize → o (payloadByte g j) ≡ cipher p c → Under (pageAt img g) j p c
 
-  -- the flash has less, never more
-  less-known : (img : List ℕ) (o o' : ℕ → Origin) → ((a : ℕ) → (o' a ≡ plain) ⊎ (o' a ≡ o a)) → Known img o → Known img o'
-  less-known img o o' less known g j p c l e = go (less (payloadByte g j))
-    where
-      go : (o' (payloadByte g j) ≡ plain) ⊎ (o' (payloadByte g j) ≡ o (payloadByte g j)) → Under (pageAt img g) j p c
-      go (inl z) = absurd (let y : _≡_ {A = ℕ} 0 1 = cc in omega arith)
-      go (inr z) = known g j p c l (sym z ∙ e)
-
   module _ (of : List ℕ → ℕ → Origin) where
     -- ---- what the first k bytes of a step put there
     abbrev Puts : ℕ → Step → Type 0
@@ -94,9 +88,9 @@ module _ (m : Machine) where
     Puts k (erase b) = Unit {0}
 
     -- ---- one step, cut anywhere
-    program-known : (k g : ℕ) (page img : List ℕ) (o : ℕ → Origin) → Legal img (program g page) → Puts k (program g page) → Known img o
-        → Known (upTo k (program g page) img) (traceUpTo of k (program g page) o)
-    program-known k g page img o legal puts known h j p c l e = elim (ℕ-discrete h g) [
+    program-known : (k g : ℕ) (page img : List ℕ) (o : ℕ → Origin) (u : ℕ → Bool) → Legal img (program g page) → u (g / pagesInBlock) ≡ false
+        → Begun img o u → Puts k (program g page) → Known img o → Known (upTo k (program g page) img) (traceUpTo of k (program g page) o)
+    program-known k g page img o u legal settled begun puts known h j p c l e = elim (ℕ-discrete h g) [
       | yes z ↦ here z (decLt (headerSize + j) k)
       | no z ↦
           let same = page-program-upTo-other k g page img (legal .0) h z in
@@ -113,8 +107,11 @@ module _ (m : Machine) where
             let byte = cut-byte k page (legal .0 .1) (headerSize + j) erased b (omega arith) in
             rw same (under-same page (cutPage k page) j p c byte (λ f q. rw (← head) q) (puts j p c l b put))
         here z (no b) =
-            let away = origin-unreached of k o (payloadByte h j) g page (omega arith) (omega arith) in
-            absurd (let y : _≡_ {A = ℕ} 0 1 = cc in omega arith)
+            let same = origin-unreached of k o (payloadByte h j) g page (omega arith) (omega arith) in
+            let here : payloadByte h j / blockSize ≡ g / pagesInBlock = omega arith in
+            let first : payloadByte h j / pageSize ≡ g = omega arith in
+            absurd (begun (payloadByte h j) p c (sym same ∙ e) (ap u here ∙ settled)
+            (ap (λ (i : ℕ). getD img (i * pageSize) erased) first ∙ empty-first img g (legal .0 .0) (legal .1)))
 
     -- where a byte of a header is erased, its first one is
     headed : (n : ℕ) (page : List ℕ) → length page ≡ pageSize → (f : Frame) → headerOf (part (cleared n page) 0 headerSize) ≡ Is f
@@ -149,9 +146,10 @@ module _ (m : Machine) where
             let byte = cleared-after n (pageAt img h) (headerSize + j) erased (omega arith) (omega arith) in
             rw same (under-same (pageAt img h) (cleared n (pageAt img h)) j p c byte (headed n (pageAt img h) long) (known h j p c l was))
 
-    step-known : (k : ℕ) (d : Step) (img : List ℕ) (o : ℕ → Origin) → Legal img d → Puts k d → Known img o → Known (upTo k d img) (traceUpTo of k d o)
-    step-known k (program g page) img o legal puts known = program-known k g page img o legal puts known
-    step-known k (erase b) img o legal puts known = erase-known k b img o legal known
+    step-known : (k : ℕ) (d : Step) (img : List ℕ) (o : ℕ → Origin) (u : ℕ → Bool) → Legal img d → OnSettled u d → Begun img o u → Puts k d → Known img o
+        → Known (upTo k d img) (traceUpTo of k d o)
+    step-known k (program g page) img o u legal on begun puts known = program-known k g page img o u legal on begun puts known
+    step-known k (erase b) img o u legal on begun puts known = erase-known k b img o legal known
 
     -- ---- steps in a row, at a cut
     abbrev PutsAll : ℕ → ℕ → List Step → Type 0
@@ -159,16 +157,16 @@ module _ (m : Machine) where
     PutsAll zero k (d ∷ ds) = Puts k d
     PutsAll (suc n) k (d ∷ ds) = Puts blockSize d × PutsAll n k ds
 
-    play-known : (n k : ℕ) (ds : List Step) (img : List ℕ) (o : ℕ → Origin) → AllLegal img ds → PutsAll n k ds → Known img o
-        → Known (play n k ds img) (trace of n k ds o)
+    play-known : KeepsBegun of → (n k : ℕ) (ds : List Step) (img : List ℕ) (o : ℕ → Origin) (u : ℕ → Bool) → AllLegal img ds → AllOnSettled u ds → Begun img o u
+        → PutsAll n k ds → Known img o → Known (play n k ds img) (trace of n k ds o)
     unfolding play trace
-    play-known n k [] img o legal puts known = known
-    play-known zero k (d ∷ ds) img o legal puts known = step-known k d img o (legal .0) puts known
-    play-known (suc n) k (d ∷ ds) img o legal puts known =
+    play-known keeps n k [] img o u legal on begun puts known = known
+    play-known keeps zero k (d ∷ ds) img o u legal on begun puts known = step-known k d img o u (legal .0) (on .0) begun puts known
+    play-known keeps (suc n) k (d ∷ ds) img o u legal on begun puts known =
         let o' = traceUpTo of blockSize d o in
         let same = upTo-whole blockSize (length img) d img (legal-inside img d (legal .0)) (omega arith) in
-        play-known n k ds (whole d img) o' (legal .1) (puts .1)
-        (subst (λ (i : List ℕ). Known i o') same (step-known blockSize d img o (legal .0) (puts .0) known))
+        play-known keeps n k ds (whole d img) o' (afterWhole d u) (legal .1) (on .1) (keeps d img o u (legal .0) (on .0) begun) (puts .1)
+        (subst (λ (i : List ℕ). Known i o') same (step-known blockSize d img o u (legal .0) (on .0) begun (puts .0) known))
 
     -- where it is so at every byte
     abbrev AlwaysPuts : Step → Type 0
@@ -308,10 +306,8 @@ module _ (m : Machine) (h : History m) (known : KnownAt m) where
     after : Putting e → KnownAt (step m e)
     unfolding step left
     after puts =
-        let of = originsBy m (e .call) in
-        let ds = outcomeAt m e .steps in
-        less-known (step m e) (step m e .image) (trace of (e .n) (e .k) ds (m .origin)) (step m e .origin) (λ a. on-flash _ _ a)
-        (play-known (step m e) of (e .n) (e .k) ds (m .image) (m .origin) (at-call m h e may .legal) puts later)
+        play-known (step m e) (originsBy m (e .call)) (whole-begun (m .book .bringer) (bringerIn (m .calls) (e .call) (m .book))) (e .n) (e .k)
+        (outcomeAt m e .steps) (m .image) (m .origin) (m .unsettled) (at-call m h e may .legal) (at-call m h e may .onSettled) (begun-end m h) puts later
 
     nodeless : Each Nodeless (outcomeAt m e .steps) → Putting e
     nodeless = nodeless-puts (step m e) (m .book .bringer) (bringerIn (m .calls) (e .call) (m .book)) (e .n) (e .k) (outcomeAt m e .steps)
@@ -452,7 +448,8 @@ module _ (img map letters noise : List ℕ) (size : T (sizeRight img)) (lent : T
       let taken = format-taken img map letters noise size lent long in
       let legal : AllLegal img ds = subst (λ (o : Outcome). AllLegal img (o .steps)) taken (format-legal img map letters noise) in
       subst (λ (i : List ℕ). Known m i traced) (play-all (length ds) 0 ds img (omega arith))
-      (play-known m (byteOrigin (m .book .bringer) (m .book .bringer)) (length ds) 0 ds img (λ a. plain) legal
+      (play-known m (byteOrigin (m .book .bringer) (m .book .bringer)) (whole-begun (m .book .bringer) (m .book .bringer)) (length ds) 0 ds img (λ a. plain)
+      (anyBlock img) legal (format-on-settled img noise) (none-begun img (anyBlock img))
       (nodeless-puts m (m .book .bringer) (m .book .bringer) (length ds) 0 ds (format-nodeless img noise))
       (λ g j p c l e. absurd (let y : _≡_ {A = ℕ} 0 1 = cc in omega arith)))
 
@@ -460,14 +457,14 @@ module _ (img map letters noise : List ℕ) (size : T (sizeRight img)) (lent : T
   unfolding start leftWhole
   start-image = rw (format-taken img map letters noise size lent long)
 
-  start-origin : m .origin ≡ onFlash (playAll ds img) traced
+  start-origin : m .origin ≡ traced
   unfolding start leftWhole
   start-origin = rw (format-taken img map letters noise size lent long)
 
   start-known : KnownAt (start img map letters noise)
   start-known =
-      subst (λ (i : List ℕ). Known m i (m .origin)) (sym start-image) (subst (λ (o : ℕ → Origin). Known m (playAll ds img) o) (sym start-origin)
-      (less-known m (playAll ds img) traced (onFlash (playAll ds img) traced) (on-flash (playAll ds img) traced) format-known))
+      subst (λ (i : List ℕ). Known m i (m .origin)) (sym start-image)
+      (subst (λ (o : ℕ → Origin). Known m (playAll ds img) o) (sym start-origin) format-known)
 
 along-known : (m : Machine) → History m → KnownAt m → (es : List Event) → Allowed m es → KnownAt (endOf m es)
 along-known m h known [] a = known
@@ -483,20 +480,18 @@ known-end m h =
 abbrev Within : (ℕ → Origin) → Type 0
 Within o = (a p c : ℕ) → o a ≡ cipher p c → (headerSize ≤ a % pageSize) × (a % pageSize < closingAt)
 
-less-within : (o o' : ℕ → Origin) → ((a : ℕ) → (o' a ≡ plain) ⊎ (o' a ≡ o a)) → Within o → Within o'
-less-within o o' less within a p c e = go (less a)
-  where
-    go : (o' a ≡ plain) ⊎ (o' a ≡ o a) → (headerSize ≤ a % pageSize) × (a % pageSize < closingAt)
-    go (inl z) = absurd (let y : _≡_ {A = ℕ} 0 1 = cc in omega arith)
-    go (inr z) = within a p c (sym z ∙ e)
-
 step-within : (now new : ℕ → ℕ) (k : ℕ) (d : Step) (o : ℕ → Origin) → Within o → Within (traceUpTo (byteOrigin now new) k d o)
 step-within now new k (erase b) o within a p c e =
-    less-within o (traceUpTo (byteOrigin now new) k (erase b) o) (erase-origin (byteOrigin now new) k b o) within a p c e
+    go (erase-origin (byteOrigin now new) k b o a)
+  where
+    go : (traceUpTo (byteOrigin now new) k (erase b) o a ≡ plain) ⊎ (traceUpTo (byteOrigin now new) k (erase b) o a ≡ o a)
+        → (headerSize ≤ a % pageSize) × (a % pageSize < closingAt)
+    go (inl z) = absurd (let y : _≡_ {A = ℕ} 0 1 = cc in omega arith)
+    go (inr z) = within a p c (sym z ∙ e)
 step-within now new k (program g page) o within a p c e = elim (ℕ-discrete (a / pageSize) g) [
   | yes z ↦ elim (decLt (a % pageSize) k) [
     | yes l ↦ byte-payload now new (a % pageSize) p c page (sym (origin-programmed (byteOrigin now new) k o a g page z l) ∙ e)
-    | no l ↦ absurd (let y = origin-unreached (byteOrigin now new) k o a g page z (omega arith) in let x : _≡_ {A = ℕ} 0 1 = cc in omega arith)
+    | no l ↦ within a p c (sym (origin-unreached (byteOrigin now new) k o a g page z (omega arith)) ∙ e)
   ]
   | no z ↦ within a p c (sym (origin-unprogrammed (byteOrigin now new) k o a g page z) ∙ e)
 ]
@@ -511,8 +506,7 @@ trace-within now new (suc n) k (d ∷ ds) o within =
 called-within : (m : Machine) (e : Event) → Within (m .origin) → Within (step m e .origin)
 unfolding step
 called-within m e within =
-    less-within (trace (originsBy m (e .call)) (e .n) (e .k) (outcomeAt m e .steps) (m .origin)) (step m e .origin) (λ a. on-flash _ _ a)
-    (trace-within (m .book .bringer) (bringerIn (m .calls) (e .call) (m .book)) (e .n) (e .k) (outcomeAt m e .steps) (m .origin) within)
+    trace-within (m .book .bringer) (bringerIn (m .calls) (e .call) (m .book)) (e .n) (e .k) (outcomeAt m e .steps) (m .origin) within
 
 along-within : (m : Machine) (es : List Event) → Within (m .origin) → Within (endOf m es .origin)
 along-within m [] within = within
@@ -522,9 +516,7 @@ start-within : (img map letters noise : List ℕ) → Within (start img map lett
 unfolding start
 start-within img map letters noise =
     let ds = formatOf img map letters noise .steps in
-    let o = trace (byteOrigin (firstBook .bringer) (firstBook .bringer)) (length ds) 0 ds (λ a. plain) in
-    less-within o (start img map letters noise .origin) (λ a. on-flash _ _ a)
-    (trace-within (firstBook .bringer) (firstBook .bringer) (length ds) 0 ds (λ a. plain) (λ a p c e. absurd (let y : _≡_ {A = ℕ} 0 1 = cc in omega arith)))
+    trace-within (firstBook .bringer) (firstBook .bringer) (length ds) 0 ds (λ a. plain) (λ a p c e. absurd (let y : _≡_ {A = ℕ} 0 1 = cc in omega arith))
 
 pub in-payloads : (m : Machine) → History m → InPayloads m
 in-payloads m h a p c e =

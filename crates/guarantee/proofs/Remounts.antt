@@ -1,33 +1,39 @@
--- A mount after a call that finished gives the record that the call left, and has no steps: what a finished call leaves needs no mending.
-use Prim.Native.Nat.{ℕ, _≤_}
+-- A mount after a call that finished gives the record that the call left: what a finished call leaves needs no mending. It erases blocks that are empty or
+-- that no
+-- record reads any more, and keeps every live page; and another mount after it changes no byte.
+use Prim.Native.Nat.{ℕ, _<_, _≤_}
 use native.Mathlib.Omega.{arith}
 use mathlib.Core.Path.{_≡_, refl, sym, ap, subst, _∙_}
+use mathlib.Core.Logic.{_⊎_}
 use mathlib.Core.Bool.{Bool, true, false, _||_}
-use mathlib.Core.List.{List, [], _∷_}
-use lib.Dec.{T}
+use mathlib.Core.List.{List, [], _∷_, map as each}
+use lib.Dec.{T, eqb}
 use lib.ListN.{length}
-use Rattle.base.proofs.Choice.{true-false}
-use Rattle.base.proofs.Searches.{count-zero}
+use borrow.Author.Tests.{eqb-true}
+use Rattle.base.specs.Search.{whichFrom}
+use Rattle.base.proofs.Choice.{and-true, true-false}
+use Rattle.page.specs.Plan.{places}
 use Rattle.page.specs.Page.{nodePage, cutOffPage}
 use Rattle.image.specs.Size.{sizeRight, blocks}
-use Rattle.image.specs.Step.{Step, AllLegal, whole, playAll}
+use Rattle.image.specs.Look.{pageAt, blockEmpty}
+use Rattle.image.specs.Step.{erase, AllLegal, whole, playAll}
 use Rattle.image.proofs.Plays.{play-all, playAll-nil}
 use Rattle.image.proofs.Forms.{form-program}
 use Rattle.store.specs.Kind.{headed}
 use Rattle.store.specs.Reply.{isDone}
-use Rattle.store.specs.Record.{Record}
+use Rattle.store.specs.Record.{Record, pageOf, live}
 use Rattle.store.specs.Outcome.{Outcome, left, leftWhole}
 use Rattle.store.specs.Format.{noiseSize, buffersRight, formatNumbers}
-use Rattle.store.specs.Mount.{isStray, mountNumbers, mounted, mountOf}
+use Rattle.store.specs.Mount.{isCoveredDead, isSwept, mounted, mountSteps, mountOf}
 use Rattle.store.specs.Write.{nextSequence, appendSteps}
 use Rattle.store.specs.CutOff.{removed, cutOffSteps, cutOffOf}
 use Rattle.store.specs.Commit.{Stage, begin, cleaned, commitStages, commitOf}
 use Rattle.store.specs.Wipe.{removedFirst, wipeOf}
 use Rattle.store.specs.declared.Reply.the-variants.{Done}
-use Rattle.store.proofs.Counts.{mount-steps}
 use Rattle.store.proofs.Legals.{cut-off-legal, mount-legal, commit-legal, wipe-legal}
 use Rattle.store.proofs.Outcomes.{gather-outcome, gather-refused, mount-outcome, read-stepless, cut-off-outcome, cut-off-refused, commit-outcome, commit-refused, wipe-outcome, wipe-refused}
-use Rattle.store.proofs.Verdicts.{gather-taken, done-true, cut-off-taken}
+use Rattle.store.proofs.Verdicts.{gather-taken, done-true, cut-off-taken, buffers-true}
+use Rattle.store.proofs.Remounts.{mount-twice}
 use Rattle.guarantee.specs.Call.{Given, secondGiven, bytesGiven, writeGiven, Call, mount, write, read, cutOff, commit, wipe, gather, Event, outcomeOf, isMount, lentRight}
 use Rattle.store.specs.Gather.{livePages, copyStep, copied, copySteps, copiedAll, gatherOf}
 use Rattle.store.proofs.Gathers.{Copying, header, payload, copy-is, copy-empty, copy-inside, header-range, payload-length, copying-next, gather-copying}
@@ -39,9 +45,10 @@ use Rattle.guarantee.proofs.Sounds.{Sound, Tight, is-true}
 use Rattle.guarantee.proofs.Writes.{ranges as node-ranges, sealed-length}
 use Rattle.guarantee.proofs.CutOffCall.{ranges as cut-off-ranges, spaces-length}
 use Rattle.guarantee.proofs.FormatCall.{format-empty, format-length, format-taken}
-use Rattle.guarantee.proofs.Strays.{Neat, neat-stray, chosen-not, program-neat, mount-neat, Neatly, begin-neatly, commit-neatly, stages-neatly}
+use Rattle.guarantee.proofs.Strays.{Neat, neat-swept, chosen-not, program-neat, mount-neat, Neatly, begin-neatly, commit-neatly, stages-neatly}
 use Rattle.guarantee.proofs.Histories.{endOf, Permitted, History, history, next, standing}
 use Rattle.guarantee.proofs.Slips.{copy-before-erase}
+use Rattle.guarantee.proofs.Loosenings.{mount-still}
 use Rattle.store.proofs.Removals.{removed-numbers}
 use Rattle.guarantee.proofs.Events.{on-uncut, or-on}
 
@@ -138,7 +145,6 @@ NeatOn m = T (m .on) → Neat (m .image) (m .store .numbers)
 
 module _ (m : Machine) (h : History m) (neat : NeatOn m) where
   mounting-neat : (map letters scratch : List ℕ) → T (lentRight (mount map letters scratch)) → NeatAfter (m .image) (mountOf (m .image) map letters scratch)
-  unfolding mounted
   mounting-neat map letters scratch lent =
       let e = mount-outcome (m .image) map letters scratch (copy-before-erase m h map letters scratch lent) in
       subst (NeatAfter (m .image)) (sym e) (mount-neat (m .image) (subst (λ (o : Outcome). AllLegal (m .image) (o .steps)) e (mount-legal (m .image) map letters scratch)))
@@ -208,14 +214,32 @@ module _ (m : Machine) (h : History m) (on : T (m .on)) (map letters scratch : L
   pub remount-same-record : mountOf (m .image) map letters scratch .after ≡ m .store
   remount-same-record = ap (λ (o : Outcome). o .after) (mount-outcome (m .image) map letters scratch accepted) ∙ sym (standing m h .settled .good on)
 
-  -- and changes nothing on the flash
-  pub remount-no-steps : mountOf (m .image) map letters scratch .steps ≡ []
-  unfolding mounted
-  remount-no-steps =
-      nothing (mountOf (m .image) map letters scratch .steps)
-      (mount-steps (m .image) map letters scratch accepted ∙ count-zero (isStray (m .image) (mountNumbers (m .image))) (blocks (m .image)) 0
-      (λ b z l. neat-stray (m .image) (mountNumbers (m .image)) (subst (λ (r : Record). Neat (m .image) (r .numbers)) (standing m h .settled .good on) (neat-end m h on)) b (omega arith)))
-    where
-      nothing : (ss : List Step) → length ss ≡ 0 → ss ≡ []
-      nothing [] e = refl
-      nothing (s ∷ ss) e = absurd (omega arith)
+  -- erases only what is empty, or a data block without a live page all of whose headers the commit covers
+  pub remount-steps : mountOf (m .image) map letters scratch .steps ≡ each erase (whichFrom (isSwept (m .image) (m .store)) (blocks (m .image)) 0)
+  unfolding mountSteps
+  remount-steps = ap (λ (o : Outcome). o .steps) (mount-outcome (m .image) map letters scratch accepted) ∙ rw (← standing m h .settled .good on)
+
+  pub remount-erases : (b : ℕ) → b < blocks (m .image) → isSwept (m .image) (m .store) b ≡ true
+      → (blockEmpty (m .image) b ≡ true) ⊎ (isCoveredDead (m .image) (m .store) b ≡ true)
+  remount-erases = neat-swept (m .image) (m .store) (neat-end m h on)
+
+  abbrev after : List ℕ
+  after = leftWhole (mountOf (m .image) map letters scratch) (m .image) .image
+
+  -- and keeps every live page
+  pub remount-keeps-pages : (x : ℕ) → x < places → live (m .store .map) x ≡ true
+      → pageAt after (pageOf (m .store .map) x) ≡ pageAt (m .image) (pageOf (m .store .map) x)
+  unfolding leftWhole
+  remount-keeps-pages =
+      let st = standing m h .settled in
+      let steps = mountSteps (m .image) in
+      let whole = play-all (length steps) 0 steps (m .image) (omega arith) in
+      rw (st .good on, mount-outcome (m .image) map letters scratch accepted, ← whole)
+      (mount-still (m .image) (st .sound .mountable) (length steps) 0 .page-same)
+
+  -- another mount after it leaves the same: record, scratch, and the image byte for byte
+  pub remount-twice : (map' letters' scratch' : List ℕ) → T (lentRight (mount map' letters' scratch'))
+      → leftWhole (mountOf after map' letters' scratch') after ≡ leftWhole (mountOf (m .image) map letters scratch) (m .image)
+  remount-twice map' letters' scratch' right =
+      let t = and-true (buffersRight map' letters') (eqb (length scratch') places) (is-true _ right) in
+      mount-twice (m .image) map letters scratch accepted map' letters' scratch' (buffers-true map' letters' (t .0)) (eqb-true _ _ (t .1))

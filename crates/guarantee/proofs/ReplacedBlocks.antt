@@ -17,6 +17,9 @@ use Rattle.image.proofs.Rows.{rowSteps}
 use Rattle.guarantee.specs.Call.{cut, madeWhole}
 use Rattle.guarantee.specs.Book.{Book}
 use Rattle.guarantee.specs.Origin.{Origin, traceUpTo, trace}
+use Rattle.store.proofs.Quiets.{Mountable}
+use Rattle.store.proofs.IdleBlocks.{Idle}
+use Rattle.guarantee.proofs.Unsettlings.{CutErase, cut-first, cut-second, row-uncut, erase-idle}
 use Rattle.guarantee.proofs.Origins.{trace-first, trace-second, trace-one, trace-last}
 
 module _ (img : List ℕ) (o : ℕ → Origin) (of : List ℕ → ℕ → Origin) (nb count old : ℕ) (page : ℕ → List ℕ) where
@@ -89,3 +92,15 @@ module _ (img : List ℕ) (o : ℕ → Origin) (of : List ℕ → ℕ → Origin
           let z : n ≡ count = omega arith in
           rw (z, lt-ltb (count - 1) count (omega arith), play-end k, trace-end k) (erasing k)
     ]
+
+  -- ---- where the erase was cut, its block is idle, if it was before
+  pub replaced-idle : Mountable (play count 0 row img) → Idle (play count 0 row img) old → (n k d : ℕ) → n < count + 1 → CutErase n steps d
+      → Idle (play n k steps img) d
+  replaced-idle ok idle n k d h e = elim (decLt n count) [
+    | yes l ↦ absurd (row-uncut nb page n count 0 d (cut-first n row (erase old ∷ []) d (rw row-length l) e))
+    | no l ↦
+        let z : n ≡ count = omega arith in
+        let zero-left : n - length row ≡ 0 = omega (arith, row-length) in
+        let here : old ≡ d = rw zero-left at (cut-second n row (erase old ∷ []) d (omega (arith, row-length)) e) in
+        rw (z, play-end k, ← here) (erase-idle (play count 0 row img) ok old idle k old idle)
+  ]

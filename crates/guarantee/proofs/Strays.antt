@@ -1,4 +1,5 @@
--- After a finished call every block is chosen, or has an N or D page, or is empty: a mount would find nothing to erase. Here over images, steps and stages.
+-- After a finished call every block is chosen, or has an N or D page, or is empty: of what a mount would erase, all but dead data blocks is empty.
+-- Here over images, steps and stages.
 use Prim.Native.Nat.{ℕ, _-_, _/_, _%_, _<_}
 use native.Mathlib.Omega.{arith}
 use native.Mathlib.Decide.{ℕ-discrete}
@@ -28,10 +29,11 @@ use Rattle.image.proofs.Forms.{form-same}
 use Rattle.image.proofs.Plays.{playAll-append, playAll-cons, playAll-nil}
 use Rattle.image.proofs.Step.{blockOf, whole-length, block-whole-other, page-of-same}
 use Rattle.store.specs.Kind.{pageIn, headed, isChosen, isData, hasEvents}
-use Rattle.store.specs.Record.{Record, withNumbers, pageOf, live}
-use Rattle.store.specs.Mount.{isStray, mountNumbers, mountSteps}
+use Rattle.store.specs.Record.{Record, withNumbers, pageOf, live, hasLive, isDead}
+use Rattle.store.specs.Mount.{isStray, isCoveredDead, isSwept, mounted, mountSteps}
+use Rattle.store.proofs.Erasures.{swept-is}
 use Rattle.store.specs.Write.{keysBlock}
-use Rattle.store.specs.Commit.{replaceKeys, replaceCommit, withKeys, withCommit, Stage, begin, onward, keysReplaced, commitReplaced, isDead, deadErased, commitStages}
+use Rattle.store.specs.Commit.{replaceKeys, replaceCommit, withKeys, withCommit, Stage, begin, onward, keysReplaced, commitReplaced, deadErased, commitStages}
 use Rattle.store.specs.declared.Numbers.{Numbers}
 use Rattle.store.proofs.LegalSteps.{legal-length, legal-inside}
 use Rattle.guarantee.proofs.NumberedCalls.{legal-rest}
@@ -42,15 +44,18 @@ use Rattle.guarantee.proofs.Room.{sweep-empties}
 abbrev pub Neat : List ℕ → Numbers → Type 0
 Neat img r = (b : ℕ) → b < blocks img → isChosen r b ≡ false → hasEvents img b ≡ false → blockEmpty img b ≡ true
 
--- it is what mount's search asks
-pub neat-stray : (img : List ℕ) (r : Numbers) → Neat img r → (b : ℕ) → b < blocks img → isStray img r b ≡ false
-unfolding isStray isData
-neat-stray img r neat b h = go (isChosen r b) refl (hasEvents img b) refl
+-- what mount erases of such an image is empty, or dead and covered
+pub neat-swept : (img : List ℕ) (r : Record) → Neat img (r .numbers) → (b : ℕ) → b < blocks img → isSwept img r b ≡ true
+    → (blockEmpty img b ≡ true) ⊎ (isCoveredDead img r b ≡ true)
+unfolding isSwept isStray isData
+neat-swept img r neat b h = go (isChosen (r .numbers) b) refl (hasEvents img b) refl (isCoveredDead img r b) refl
   where
-    go : (t : Bool) → isChosen r b ≡ t → (v : Bool) → hasEvents img b ≡ v → not t && not (v && not t) && not (blockEmpty img b) ≡ false
-    go true c v e = refl
-    go false c true e = refl
-    go false c false e = rw (neat b h c e)
+    go : (t : Bool) → isChosen (r .numbers) b ≡ t → (v : Bool) → hasEvents img b ≡ v → (w : Bool) → isCoveredDead img r b ≡ w
+        → not t && not (v && not t) || w ≡ true → (blockEmpty img b ≡ true) ⊎ (isCoveredDead img r b ≡ true)
+    go t c v e true q z = inr q
+    go true c v e false q z = absurd (true-false z refl)
+    go false c true e false q z = absurd (true-false z refl)
+    go false c false e false q z = inl (neat b h c e)
 
 -- ---- chosen blocks
 pub chosen-not : (r : Numbers) (b : ℕ) → isChosen r b ≡ false → (b ≡ r .keys0 → ⊥) × (b ≡ r .keys1 → ⊥) × (b ≡ r .commit → ⊥)
@@ -137,17 +142,12 @@ module _ (p : ℕ → Bool) (img : List ℕ) (legal : AllLegal img (map erase (w
       go (inr z) = block-empty-same img (swept p img) b (z .1) ∙ rest b (swept-within b h) (z .0) c (sym (events-same img (swept p img) b (z .1)) ∙ e)
 
 -- mount
-stray-none : (img : List ℕ) (r : Numbers) (b : ℕ) → isStray img r b ≡ false → isChosen r b ≡ false → hasEvents img b ≡ false → blockEmpty img b ≡ true
-unfolding isStray isData
-stray-none img r b s c e = go (blockEmpty img b) (rw (c, e) at s)
-  where
-    go : (t : Bool) → not t ≡ false → t ≡ true
-    go true q = refl
-    go false q = absurd (true-false refl q)
-
-pub mount-neat : (img : List ℕ) → AllLegal img (mountSteps img) → Neat (playAll (mountSteps img) img) (mountNumbers img)
+pub mount-neat : (img : List ℕ) → AllLegal img (mountSteps img) → Neat (playAll (mountSteps img) img) (mounted img .numbers)
 unfolding mountSteps
-mount-neat img legal = sweep-neat (isStray img (mountNumbers img)) img legal (mountNumbers img) (λ b h s. stray-none img (mountNumbers img) b s)
+mount-neat img legal =
+    sweep-neat (isSwept img (mounted img)) img legal (mounted img .numbers) (λ b h s c e.
+    let z = swept-is img (mounted img) b in
+    absurd (true-false (z ∙ rw (c, e)) s))
 
 -- ---- a row of pages into block nb, then block old erased, where nb is chosen from then on in the place of old
 replace-neat : (img : List ℕ) (row : List Step) (nb old : ℕ) (r r' : Numbers) → AllLegal img (row ++ (erase old ∷ [])) → ((b : ℕ) → (b ≡ nb → ⊥) → Each (λ (s : Step). blockOf s ≡ b → ⊥) row)
@@ -223,7 +223,7 @@ stages-neatly noise img s before = dead-neatly img _ (commit-neatly img _ (keys-
 -- ---- a commit with nothing live leaves all blocks empty but the chosen
 -- without live places a data block is dead
 bare-dead : (img : List ℕ) (r : Record) → ((x : ℕ) → x < places → live (r .map) x ≡ false) → (b : ℕ) → isDead img r b ≡ false → isChosen (r .numbers) b ≡ false → hasEvents img b ≡ false
-unfolding isDead isData
+unfolding isDead isData hasLive
 bare-dead img r none b d c =
     let no-live = any-all-fail (λ x. live (r .map) x && eqb (pageOf (r .map) x / pagesInBlock) b) places 0 (λ x a l. rw (none x (omega arith))) in
     go (hasEvents img b) (rw (no-live, c) at d)

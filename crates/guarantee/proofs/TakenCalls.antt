@@ -20,7 +20,8 @@ use Rattle.store.specs.Outcome.{Outcome, left, leftWhole}
 use Rattle.store.specs.Format.{noiseSize, buffersRight}
 use Rattle.store.specs.Mount.{mountOf}
 use Rattle.store.specs.Write.{fileRight, offsetRight}
-use Rattle.store.specs.Commit.{isDead, commitOf}
+use Rattle.store.specs.Record.{isDead}
+use Rattle.store.specs.Commit.{commitOf}
 use Rattle.store.specs.Wipe.{wipeOf}
 use Rattle.store.specs.declared.Reply.{Reply}
 use Rattle.store.specs.declared.Reply.the-variants.{Done, NoRoom}

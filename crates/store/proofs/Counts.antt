@@ -16,13 +16,13 @@ use Rattle.image.specs.Step.{erase}
 use Rattle.image.specs.Block.{renewedKey, keyBlockSteps}
 use Rattle.image.proofs.KeyBlock.{key-block-count}
 use Rattle.image.proofs.CommitBlock.{commit-block-count}
-use Rattle.store.specs.Record.{Record}
+use Rattle.store.specs.Record.{Record, isDead}
 use Rattle.store.specs.Format.{formatSteps, formatOf}
-use Rattle.store.specs.Mount.{mountNumbers, isStray, mountSteps, mountOf}
+use Rattle.store.specs.Mount.{mounted, isSwept, mountSteps, mountOf}
 use Rattle.store.specs.Write.{keysBlock, appendSteps, appendOf}
 use Rattle.store.specs.Read.{readOf}
 use Rattle.store.specs.CutOff.{removed, cutOffSteps, cutOffOf}
-use Rattle.store.specs.Commit.{Stage, begin, cleaned, replaceKeys, replaceCommit, keysReplaced, commitReplaced, isDead, deadErased, commitStages, commitOf}
+use Rattle.store.specs.Commit.{Stage, begin, cleaned, replaceKeys, replaceCommit, keysReplaced, commitReplaced, deadErased, commitStages, commitOf}
 use Rattle.store.specs.Wipe.{removedFirst, wipeOf}
 use Rattle.store.specs.Gather.{livePages, copySteps, gatherOf}
 use Rattle.store.specs.Outcome.{Outcome}
@@ -49,13 +49,13 @@ pub format-count : (img noise : List ℕ) → length (formatSteps img noise) ≡
 unfolding formatSteps
 format-count img noise = simp (length-append, length-listFrom, key-block-count, commit-block-count) (omega arith)
 
-pub mount-count : (img : List ℕ) → length (mountSteps img) ≡ countFrom (isStray img (mountNumbers img)) (blocks img) 0
+pub mount-count : (img : List ℕ) → length (mountSteps img) ≡ countFrom (isSwept img (mounted img)) (blocks img) 0
 unfolding mountSteps
-mount-count img = erases-count (isStray img (mountNumbers img)) (blocks img)
+mount-count img = erases-count (isSwept img (mounted img)) (blocks img)
 
 -- no more than there are blocks
 pub mount-few : (img : List ℕ) → length (mountSteps img) ≤ blocks img
-mount-few img = rw (mount-count img) (count-most (isStray img (mountNumbers img)) (blocks img) 0)
+mount-few img = rw (mount-count img) (count-most (isSwept img (mounted img)) (blocks img) 0)
 
 pub write-count : (img : List ℕ) (r : Record) (file offset second : ℕ) (bytes : List ℕ) → length (appendSteps img r file offset second bytes) ≡ 1
 unfolding appendSteps
@@ -112,7 +112,7 @@ pub format-steps : (img map letters noise : List ℕ) → formatOf img map lette
 format-steps img map letters noise e = rw (format-outcome img map letters noise e) (format-count img noise)
 
 pub mount-steps : (img map letters scratch : List ℕ) → mountOf img map letters scratch .reply ≡ Done
-    → length (mountOf img map letters scratch .steps) ≡ countFrom (isStray img (mountNumbers img)) (blocks img) 0
+    → length (mountOf img map letters scratch .steps) ≡ countFrom (isSwept img (mounted img)) (blocks img) 0
 mount-steps img map letters scratch e = rw (mount-outcome img map letters scratch e) (mount-count img)
 
 pub write-steps : (img : List ℕ) (r : Record) (file offset : ℕ) (right : Bool) (second : ℕ) (bytes : List ℕ) → appendOf img r file offset right second bytes .reply ≡ Done

@@ -1,23 +1,30 @@
--- Blocks that a test picks, erased in order as code does it: from one to the next, on the image as it then is. The strays of a mount are such blocks.
+-- Blocks that a test picks, erased in order as code does it: from one to the next, on the image as it then is. What a mount erases are such blocks.
 use Prim.Native.Nat.{ℕ, _+_, _-_, _<_, _≤_, _*_}
 use native.Mathlib.Omega.{arith}
+use native.Mathlib.Decide.{ℕ-discrete}
 use native.Mathlib.Nat.{sub-zero}
 use mathlib.Core.Path.{_≡_, refl, sym, ap, _∙_}
 use mathlib.Core.Bool.{Bool, true, false, cond, not, _&&_, _||_}
-use mathlib.Core.List.{List, map}
-use lib.Dec.{eqb}
+use mathlib.Core.List.{List, [], map}
+use lib.Dec.{eqb, ltb}
 use lib.ListN.{length, getD}
+use borrow.Author.Tests.{ne-eqb, lt-ltb, le-ltb}
 use Rattle.base.specs.Search.{firstFrom, whichFrom}
-use Rattle.base.proofs.Searches.{first-bounds, first-holds, first-agree, which-here, which-none, which-first}
-use Rattle.image.specs.Size.{blockSize, blocks}
-use Rattle.image.specs.Look.{blockAt, blockEmpty}
+use Rattle.base.proofs.Choice.{true-false}
+use Rattle.base.proofs.Searches.{any-fails, any-all-fail, first-bounds, first-holds, which-agree, which-here, which-none, which-first}
+use Rattle.image.specs.Size.{blockSize, pagesInBlock, mostBlocks, blocks}
+use Rattle.image.specs.Look.{blockAt}
 use Rattle.image.specs.Step.{erase}
 use Rattle.image.specs.Power.{Device, device, act, run}
 use Rattle.image.specs.declared.Power.{Power}
 use Rattle.image.proofs.Runs.{run-nil, run-cons, act-length, block-done-other}
-use Rattle.store.specs.Kind.{isChosen, hasEvents, isData}
-use Rattle.store.specs.Mount.{isStray}
-use Rattle.store.specs.Replay.{EmptyTable}
+use Rattle.page.specs.declared.Form.{Form}
+use Rattle.page.specs.declared.Form.the-variants.{Empty, Whole, Torn, Spoilt}
+use Rattle.image.specs.Look.{formAt}
+use Rattle.store.specs.Kind.{pageIn, headed, isChosen, hasEvents, isData}
+use Rattle.store.specs.Record.{Record, recordOf, isDead, hasLive}
+use Rattle.store.specs.Mount.{coveredIn, sequenceOf, isStray, hasAbove, isCoveredDead, isSwept}
+use Rattle.store.specs.Rebuild.{Sweeping, isUnmarked}
 use Rattle.store.specs.declared.Numbers.{Numbers}
 
 -- ---- a test picks blocks of the n of an image
@@ -66,31 +73,65 @@ module _ (picked : ℕ → Bool) (n : ℕ) (img₀ : List ℕ) (p₀ : Power) wh
   pub erasing-last : (img : List ℕ) (p : Power) (b : ℕ) → Erasing img p b → n ≤ b → device p img ≡ run (map erase (whichFrom picked n 0)) (device p₀ img₀)
   erasing-last img p b e h = sym (e .rest ∙ rw (which-none picked n b h) (run-nil (device p img)))
 
--- ---- strays
+-- ---- what a mount erases
 -- what a table's 1 or 0 says
 pub flagged : (h : Bool) → not (eqb (cond h 1 0) 0) ≡ h
 flagged true = refl
 flagged false = refl
 
--- a stray is not chosen, has no event and is not empty
-pub stray-is : (img : List ℕ) (r : Numbers) (b : ℕ) → isStray img r b ≡ not (isChosen r b || hasEvents img b || blockEmpty img b)
-unfolding isStray isData
-stray-is img r b = go (isChosen r b) (hasEvents img b) (blockEmpty img b)
+-- what mount erases is not chosen, and has no event or no live page and nothing above the covered sequence
+pub swept-is : (img : List ℕ) (r : Record) (b : ℕ)
+    → isSwept img r b ≡ not (isChosen (r .numbers) b) && (not (hasEvents img b) || not (hasLive (r .map) b) && not
+    (hasAbove img (coveredIn img (r .numbers .commit)) b))
+unfolding isSwept isCoveredDead isDead isStray isData
+swept-is img r b = go (isChosen (r .numbers) b) (hasEvents img b) (hasLive (r .map) b) (hasAbove img (coveredIn img (r .numbers .commit)) b)
   where
-    go : (c h e : Bool) → not c && not (h && not c) && not e ≡ not (c || h || e)
-    go true h e = refl
-    go false true e = refl
-    go false false e = refl
+    go : (c h l a : Bool) → not c && not (h && not c) || h && not c && not l && not a ≡ not c && (not h || not l && not a)
+    go true true l a = refl
+    go true false l a = refl
+    go false true true a = refl
+    go false true false true = refl
+    go false true false false = refl
+    go false false l a = refl
 
--- what the code tests of a block, by the tables of events and empty blocks
-stray-told : (img : List ℕ) (r : Numbers) (b f e : ℕ) → f ≡ cond (hasEvents img b) 1 0 → e ≡ cond (blockEmpty img b) 1 0
-    → not (isChosen r b || not (eqb f 0) || not (eqb e 0)) ≡ isStray img r b
-stray-told img r b f e p q = rw (p, q, flagged (hasEvents img b), flagged (blockEmpty img b)) (sym (stray-is img r b))
+-- a block without an event has none above any sequence
+unheaded-sequence : (m : Form) → headed m ≡ false → sequenceOf m ≡ 0
+unheaded-sequence Empty h = refl
+unheaded-sequence (Whole f) h = rw h
+unheaded-sequence (Torn f) h = rw h
+unheaded-sequence Spoilt h = refl
 
--- so the search for the next stray may go by the tables
-pub strays-told : (img events empties : List ℕ) (r : Numbers) → ((b : ℕ) → b < blocks img → getD events b 0 ≡ cond (hasEvents img b) 1 0) → EmptyTable img empties
-    → (i : ℕ) → i ≤ blocks img
-    → firstFrom (λ b. not (isChosen r b || not (eqb (getD events b 0) 0) || not (eqb (getD empties b 0) 0))) (blocks img - i) i ≡ firstFrom (isStray img r) (blocks img - i) i
-strays-told img events empties r told t i h =
-    first-agree _ (isStray img r) (blocks img - i) i
-    (λ b l m. let k : b < blocks img = omega arith in stray-told img r b (getD events b 0) (getD empties b 0) (told b k) (t .told b k))
+none-above : (img : List ℕ) (s b : ℕ) → hasEvents img b ≡ false → hasAbove img s b ≡ false
+none-above img s b e =
+    any-all-fail (λ i. ltb s (sequenceOf (formAt img (pageIn b i)))) pagesInBlock 0
+    (λ i h l. rw (unheaded-sequence (formAt img (pageIn b i)) (any-fails (λ i. headed (formAt img (pageIn b i))) pagesInBlock 0 i e h l))
+    (le-ltb s 0 (omega arith)))
+
+marked-live : (m : ℕ) → not (eqb m 0) ≡ ltb 0 m
+marked-live m = elim (ℕ-discrete m 0) [
+  | yes e ↦ rw e
+  | no e ↦ rw (ne-eqb m 0 e, lt-ltb 0 m (omega arith))
+]
+
+-- so the code may go by the two tables
+pub unmarked-swept : (img map' events lives : List ℕ) (r : Numbers) → Sweeping img map' events r
+    → ((b : ℕ) → b < mostBlocks → hasLive map' b ≡ ltb 0 (getD lives b 0))
+    → map erase (whichFrom (isUnmarked events lives r) (blocks img) 0) ≡ map erase (whichFrom (isSwept img (recordOf map' [] r)) (blocks img) 0)
+unmarked-swept img map' events lives r s live =
+    ap (map erase) (which-agree (isUnmarked events lives r) (isSwept img (recordOf map' [] r)) (blocks img) 0
+    (λ b h l.
+    let k : b < blocks img = omega arith in
+    let covered = coveredIn img (r .commit) in
+    rw (s .told b k, flagged (hasAbove img covered b), marked-live (getD lives b 0), ← live b (omega (arith, s .few)))
+    (go (isChosen r b) (hasEvents img b) (hasLive map' b) (hasAbove img covered b) (s .headed b) (none-above img covered b)) ∙ sym
+    (swept-is img (recordOf map' [] r) b)))
+  where
+    go : (c h l a : Bool) → (l ≡ true → h ≡ true) → (h ≡ false → a ≡ false) → not (c || a || l) ≡ not c && (not h || not l && not a)
+    go true h l a f g = refl
+    go false true true true f g = refl
+    go false true true false f g = refl
+    go false true false true f g = refl
+    go false true false false f g = refl
+    go false false true a f g = absurd (true-false (f refl) refl)
+    go false false false true f g = absurd (true-false refl (g refl))
+    go false false false false f g = refl

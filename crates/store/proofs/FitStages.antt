@@ -37,11 +37,11 @@ use Rattle.image.proofs.Rows.{rowSteps, row-in-no-other, row-page-done, row-pag
 use Rattle.image.proofs.KeyBlock.{key-block-steps, key-block-inside, key-page-size, keys-from-length, renewed-at-length}
 use Rattle.image.proofs.CommitBlock.{commit-block-steps, commit-block-inside, commit-page-size}
 use Rattle.store.specs.Kind.{pageIn, kindOf, headed, hasEvents, isChosen, isData}
-use Rattle.store.specs.Record.{Record, withNumbers, pageOf, keyOf, live, fits}
+use Rattle.store.specs.Record.{Record, withNumbers, pageOf, keyOf, live, fits, isDead, hasLive}
 use Rattle.store.specs.Format.{noiseSize}
 use Rattle.store.specs.Write.{keysBlock}
 use Rattle.store.specs.CutOff.{removed}
-use Rattle.store.specs.Commit.{Stage, begin, withKeys, withCommit, nextEpoch, replaceKeys, replaceCommit, keysReplaced, commitReplaced, isDead, deadErased, cleaned, commitStages, commitOf}
+use Rattle.store.specs.Commit.{Stage, begin, withKeys, withCommit, nextEpoch, replaceKeys, replaceCommit, keysReplaced, commitReplaced, deadErased, cleaned, commitStages, commitOf}
 use Rattle.store.specs.Wipe.{removedFirst, wipeOf}
 use Rattle.store.specs.Stages.{erases}
 use Rattle.store.specs.Taken.{Ready, Planned}
@@ -343,7 +343,7 @@ module _ (img : List ℕ) (r : Record) (s : Sure img r) where
       go false b = refl
 
   live-kept : (x : ℕ) → x < places → Named img (r .map) x → isDead img r (pageOf (r .map) x / pagesInBlock) ≡ false
-  unfolding isDead
+  unfolding isDead hasLive
   live-kept x h d =
       let b = pageOf (r .map) x / pagesInBlock in
       let here : live (r .map) x && eqb (pageOf (r .map) x / pagesInBlock) b ≡ true = and-intro (live (r .map) x) (eqb (pageOf (r .map) x / pagesInBlock) b) (named-live img r (s .fit) (s .size) x d) (eq-eqb b b refl) in

@@ -34,10 +34,10 @@ use Rattle.image.proofs.Rows.{rowSteps, row-in-no-other, row-page-done}
 use Rattle.image.proofs.KeyBlock.{key-block-steps, key-block-inside, key-page-size, renewed-at-length}
 use Rattle.image.proofs.CommitBlock.{commit-block-steps, commit-block-inside, commit-page-size}
 use Rattle.store.specs.Kind.{isChosen}
-use Rattle.store.specs.Record.{Record, withNumbers}
+use Rattle.store.specs.Record.{Record, withNumbers, isDead}
 use Rattle.store.specs.Format.{noiseSize}
 use Rattle.store.specs.Write.{keysBlock}
-use Rattle.store.specs.Commit.{Stage, onward, replaceKeys, replaceCommit, withKeys, withCommit, nextEpoch, keysReplaced, commitReplaced, isDead, deadErased, commitStages}
+use Rattle.store.specs.Commit.{Stage, onward, replaceKeys, replaceCommit, withKeys, withCommit, nextEpoch, keysReplaced, commitReplaced, deadErased, commitStages}
 use Rattle.store.specs.Stages.{isSpare, lowestSpare, Work, after, keysInto, keysMoved, commitInto, commitMoved, hasLive, unusedErases, renewed, Able}
 use Rattle.store.specs.declared.Numbers.{Numbers}
 use Rattle.store.proofs.Counts.{replaced}

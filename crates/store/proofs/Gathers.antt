@@ -33,9 +33,8 @@ use Rattle.image.proofs.Empties.{block-empty-same}
 use Rattle.image.proofs.Forms.{form-same}
 use Rattle.store.specs.Kind.{pageIn, headed, isChosen, hasEvents, isData}
 use Rattle.store.specs.declared.Numbers.{Numbers}
-use Rattle.store.specs.Record.{Record, mapSize, pageOf, keyOf, live}
+use Rattle.store.specs.Record.{Record, mapSize, pageOf, keyOf, live, hasLive, isDead}
 use Rattle.store.specs.Find.{isFound, foundAt}
-use Rattle.store.specs.Commit.{isDead}
 use Rattle.store.specs.Gather.{isOn, isLivePage, placeOn, livePages, copyOf, copyTo, copyStep, moved, copied, copySteps, copiedAll, roomForAll}
 use Rattle.store.specs.Write.{placed}
 use Rattle.store.specs.Taken.{Buffers, GatherTaken}
@@ -443,7 +442,7 @@ none-here img r block t x h true e = elim (ℕ-discrete (pageOf (copiedAll block
 
 pub gathered-dead : (img : List ℕ) (r : Record) (block : ℕ) → GatherTaken img r block
     → isDead (playAll (copySteps block (livePages (r .map) block) img r) img) (copiedAll block (livePages (r .map) block) img r) block ≡ true
-unfolding isDead isData
+unfolding isDead hasLive isData
 gathered-dead img r block t =
     let gs = livePages (r .map) block in
     let after = playAll (copySteps block gs img r) img in

@@ -1,32 +1,32 @@
 -- What the code of a mount needs where it goes on, and that it leaves what the call's definition says.
-use Prim.Native.Nat.{ℕ, _<_, _≤_}
+use Prim.Native.Nat.{ℕ, _/_, _%_, _<_, _≤_}
 use native.Mathlib.Omega.{arith}
 use mathlib.Core.Path.{_≡_, refl, sym, ap, _∙_}
 use mathlib.Core.Bool.{true, false, cond, _||_}
-use mathlib.Core.List.{List, map as each}
+use mathlib.Core.List.{List, [], map as each}
 use lib.Dec.{eqb, leb}
 use lib.ListN.{length, drop}
 use borrow.Author.Tests.{leb-true, eqb-true, eq-eqb}
 use Rattle.base.specs.Search.{whichFrom, highestFrom}
 use Rattle.base.proofs.Choice.{and-true}
-use Rattle.base.proofs.Searches.{highest-least}
+use Rattle.base.proofs.Searches.{any-holds, any-intro, highest-least}
 use Rattle.page.specs.Plan.{places}
 use Rattle.page.specs.Header.{lastNumber}
-use Rattle.image.specs.Size.{blocks, pages, mostBlocks, sizeRight}
+use Rattle.image.specs.Size.{pagesInBlock, blocks, pages, mostBlocks, sizeRight}
 use Rattle.image.specs.Look.{formAt}
 use Rattle.image.specs.Step.{erase}
 use Rattle.image.specs.Power.{device, powerFor, run}
 use Rattle.image.specs.declared.Power.{Power}
 use Rattle.image.proofs.Looks.{sized}
 use Rattle.store.specs.Reply.{verdict, numberOf, isDone}
-use Rattle.store.specs.Kind.{kindOf, coveredBy}
-use Rattle.store.specs.Record.{recordOf}
+use Rattle.store.specs.Kind.{pageIn, kindOf, coveredBy, headed, hasEvents}
+use Rattle.store.specs.Record.{Record, recordOf, pageOf, live, liveIn, hasLive, isDead, keysApart}
 use Rattle.store.specs.Outcome.{left, mostSteps}
 use Rattle.store.specs.Find.{isFound, foundAt}
 use Rattle.store.specs.Format.{buffersRight, noNumbers}
-use Rattle.store.specs.Mount.{chosenCommit, chosenKeys, coveredIn, sequenceOf, epochOf, mountNumbers, mounted, isStray, mountSteps, mountTests, sizeTests, blockTests, mountOf}
+use Rattle.store.specs.Mount.{chosenCommit, chosenKeys, coveredIn, sequenceOf, epochOf, mountNumbers, mountMap, entriesFit, mounted, isCoveredDead, isSwept, mountSteps, mountTests, sizeTests, blockTests, mountOf}
 use Rattle.store.specs.Survey.{surveyOf, coveredAt, surveyNumbers, Surveyed}
-use Rattle.store.specs.Rebuild.{mountFits, highestSequence, rebuiltOf, Rebuilding, Cleared}
+use Rattle.store.specs.Rebuild.{mountFits, highestSequence, rebuiltOf, Rebuilding, Sweeping, Cleared}
 use Rattle.store.specs.Taken.{Buffers, MountChosen}
 use Rattle.store.specs.declared.Numbers.{Numbers}
 use Rattle.store.specs.declared.survey.Survey.{Survey}
@@ -41,12 +41,26 @@ use Rattle.store.proofs.BlockKinds.{commit-range}
 use Rattle.store.proofs.Choices.{commit-chosen, keys-chosen}
 use Rattle.store.proofs.Finds.{found-is}
 use Rattle.store.proofs.Rebuilds.{fits-rebuilt, unfit-rebuilt}
-use Rattle.store.proofs.Mounts.{sequence-most, epoch-most}
+use Rattle.store.proofs.Decisions.{mount-map-length}
+use Rattle.store.proofs.Fits.{Fit, live-named}
+use Rattle.store.proofs.Mounts.{mounted-fit, sequence-most, epoch-most}
 use Rattle.store.proofs.Outcomes.{leaves, left-stepless, mount-outcome, mount-refused, mount-as-lent, mount-filled}
 use Rattle.store.proofs.Counts.{mount-few}
 use Rattle.store.proofs.Cuts.{run-left, taken-few}
 
 -- ---- what the pass over the blocks found
+-- a block with a live page has an event, where the record fits
+live-headed : (img : List ℕ) (r : Record) → Fit img r → (b : ℕ) → hasLive (r .map) b ≡ true → hasEvents img b ≡ true
+unfolding hasLive
+live-headed img r fit b e =
+    let w = any-holds (liveIn (r .map) b) places 0 e in
+    let x = w .0 in
+    let two = and-true (live (r .map) x) (eqb (pageOf (r .map) x / pagesInBlock) b) (w .3) in
+    let n = live-named img r fit x (omega (arith, w .2)) (two .0) in
+    let q : pageOf (r .map) x / pagesInBlock ≡ b = eqb-true _ _ (two .1) in
+    let k : pageIn b (pageOf (r .map) x % pagesInBlock) ≡ pageOf (r .map) x = omega (arith, q) in
+    any-intro (λ i. headed (formAt img (pageIn b i))) pagesInBlock 0 (pageOf (r .map) x % pagesInBlock) (omega arith) (omega arith) (rw (k, n .whole, n .node))
+
 module _ (img : List ℕ) where
   surveyed-commit : surveyOf img (blocks img) .commit .at ≡ chosenCommit img
   unfolding surveyOf chosenCommit
@@ -166,15 +180,35 @@ module _ (img map letters scratch : List ℕ) where
 
       pub mount-left : (h : ℕ) (events img' : List ℕ) (survey : Survey) (numbers : Numbers) (q : Power) → r ≡ Fits h → (mountFits img c ≡ true → Rebuilding img c m l s events)
           → survey ≡ surveyOf img (blocks img) → numbers ≡ surveyNumbers survey h
-          → device q img' ≡ run (each erase (whichFrom (isStray img numbers) (blocks img) 0)) (device (powerFor n k) img)
+          → device q img' ≡ run (each erase (whichFrom (isSwept img (recordOf m [] numbers)) (blocks img) 0)) (device (powerFor n k) img)
           → leaves (cond (q .on) Done PowerCut) img' (recordOf m l numbers) s ≡ left n k (mountOf img map letters scratch) img
-      unfolding mounted mountSteps
+      unfolding mounted mountSteps isSwept isCoveredDead isDead
       mount-left h events img' survey numbers q u build found counted d =
           let f = fits-rebuilt img c r h made u in
           let e : numbers ≡ mountNumbers img = counted ∙ survey-numbers img survey found (chosen .commitThere) h (f .1) in
           let t = build (f .0) in
           let o = mount-outcome img map letters scratch (mount-reply img map letters scratch ∙ last-test ∙ rw (← commit, f .0)) in
-          rw (t .mapMade, t .lettersMade, t .scratchMade, e, commit) (run-left n k img img' q o (rw (← e) d))
+          let map-is : m ≡ mounted img .map = t .mapMade ∙ ap (mountMap img) commit in
+          rw (t .mapMade, t .lettersMade, t .scratchMade, e, commit) (run-left n k img img' q o (rw (map-is, e) at d))
+
+      -- and what the erases go by
+      pub mount-sweeping : (h : ℕ) (events : List ℕ) (survey : Survey) (numbers : Numbers) → r ≡ Fits h
+          → (mountFits img c ≡ true → Rebuilding img c m l s events)
+          → length events ≡ mostBlocks → survey ≡ surveyOf img (blocks img) → numbers ≡ surveyNumbers survey h → Sweeping img m events numbers
+      unfolding mounted mountNumbers
+      mount-sweeping h events survey numbers u build full found counted =
+          let f = fits-rebuilt img c r h made u in
+          let e : numbers ≡ mountNumbers img = counted ∙ survey-numbers img survey found (chosen .commitThere) h (f .1) in
+          let t = build (f .0) in
+          let both = and-true (entriesFit img c) (keysApart (mountMap img c)) (f .0) in
+          let fit = mounted-fit img (chosen .commitThere) (chosen .keys0There) (chosen .keys1There) (rw commit at (both .0)) (rw commit at (both .1)) in
+          record {
+            few = sized img (chosen .size) .most;
+            mapFull = ap length (t .mapMade) ∙ mount-map-length img c;
+            eventsFull = full;
+            told = λ b k. t .eventsMade b k ∙ rw (e, commit);
+            headed = λ b k. live-headed img (mounted img) fit b (rw (t .mapMade, commit) at k);
+          }
 
   -- no more steps than there are blocks
   pub mount-call-few : length (mountOf img map letters scratch .steps) ≤ mostSteps

@@ -28,12 +28,12 @@ use Rattle.image.specs.Size.{blockSize, pagesInBlock, mostBlocks, blocks, pages
 use Rattle.image.specs.Look.{blockEmpty, formAt}
 use Rattle.image.proofs.Empties.{empty-block-page}
 use Rattle.image.proofs.Looks.{sized, block-inside}
-use Rattle.store.specs.Kind.{pageIn, kindOf, headed, hasEvents}
+use Rattle.store.specs.Kind.{pageIn, kindOf, headed}
 use Rattle.store.specs.Record.{mapSize}
-use Rattle.store.specs.Mount.{coveredIn, letterIn, entryIn, Decision, byEntry, removes, sets, cuts, decideBy, decision, mountMap, mountScratch, spends, isSpent, unusedLetter, sequenceOf}
+use Rattle.store.specs.Mount.{coveredIn, letterIn, entryIn, Decision, byEntry, removes, sets, cuts, decideBy, decision, mountMap, mountScratch, spends, isSpent, unusedLetter, sequenceOf, hasAbove}
 use Rattle.store.specs.Write.{placeAt}
 use Rattle.store.specs.Taken.{Planned}
-use Rattle.store.specs.Replay.{Pass, heldAt, EachPlace, EachLetter, outranks, rangeRight, eventOf, Passed, Replayed}
+use Rattle.store.specs.Replay.{Pass, heldAt, EachPlace, EachLetter, outranks, rangeRight, aboveOf, Passed, Replayed}
 use Rattle.store.specs.declared.Kind.the-variants.{Commit}
 use Rattle.store.proofs.BlockKinds.{empty-form, whole-in-range, torn-in-range, commit-inside}
 use Rattle.store.proofs.Decisions.{setBy, cutBy, mount-map-length, mount-page, mount-key, mount-scratch-length, mount-sequence}
@@ -199,7 +199,7 @@ passed-join img s m n g t u v a b =
           b .letter p h
           ∙ ap (cond (anyFrom (λ i. spends s p (formAt img i)) n (g + m)) deletedLetter) (a .letter p h)
           ∙ either (λ i. spends s p (formAt img i)) deletedLetter (getD (t .letters) p 0);
-      event = λ c h. b .event c h ∙ ap (cond (anyFrom (eventOf img c) n (g + m)) 1) (a .event c h) ∙ either (eventOf img c) 1 (getD (t .events) c 0);
+      event = λ c h. b .event c h ∙ ap (cond (anyFrom (aboveOf img s c) n (g + m)) 1) (a .event c h) ∙ either (aboveOf img s c) 1 (getD (t .events) c 0);
       highest = b .highest ∙ rw (a .highest, highest-join (λ i. sequenceOf (formAt img i)) m n g) (omega arith);
     }
   where
@@ -228,7 +228,7 @@ block-passed img s b t u v a c =
 pub page-passed : (img : List ℕ) (s g : ℕ) (t t' : Pass) (m : Form) → m ≡ formAt img g → g / pagesInBlock < length (t .events)
     → EachPlace (λ x. decideBy s x g m) (t .map) (t .scratch) (t' .map) (t' .scratch)
     → EachLetter (λ p l. cond (spends s p m) deletedLetter l) (t .letters) (t' .letters)
-    → t' .events ≡ cond (headed m) (set (t .events) (g / pagesInBlock) 1) (t .events)
+    → t' .events ≡ cond (ltb s (sequenceOf m)) (set (t .events) (g / pagesInBlock) 1) (t .events)
     → t' .highest ≡ max (t .highest) (sequenceOf m)
     → Passed img s 1 g t t'
 unfolding foldFrom anyFrom highestFrom
@@ -236,7 +236,7 @@ page-passed img s g t t' m form inside places-by letters-by events-by highest-by
     record {
       place = λ x h. places-by x h ∙ ap (λ (m : Form). decideBy s x g m (heldAt (t .map) (t .scratch) x)) form;
       letter = λ p h. letters-by p h ∙ rw (form, or-false);
-      event = λ b h. ap (λ (l : List ℕ). getD l b 0) events-by ∙ rw (form, or-false) (go (headed (formAt img g)) b);
+      event = λ b h. ap (λ (l : List ℕ). getD l b 0) events-by ∙ rw (form, or-false) (go (ltb s (sequenceOf (formAt img g))) b);
       highest = highest-by ∙ rw form (omega arith);
     }
   where
@@ -273,7 +273,7 @@ page-idle img s g t inside e =
     page-passed img s g t t (formAt img g) refl inside
     (λ x h. idle-place s g (formAt img g) x (heldAt (t .map) (t .scratch) x) e)
     (λ p h. rw (idle-letter s g (formAt img g) p e))
-    (rw e)
+    (rw (idle-sequence s g (formAt img g) e, le-ltb s 0 (omega arith)))
     (rw (idle-sequence s g (formAt img g) e) (omega arith))
 
 -- and pages in a row that are none
@@ -312,25 +312,25 @@ page-most img g size h = let z = sized img size in (omega (arith, z .most, z .pa
 pub commit-held : (img : List ℕ) (c e s : ℕ) → sizeRight img ≡ true → kindOf img c ≡ Commit e s → c * blockSize + blockSize ≤ length img
 commit-held img c e s size k = let z = sized img size in block-inside img c (commit-inside img c e s (omega (arith, z .full)) k)
 
--- the pages of the image that are events of block b are those of the block
-module _ (img : List ℕ) (b : ℕ) (size : sizeRight img ≡ true) (inside : b < blocks img) where
-  in-image : hasEvents img b ≡ true → anyFrom (eventOf img b) (pages img) 0 ≡ true
+-- the pages of the image that are events of block b above sequence s are those of the block
+module _ (img : List ℕ) (s b : ℕ) (size : sizeRight img ≡ true) (inside : b < blocks img) where
+  in-image : hasAbove img s b ≡ true → anyFrom (aboveOf img s b) (pages img) 0 ≡ true
   in-image e =
-      let w = any-holds (λ i. headed (formAt img (pageIn b i))) pagesInBlock 0 e in
+      let w = any-holds (λ i. ltb s (sequenceOf (formAt img (pageIn b i)))) pagesInBlock 0 e in
       let z = sized img size in
       let k : pageIn b (w .0) / pagesInBlock ≡ b = omega (arith, w .2) in
-      any-intro (eventOf img b) (pages img) 0 (pageIn b (w .0)) (omega arith) (omega (arith, w .2, z .paged)) (and-intro _ _ (eq-eqb _ _ k) (w .3))
+      any-intro (aboveOf img s b) (pages img) 0 (pageIn b (w .0)) (omega arith) (omega (arith, w .2, z .paged)) (and-intro _ _ (eq-eqb _ _ k) (w .3))
 
-  in-block : anyFrom (eventOf img b) (pages img) 0 ≡ true → hasEvents img b ≡ true
+  in-block : anyFrom (aboveOf img s b) (pages img) 0 ≡ true → hasAbove img s b ≡ true
   in-block e =
-      let w = any-holds (eventOf img b) (pages img) 0 e in
-      let a = and-true (eqb (w .0 / pagesInBlock) b) (headed (formAt img (w .0))) (w .3) in
+      let w = any-holds (aboveOf img s b) (pages img) 0 e in
+      let a = and-true (eqb (w .0 / pagesInBlock) b) (ltb s (sequenceOf (formAt img (w .0)))) (w .3) in
       let q : w .0 / pagesInBlock ≡ b = eqb-true _ _ (a .0) in
       let k : pageIn b (w .0 % pagesInBlock) ≡ w .0 = omega (arith, q) in
-      any-intro (λ i. headed (formAt img (pageIn b i))) pagesInBlock 0 (w .0 % pagesInBlock) (omega arith) (omega arith) (rw k (a .1))
+      any-intro (λ i. ltb s (sequenceOf (formAt img (pageIn b i)))) pagesInBlock 0 (w .0 % pagesInBlock) (omega arith) (omega arith) (rw k (a .1))
 
-  block-events : anyFrom (eventOf img b) (pages img) 0 ≡ hasEvents img b
-  block-events = go (anyFrom (eventOf img b) (pages img) 0) (hasEvents img b) in-block in-image
+  block-events : anyFrom (aboveOf img s b) (pages img) 0 ≡ hasAbove img s b
+  block-events = go (anyFrom (aboveOf img s b) (pages img) 0) (hasAbove img s b) in-block in-image
     where
       go : (x y : Bool) → (x ≡ true → y ≡ true) → (y ≡ true → x ≡ true) → x ≡ y
       go true y f g = sym (f refl)
@@ -378,6 +378,7 @@ module _ (img : List ℕ) (c e s : ℕ) (size : sizeRight img ≡ true) (commit 
       ]
 
   pub replayed : Replayed img c t'
+  unfolding coveredIn
   replayed =
       record {
         map = ext-getD none (t' .map) (mountMap img c) (full .map ∙ sym (mount-map-length img c)) halves;
@@ -390,6 +391,6 @@ module _ (img : List ℕ) (c e s : ℕ) (size : sizeRight img ≡ true) (commit 
         events = λ b h.
             let z = sized img size in
             passed .event b (omega (arith, z .most))
-            ∙ rw (begun .events, getD-replicate {A = ℕ} mostBlocks b 0 0 (omega (arith, z .most)), block-events img b size h);
+            ∙ rw (begun .events, getD-replicate {A = ℕ} mostBlocks b 0 0 (omega (arith, z .most)), block-events img s b size h, commit);
         highest = passed .highest ∙ rw (begun .highest) (omega arith);
       }

@@ -1,19 +1,17 @@
 -- Document 01, "Calls and their refusals": Commit. Each block is replaced in turn, and each choice is made from the image as it then is.
-use Prim.Native.Nat.{ℕ, _+_, _-_, _/_}
-use mathlib.Core.Bool.{Bool, cond, not, _&&_}
+use Prim.Native.Nat.{ℕ, _+_, _-_}
+use mathlib.Core.Bool.{cond}
 use mathlib.Core.List.{List, [], _∷_, _++_, map}
 use lib.Dec.{eqb, leb}
-use Rattle.base.specs.Search.{anyFrom, whichFrom}
-use Rattle.page.specs.Plan.{places}
+use Rattle.base.specs.Search.{whichFrom}
 use Rattle.page.specs.Header.{lastNumber}
 use Rattle.page.specs.Entry.{freeLetter, deletedLetter}
-use Rattle.image.specs.Size.{pagesInBlock, blocks}
+use Rattle.image.specs.Size.{blocks}
 use Rattle.image.specs.Look.{blockAt, lowestEmpty, emptyBlocks}
 use Rattle.image.specs.Step.{Step, erase, playAll}
 use Rattle.image.specs.Block.{renewedKey, keyBlockSteps, commitBlockSteps}
 use Rattle.store.specs.Reply.{Test, _else_, verdict}
-use Rattle.store.specs.Kind.{isData}
-use Rattle.store.specs.Record.{Record, recordOf, withNumbers, pageOf, live}
+use Rattle.store.specs.Record.{Record, recordOf, withNumbers, isDead}
 use Rattle.store.specs.Outcome.{Outcome, Left, decided}
 use Rattle.store.specs.Format.{formatTests}
 use Rattle.store.specs.Write.{fitTests, keysBlock}
@@ -72,10 +70,7 @@ unfoldable pub commitReplaced : Stage → Stage
 commitReplaced s =
     onward s (replaceCommit (s .image) (s .after)) (withNumbers (s .after) (withCommit (s .after .numbers) (lowestEmpty (s .image))))
 
--- a data block without a live page
-unfoldable pub isDead : List ℕ → Record → ℕ → Bool
-isDead img r b = isData img (r .numbers) b && not (anyFrom (λ x. live (r .map) x && eqb (pageOf (r .map) x / pagesInBlock) b) places 0)
-
+-- each data block without a live page
 unfoldable pub deadErased : Stage → Stage
 deadErased s = onward s (map erase (whichFrom (isDead (s .image) (s .after)) (blocks (s .image)) 0)) (s .after)
 

@@ -18,12 +18,12 @@ use Rattle.page.specs.declared.Form.{Form}
 use Rattle.page.specs.declared.Form.the-variants.{Empty, Whole, Torn, Spoilt}
 use Rattle.page.specs.declared.Entry.{Entry}
 use Rattle.page.specs.declared.Entry.the-variants.{At as EntryAt, Vacant, Misspelt}
-use Rattle.image.specs.Size.{sizeRight, blocks, pages}
-use Rattle.image.specs.Look.{pageAt, blockEmpty, formAt}
+use Rattle.image.specs.Size.{sizeRight, pagesInBlock, blocks, pages}
+use Rattle.image.specs.Look.{pageAt, formAt}
 use Rattle.image.specs.Step.{Step, erase}
 use Rattle.store.specs.Reply.{Test, _else_, verdict, numberOf}
 use Rattle.store.specs.Kind.{pageIn, kindOf, keysEpoch, commitEpoch, coveredBy, isData, isChosen}
-use Rattle.store.specs.Record.{Record, mapSize, isAt, placeFits, namedTimes, keysApart}
+use Rattle.store.specs.Record.{Record, mapSize, isAt, isDead, placeFits, namedTimes, keysApart}
 use Rattle.store.specs.Outcome.{Outcome, Left, decided}
 use Rattle.store.specs.Find.{isFound, foundAt}
 use Rattle.store.specs.Format.{buffersRight, noNumbers}
@@ -152,12 +152,24 @@ mounted img =
     let c = foundAt (chosenCommit img) in
     record { map = mountMap img c; letters = listFrom (mountLetter img c) positions 0; numbers = mountNumbers img }
 
--- ---- strays: neither chosen nor data, and yet not empty. They are erased, in order
+-- ---- the blocks that mount erases, in one pass, in order (document 02, #106)
+-- strays: neither chosen nor data, empty ones included, since one that reads FFh may be unsettled
 unfoldable pub isStray : List ℕ → Numbers → ℕ → Bool
-isStray img r b = not (isChosen r b) && not (isData img r b) && not (blockEmpty img b)
+isStray img r b = not (isChosen r b) && not (isData img r b)
+
+-- a whole or torn N or D header of block b is above sequence s
+abbrev pub hasAbove : List ℕ → ℕ → ℕ → Bool
+hasAbove img s b = anyFrom (λ i. ltb s (sequenceOf (formAt img (pageIn b i)))) pagesInBlock 0
+
+-- a data block without a live page, and with no header above the sequence that the commit covers
+unfoldable pub isCoveredDead : List ℕ → Record → ℕ → Bool
+isCoveredDead img r b = isDead img r b && not (hasAbove img (coveredIn img (r .numbers .commit)) b)
+
+unfoldable pub isSwept : List ℕ → Record → ℕ → Bool
+isSwept img r b = isStray img (r .numbers) b || isCoveredDead img r b
 
 unfoldable pub mountSteps : List ℕ → List Step
-mountSteps img = map erase (whichFrom (isStray img (mountNumbers img)) (blocks img) 0)
+mountSteps img = map erase (whichFrom (isSwept img (mounted img)) (blocks img) 0)
 
 -- ---- the call
 abbrev pub mountTests : List ℕ → List ℕ → List ℕ → List ℕ → List Test

@@ -1,10 +1,10 @@
 -- Document 01, "The working record": what it is, and when it fits.
-use Prim.Native.Nat.{ℕ, _+_}
-use mathlib.Core.Bool.{Bool, true, false, cond, Bool·beq, _&&_}
+use Prim.Native.Nat.{ℕ, _+_, _/_}
+use mathlib.Core.Bool.{Bool, true, false, cond, not, Bool·beq, _&&_}
 use mathlib.Core.List.{List}
 use lib.ListN.{getD}
 use lib.Dec.{eqb, leb, ltb}
-use Rattle.base.specs.Search.{allFrom, countFrom}
+use Rattle.base.specs.Search.{allFrom, anyFrom, countFrom}
 use Rattle.page.specs.Plan.{filePlan, places, placeOf}
 use Rattle.page.specs.Header.{nodeLetter, within, lastNumber}
 use Rattle.page.specs.Key.{positions}
@@ -14,8 +14,9 @@ use Rattle.page.specs.declared.Form.{Form}
 use Rattle.page.specs.declared.Form.the-variants.{Empty, Whole, Torn, Spoilt}
 use Rattle.page.specs.declared.Place.{Place}
 use Rattle.page.specs.declared.Place.the-variants.{At, Outside}
+use Rattle.image.specs.Size.{pagesInBlock}
 use Rattle.image.specs.Look.{formAt}
-use Rattle.store.specs.Kind.{kindOf, keysEpoch, commitEpoch}
+use Rattle.store.specs.Kind.{kindOf, keysEpoch, commitEpoch, isData}
 use Rattle.store.specs.declared.Numbers.{Numbers}
 
 -- a map, the pages of all places and then their keys; a letter for each position; and the record's numbers
@@ -40,6 +41,17 @@ keyOf map x = getD map (places + x) none
 -- a place with a node
 abbrev pub live : List ℕ → ℕ → Bool
 live map x = ltb (pageOf map x) none
+
+-- a block with a live page
+abbrev pub liveIn : List ℕ → ℕ → ℕ → Bool
+liveIn map b x = live map x && eqb (pageOf map x / pagesInBlock) b
+
+unfoldable pub hasLive : List ℕ → ℕ → Bool
+hasLive map b = anyFrom (liveIn map b) places 0
+
+-- a data block without one
+unfoldable pub isDead : List ℕ → Record → ℕ → Bool
+isDead img r b = isData img (r .numbers) b && not (hasLive (r .map) b)
 
 -- a place that is none in both halves
 abbrev pub vacantAt : List ℕ → ℕ → Bool

@@ -6,7 +6,7 @@
 --   outranks     an event against what a place holds
 --   rangeRight   a form whose header, if any, is in range
 --   EmptyTable   a table that says which blocks are empty
---   eventOf      a page that is a whole or torn N or D page of a block
+--   aboveOf      a page of a block whose whole or torn N or D header is above a sequence
 --   Passed       what some pages in a row make of it
 --   Replayed     what the whole pass leaves
 use Prim.Native.Nat.{ℕ, _*_, _-_, _<_, _/_, max}
@@ -27,11 +27,10 @@ use Rattle.page.specs.declared.Form.{Form}
 use Rattle.page.specs.declared.Form.the-variants.{Empty, Whole, Torn, Spoilt}
 use Rattle.image.specs.Size.{pagesInBlock, mostBlocks, blocks, pages}
 use Rattle.image.specs.Look.{blockEmpty, formAt}
-use Rattle.store.specs.Kind.{headed, hasEvents}
 use Rattle.store.specs.Record.{pageOf, keyOf}
-use Rattle.store.specs.Mount.{Decision, byEntry, decideBy, spends, sequenceOf, unusedLetter, mountMap, mountScratch}
+use Rattle.store.specs.Mount.{Decision, byEntry, decideBy, spends, sequenceOf, unusedLetter, mountMap, mountScratch, coveredIn, hasAbove}
 
--- map, letters and scratch, for each block whether an event was seen there, and the highest sequence so far
+-- map, letters and scratch, for each block whether an event above the covered sequence was seen there, and the highest sequence so far
 pub record Pass : Type 0 where
   pub map : List ℕ
   pub letters : List ℕ
@@ -81,21 +80,22 @@ pub record EmptyTable (img table : List ℕ) : Type 0 where
   pub size : length table ≡ mostBlocks
   pub told : (b : ℕ) → b < blocks img → getD table b 0 ≡ cond (blockEmpty img b) 1 0
 
--- page g is a whole or torn N or D page of block b
-abbrev pub eventOf : List ℕ → ℕ → ℕ → Bool
-eventOf img b g = eqb (g / pagesInBlock) b && headed (formAt img g)
+-- page g is a whole or torn N or D page of block b, above sequence s
+abbrev pub aboveOf : List ℕ → ℕ → ℕ → ℕ → Bool
+aboveOf img s b g = eqb (g / pagesInBlock) b && ltb s (sequenceOf (formAt img g))
 
 -- what the n pages from g on, above the covered sequence s, make of t
 pub record Passed (img : List ℕ) (s n g : ℕ) (t t' : Pass) : Type 0 where
   pub place : EachPlace (λ x. foldFrom (λ i. decideBy s x i (formAt img i)) n g) (t .map) (t .scratch) (t' .map) (t' .scratch)
   pub letter : EachLetter (λ p l. cond (anyFrom (λ i. spends s p (formAt img i)) n g) deletedLetter l) (t .letters) (t' .letters)
-  pub event : (b : ℕ) → b < mostBlocks → getD (t' .events) b 0 ≡ cond (anyFrom (eventOf img b) n g) 1 (getD (t .events) b 0)
+  pub event : (b : ℕ) → b < mostBlocks → getD (t' .events) b 0 ≡ cond (anyFrom (aboveOf img s b) n g) 1 (getD (t .events) b 0)
   pub highest : t' .highest ≡ max (t .highest) (highestFrom (λ i. sequenceOf (formAt img i)) n g)
 
--- what the pass leaves, with the commit in block c: map and scratch, the letters but for the keys that live nodes name, the blocks with events, and the highest sequence
+-- what the pass leaves, with the commit in block c: map and scratch, the letters but for the keys that live nodes name, the blocks with events above the
+-- covered sequence, and the highest sequence
 pub record Replayed (img : List ℕ) (c : ℕ) (t : Pass) : Type 0 where
   pub map : t .map ≡ mountMap img c
   pub scratch : t .scratch ≡ mountScratch img c
   pub letters : t .letters ≡ listFrom (unusedLetter img c) positions 0
-  pub events : (b : ℕ) → b < blocks img → getD (t .events) b 0 ≡ cond (hasEvents img b) 1 0
+  pub events : (b : ℕ) → b < blocks img → getD (t .events) b 0 ≡ cond (hasAbove img (coveredIn img c) b) 1 0
   pub highest : t .highest ≡ highestFrom (λ g. sequenceOf (formAt img g)) (pages img) 0

@@ -1,6 +1,6 @@
 -- Document 01, "Calls and their refusals": the stages of Commit and Wipe on a flash whose power may fail on the way.
 -- Each takes the block that it would take with power, so that the record does not depend on the cut; proofs/Follows ties them to the stages of specs/Commit.
-use Prim.Native.Nat.{ℕ, _-_, _/_, _<_}
+use Prim.Native.Nat.{ℕ, _-_, _<_}
 use mathlib.Core.Path.{_≡_}
 use mathlib.Core.Bool.{Bool, true, not, _&&_, _||_}
 use mathlib.Core.List.{List, [], _∷_, _++_, map}
@@ -14,7 +14,7 @@ use Rattle.image.specs.Step.{Step, erase}
 use Rattle.image.specs.Power.{Device, device, powerFor, run}
 use Rattle.image.specs.Block.{renewedKey, keyBlockSteps, commitBlockSteps}
 use Rattle.store.specs.Kind.{isChosen, isData}
-use Rattle.store.specs.Record.{pageOf, live}
+unfoldable pub use Rattle.store.specs.Record.{liveIn, hasLive}
 use Rattle.store.specs.Write.{keysBlock}
 use Rattle.store.specs.Commit.{Stage, withKeys, withCommit, nextEpoch}
 use Rattle.image.specs.declared.Power.{Power}
@@ -65,13 +65,7 @@ commitMoved map letters first w =
     let b = lowestSpare (w .flash .image) first (w .numbers) in
     record { flash = run (commitInto map letters (w .numbers) b) (w .flash); numbers = withCommit (w .numbers) b }
 
--- a block with a live page, and a data block without one
-abbrev pub liveIn : List ℕ → ℕ → ℕ → Bool
-liveIn map b x = live map x && eqb (pageOf map x / pagesInBlock) b
-
-unfoldable pub hasLive : List ℕ → ℕ → Bool
-hasLive map b = anyFrom (liveIn map b) places 0
-
+-- a data block without a live page
 abbrev pub isUnused : List ℕ → List ℕ → Numbers → ℕ → Bool
 isUnused img map r b = isData img r b && not (hasLive map b)
 

@@ -1,4 +1,4 @@
-// Mount: the working record of an image; then what a power failure left over is erased.
+// Mount: the working record of an image; then every block that it needs no more, or that an erase may have left unsettled, is erased.
 use crate::Answer;
 use crate::ENOUGH;
 use crate::Numbers;
@@ -6,9 +6,9 @@ use crate::Reply;
 use crate::rebuild;
 use crate::rebuild::Rebuilt;
 use crate::replies;
-use crate::strays;
 use crate::survey;
 use crate::survey::Survey;
+use crate::sweep;
 use crate::tests;
 use image::Power;
 use image::look;
@@ -91,7 +91,7 @@ fn mount_chosen(
 {
     let mut events = [0u8; MOST_BLOCKS];
     let mut empties = [0u8; MOST_BLOCKS];
-    strays::find_empty(image, &mut empties);
+    sweep::find_empty(image, &mut empties);
     let commit = s.commit;
     let Rebuilt::Fits(highest) = rebuild::rebuild_record(
         image,
@@ -109,10 +109,10 @@ fn mount_chosen(
         };
     };
     let numbers = numbers_of(s, highest);
-    let power = strays::erase_strays(
+    let power = sweep::erase_swept(
         image,
+        map,
         &events,
-        &empties,
         numbers,
         Power {
             steps: n,

@@ -29,7 +29,7 @@ ghost use Rattle.page.specs.Key.{positions};
 ghost use Rattle.page.specs.Entry.{none, freeLetter, deletedLetter, entriesInPart};
 ghost use Rattle.image.specs.Size.{blockSize, pagesInBlock, mostBlocks, blocks, pages, sizeRight};
 ghost use Rattle.image.specs.Look.{letterAt, blockEmpty};
-ghost use Rattle.store.specs.Kind.{kindOf, headed};
+ghost use Rattle.store.specs.Kind.{kindOf};
 ghost use Rattle.store.specs.Record.{mapSize};
 ghost use Rattle.store.specs.Mount.{letterIn, entryIn, byEntry, decideBy, spends, sequenceOf};
 ghost use Rattle.store.specs.Replay.{pass, EachPlace, EachLetter, partRead, LettersRead, outranks, rangeRight, EmptyTable, Passed, Replayed};
@@ -253,12 +253,12 @@ fn spend(letters: &mut [u8], form: Form, covered: u32)
     }
 }
 
-// Notes the block of page g as one that has an event, where the page is a whole or torn N or D page.
-fn note(events: &mut [u8], g: usize, form: Form)
+// Notes the block of page g as one that has an event, where the page's sequence is above the covered one.
+fn note(events: &mut [u8], g: usize, sequence: u32, covered: u32)
     requires { ⌜ (length (now events) ≡ mostBlocks) × (g / pagesInBlock < mostBlocks) ⌝ }
-    ensures { λ _. ⌜ new events ≡ cond (headed form) (set (old events) (g / pagesInBlock) 1) (old events) ⌝ }
+    ensures { λ _. ⌜ new events ≡ cond (ltb covered sequence) (set (old events) (g / pagesInBlock) 1) (old events) ⌝ }
 {
-    if kinds::is_headed(form) {
+    if covered < sequence {
         events[g / PAGES_IN_BLOCK] = 1;
     }
 }
@@ -307,8 +307,9 @@ fn replay_form(
     let form = look::event_form_at(image, g);
     apply(map, scratch, g, form, covered);
     spend(letters, form, covered);
-    note(events, g, form);
-    higher(highest, sequence_of(form))
+    let sequence = sequence_of(form);
+    note(events, g, sequence, covered);
+    higher(highest, sequence)
 }
 
 // The same; what is no event is mostly told by its first byte.

@@ -182,7 +182,7 @@ fn mark_run(map: &[u16], marked: &mut [u8], from: usize, end: usize)
 }
 
 // Marks the blocks that have a live page.
-fn mark_live(map: &[u16], marked: &mut [u8])
+pub fn mark_live(map: &[u16], marked: &mut [u8])
     requires { ⌜ (length (now map) ≡ mapSize) × (now marked ≡ replicate mostBlocks 0) ⌝ }
     ensures { λ _. ⌜ (length (new marked)
         ≡ mostBlocks) × ((b : ℕ) → b < mostBlocks → hasLive (old map) b ≡ ltb 0 (getD (new marked) b 0)) ⌝ }

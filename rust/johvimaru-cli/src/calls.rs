@@ -3,7 +3,8 @@
 mod gather;
 
 use crate::args::Call;
-use crate::image_file::{self, blocks_in_words, counted, name, ImageFile, BLOCKS};
+use crate::erasures::Erasures;
+use crate::image_file::{self, counted, name, ImageFile, BLOCKS};
 use crate::{say, Problem};
 use johvimaru::{
     Chip, Cut, CutChip, CutError, Driver, Failure, FileChip, MemoryChip, Noise, Offset, Payload,
@@ -136,29 +137,32 @@ fn open_or_make(path: &Path) -> Result<ImageFile, Problem> {
 
 // ---- Mount, and what the calls after it need
 
-/// Mounts, and nothing more.
+/// Mounts, and nothing more. All that it has erased is told, the empty blocks by their number.
 pub fn mount(path: &Path, cut: Option<Cut>, out: &mut dyn Write) -> Result<(), Problem> {
     let file = ImageFile::open(path)?;
     let before = file.bytes()?;
     let mut device = device(&file)?;
     match mount_device(&mut device, &file.named, cut)? {
         End::Done => {
-            if image_file::erased(&before, device.mirror()).is_empty() {
-                writeln!(out, "mounted: nothing to erase")?;
+            match Erasures::between(&before, device.mirror()).in_words() {
+                Some(blocks) => writeln!(out, "mounted: erased {blocks}")?,
+                None => writeln!(out, "mounted: nothing to erase")?,
             }
-            say_erased(&before, &device, out)?;
             say_late_cut(&device, cut, out)
         }
         End::Cut => say_cut(&device, out),
     }
 }
 
-/// A device that is mounted, on a file. What the mount has erased is told.
+/// A device that is mounted, on a file. What the mount has erased is told, but for blocks that were empty: those it
+/// erases each time.
 pub fn mounted(file: &ImageFile, out: &mut dyn Write) -> Result<Device, Problem> {
     let before = file.bytes()?;
     let mut device = device(file)?;
     mount_device(&mut device, &file.named, None)?;
-    say_erased(&before, &device, out)?;
+    for line in Erasures::between(&before, device.mirror()).lines() {
+        writeln!(out, "{line}")?;
+    }
     Ok(device)
 }
 
@@ -277,14 +281,6 @@ pub fn told<E: std::fmt::Display>(failure: Failure<CutError<E>>) -> Problem {
 }
 
 // ---- What was done, in words
-
-fn say_erased(before: &[u8], device: &Device, out: &mut dyn Write) -> Result<(), Problem> {
-    let erased = image_file::erased(before, device.mirror());
-    if !erased.is_empty() {
-        writeln!(out, "mount: erased {}, no part of the store", blocks_in_words(&erased))?;
-    }
-    Ok(())
-}
 
 fn say_cut<C: Chip>(device: &Driver<CutChip<C>>, out: &mut dyn Write) -> Result<(), Problem> {
     let (steps, bytes) = (device.chip().steps(), device.chip().cut_bytes());

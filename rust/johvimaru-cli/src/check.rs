@@ -1,10 +1,11 @@
 //! What is on an image, in words.
 
+use crate::erasures::{is_data, Erasures};
 use crate::image_file::{self, blocks_in_words, counted, numbers_in_words};
 use crate::json::Json;
 use crate::listing;
 use crate::Problem;
-use johvimaru::{File, Form, Header, Record, Store, BLOCK, PAGES_IN_BLOCK};
+use johvimaru::{File, Record, Store, BLOCK, PAGES_IN_BLOCK};
 use std::io::Write;
 use std::path::Path;
 
@@ -19,25 +20,26 @@ pub fn run(path: &Path, json: bool, out: &mut dyn Write) -> Result<(), Problem> 
         }
         store => store?,
     };
-    let strays = image_file::erased(&image, store.image());
+    let erasures = Erasures::between(&image, store.image());
     let spoilt = image_file::spoilt(store.image());
     if json {
-        writeln!(out, "{}", as_json(path, &store, &strays, &spoilt))?;
+        writeln!(out, "{}", as_json(path, &store, &erasures, &spoilt))?;
     } else {
         let blocks = image.len() / BLOCK;
         writeln!(out, "{}: {blocks} blocks, {} bytes", image_file::name(path), image.len())?;
         out.write_all(contents(store.record()).as_bytes())?;
         out.write_all(room(&store).as_bytes())?;
-        out.write_all(would_erase(&strays).as_bytes())?;
+        out.write_all(would_erase(&erasures).as_bytes())?;
         if !spoilt.is_empty() {
             let pages = numbers_in_words("page", &spoilt);
             writeln!(out, "spoilt, by a cut erase or by damage: {pages}")?;
         }
     }
-    leftovers(store.record().counts().deleted, &strays, &spoilt)
+    leftovers(store.record().counts().deleted, &erasures.strays, &spoilt)
 }
 
-/// Tells of deleted keys, of blocks that are no part of the store, and of pages that no call reads.
+/// Tells of deleted keys, of blocks that are no part of the store, and of pages that no call reads. Empty blocks, and
+/// data blocks that a mount erases, are there in a recorder's normal life.
 fn leftovers(deleted: usize, strays: &[usize], spoilt: &[usize]) -> Result<(), Problem> {
     let keys = (deleted > 0).then(|| counted(deleted, "deleted key"));
     let blocks = (!strays.is_empty()).then(|| format!("{} of a cut call", blocks_in_words(strays)));
@@ -49,7 +51,7 @@ fn leftovers(deleted: usize, strays: &[usize], spoilt: &[usize]) -> Result<(), P
     }
 }
 
-fn as_json(path: &Path, store: &Store<Vec<u8>>, strays: &[usize], spoilt: &[usize]) -> Json {
+fn as_json(path: &Path, store: &Store<Vec<u8>>, erasures: &Erasures, spoilt: &[usize]) -> Json {
     let record = store.record();
     Json::Object(vec![
         ("image", path.display().to_string().into()),
@@ -64,7 +66,7 @@ fn as_json(path: &Path, store: &Store<Vec<u8>>, strays: &[usize], spoilt: &[usiz
         ("live_pages", Json::numbers(store.live_pages())),
         ("thinnest_block", store.thinnest().map_or(Json::Null, Json::from)),
         ("blocks_without_live_page", Json::numbers(without_live_page(store))),
-        ("would_erase", Json::numbers(strays.iter().copied())),
+        ("would_erase", erasures.as_json()),
         ("spoilt_pages", Json::numbers(spoilt.iter().copied())),
     ])
 }
@@ -99,13 +101,9 @@ fn contents(record: &Record) -> String {
 }
 
 /// The blocks that a mount erases, in words.
-fn would_erase(strays: &[usize]) -> String {
-    match strays {
-        [] => "a mount would erase nothing\n".into(),
-        blocks => {
-            format!("a mount would erase {}, no part of the store\n", blocks_in_words(blocks))
-        }
-    }
+fn would_erase(erasures: &Erasures) -> String {
+    let blocks = erasures.in_words();
+    format!("a mount would erase {}\n", blocks.as_deref().unwrap_or("nothing"))
 }
 
 /// The room on an image, in words, and what brings more.
@@ -146,12 +144,10 @@ fn without_live_page(store: &Store<Vec<u8>>) -> Vec<usize> {
     data_blocks(store.image()).into_iter().filter(|block| counts[*block] == 0).collect()
 }
 
-/// The blocks with a page, whole or torn, that has the header of a node or a cut-off.
+/// The data blocks of an image.
 fn data_blocks(image: &[u8]) -> Vec<usize> {
-    let is_data =
-        |form: Form| matches!(form.header(), Some(Header::Node { .. } | Header::CutOff { .. }));
     let blocks = image.chunks(BLOCK).enumerate();
-    blocks.filter(|(_, bytes)| Form::all(bytes).any(is_data)).map(|(block, _)| block).collect()
+    blocks.filter(|(_, bytes)| is_data(bytes)).map(|(block, _)| block).collect()
 }
 
 #[cfg(test)]

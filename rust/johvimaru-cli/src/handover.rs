@@ -5,6 +5,7 @@ mod report;
 
 use crate::args::Handover;
 use crate::calls::{self, Device};
+use crate::erasures::Erasures;
 use crate::image_file::{self, at, counted, is_empty, name, ImageFile};
 use crate::seen::Seen;
 use crate::sha256;
@@ -222,10 +223,10 @@ impl Seen {
         counted.filter(|(_, nodes)| *nodes > 0).collect()
     }
 
-    /// The blocks that a mount would erase.
+    /// The blocks that are no part of the store, as a cut call leaves them.
     fn strays(&self) -> Vec<usize> {
         let mounted = self.mounted.as_ref().map(Store::image);
-        mounted.map_or(Vec::new(), |image| image_file::erased(&self.image, image))
+        mounted.map_or(Vec::new(), |image| Erasures::between(&self.image, image).strays)
     }
 
     /// Pages that no call looks at, and of which it cannot be told what is in them: those of keys and commits in

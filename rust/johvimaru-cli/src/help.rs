@@ -124,7 +124,7 @@ johvimaru: a flash page store that forgets, on an image file
   johvimaru [--image FILE] WHAT ...
 
   format [--blocks N]          make an empty store
-  mount                        find the record, erase what cut calls have left
+  mount                        find the record, erase all that is not needed
   write FILE OFFSET [TEXT|-]   write a payload of 1 to 224 bytes
   read FILE OFFSET             print a payload, byte for byte
   cut-off FILE OFFSET          remove the nodes of a file from an offset on
@@ -179,9 +179,15 @@ It has a step for each block, which erases it, and 42 more.
 const MOUNT: &str = "\
 johvimaru mount [--cut n,k] [--image FILE]
 
-Finds the record from what is on the image alone, and erases the blocks that
-cut calls have left. The other calls do this first, format does not. It has a
-step for each block that it erases.
+Finds the record from what is on the image alone. Then it erases, from the
+first block to the last, a step for each:
+- blocks that are no part of the store, as cut calls leave them;
+- data blocks without a live page, if the last commit covers all on them;
+- empty blocks. Where the power failed in an erase, a block can look empty and
+  not keep what is written to it, until it is erased again.
+So it has something to erase also after a call that was done. It says how many
+blocks of each kind they were; `check` says it beforehand. The other calls but
+format mount first, and tell only of blocks that were not empty.
 
 After a power failure a mount is never refused, whenever it was, unless the
 call that was cut is a format. So 12, 13 and 14 mean one of these:
@@ -233,9 +239,10 @@ johvimaru gather --thinnest [--cut n,k] [--image FILE]
 Copies each live page of a data block, the lowest first, to the page that a
 write would take outside that block. Every node reads as before, under the
 same key. The block is erased by the next commit, if no write takes a page of
-it before: so commit next. With --thinnest it is the block with the fewest
-live pages, the lower one on a tie; where there is no room for its copies, the
-next one that there is room for.
+it before: so commit next. Where the last commit covers all that is on it, the
+mount of the next call erases it already. With --thinnest it is the block with
+the fewest live pages, the lower one on a tie; where there is no room for its
+copies, the next one that there is room for.
 
 `check` says how many pages are left, and which block is the thinnest. Gather
 while 16 pages are left or more: then there is room for any block. When a write
@@ -322,10 +329,13 @@ johvimaru check [--json] [--image FILE]
 
 Mounts a copy and says what is there: the nodes of each file, how many keys
 are used, free and deleted, the next numbers, the pages that writes can still
-take, the data blocks and the thinnest of them, which `gather` is for, and the
-blocks that a mount would erase. It leaves the file as it is.
-The exit status is 4 where keys are deleted, blocks would be erased, or pages
-are spoilt.
+take, the data blocks and the thinnest of them, which `gather` is for, and
+what a mount would erase: how many empty blocks, which blocks that are no part
+of the store, and which data blocks without a live page (`help mount` says
+why).
+It leaves the file as it is.
+The exit status is 4 where keys are deleted, blocks are no part of the store,
+or pages are spoilt.
 ";
 
 const MAP: &str = "\

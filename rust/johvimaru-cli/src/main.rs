@@ -6,6 +6,7 @@ mod changes;
 mod check;
 mod demo;
 mod diff;
+mod erasures;
 mod handover;
 mod help;
 mod image_file;

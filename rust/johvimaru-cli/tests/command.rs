@@ -43,7 +43,7 @@ fn a_day_of_calls() {
                  each key that no node has is a new one\n";
     assert_eq!(folder.done("wipe 0 0"), wiped);
     assert_eq!(folder.done("list"), "     0   448     0\n");
-    assert_eq!(folder.done("mount"), "mounted: nothing to erase\n");
+    assert_eq!(folder.done("mount"), "mounted: erased 5 empty blocks\n");
     assert_eq!(folder.names(), ["recorder.img"]);
 }
 
@@ -101,15 +101,16 @@ next sequence 3, next epoch 3
 key blocks 0 and 1 are in blocks 0 and 1, the commit in 4
 pages that writes, cut-offs and gathers can still take: 62
 data blocks: 1, the thinnest is block 3, 1 live page
-a mount would erase block 2, no part of the store
+a mount would erase 4 blocks: 3 empty, 1 no part of the store (2)
 ";
     let ran = folder.run("check");
     assert_eq!((ran.status, &ran.printed[..]), (4, said));
     assert_eq!(ran.errors, "johvimaru: left over: 1 deleted key, block 2 of a cut call\n");
     assert!(folder.image() == before, "check leaves the file as it is");
-    assert_eq!(folder.done("mount"), "mount: erased block 2, no part of the store\n");
+    let erased = "mounted: erased 4 blocks: 3 empty, 1 no part of the store (2)\n";
+    assert_eq!(folder.done("mount"), erased);
     let ran = folder.run("check");
-    assert!(ran.printed.ends_with("a mount would erase nothing\n"));
+    assert!(ran.printed.ends_with("a mount would erase 4 empty blocks\n"), "{}", ran.printed);
     assert_eq!((ran.status, &ran.errors[..]), (4, "johvimaru: left over: 1 deleted key\n"));
     folder.done("commit");
     assert_eq!(folder.run("check").status, 0);
@@ -147,7 +148,10 @@ fn what_list_and_check_say_as_json() {
         "  \"pages_left\": 63,",
         "  \"thinnest_block\": 3,",
         "  \"blocks_without_live_page\": [],",
-        "  \"would_erase\": [],",
+        "  \"would_erase\": {",
+        "    \"empty\": 4,",
+        "    \"no_part_of_the_store\": [],",
+        "    \"data_without_live_page\": []",
         "  \"spoilt_pages\": []",
     ] {
         assert!(checked.lines().any(|printed| printed == line), "{line}\n{checked}");
@@ -280,10 +284,47 @@ fn a_mount_that_is_cut_and_mounted_again() {
     assert_eq!(folder.done("mount --cut 0,5"), said);
     let cut = Store::mount_cut(image, Cut { n: 0, k: 5 }).unwrap();
     assert!(folder.image() == cut.image());
-    assert_eq!(folder.done("mount"), "mount: erased block 3, no part of the store\n");
-    let late =
-        "mounted: nothing to erase\nthe call was done before the cut: it has 0 whole steps\n";
-    assert_eq!(folder.done("mount --cut 0,5"), late);
+    let erased = "mounted: erased 5 blocks: 4 empty, 1 no part of the store (3)\n";
+    assert_eq!(folder.done("mount"), erased);
+    // Each erase of an empty block is a step as well.
+    let cut = "the power failed after 4 whole steps and 5 bytes of one more\n";
+    assert_eq!(folder.done("mount --cut 4,5"), cut);
+    let late = "mounted: erased 5 empty blocks\n\
+                the call was done before the cut: it has 5 whole steps\n";
+    assert_eq!(folder.done("mount --cut 5,0"), late);
+}
+
+/// A data block dies after a commit that covers all on it: the next mount erases it, and says so. Empty blocks are
+/// told by `check` and `mount` alone.
+#[test]
+fn data_blocks_that_a_mount_erases() {
+    let folder = Folder::new("covered");
+    folder.done("format --blocks 8");
+    folder.done("write 0 0 one");
+    folder.done("commit");
+    for write in 0..15 {
+        folder.done(&format!("write 1 {write} x"));
+    }
+    folder.done("gather 3");
+    let written = folder.done("write 0 0 two");
+    assert!(written.starts_with("written: "), "block 3 has pages that no commit covers: {written}");
+    folder.done("commit");
+    folder.done("write 0 0 three");
+    folder.done("gather 2");
+    let ran = folder.run("check");
+    let said = "a mount would erase 3 blocks: 2 empty, 1 data block without a live page (2)\n";
+    assert!(ran.printed.ends_with(said), "{}", ran.printed);
+    let json = folder.run("check --json").printed;
+    assert!(json.contains("\"data_without_live_page\": [\n      2\n    ]"), "{json}");
+    let image = folder.image();
+    assert_eq!(
+        folder.done("mount"),
+        "mounted: erased 3 blocks: 2 empty, 1 data block without a live page (2)\n"
+    );
+    folder.put("recorder.img", &image);
+    let committed = "mount: erased block 2, no live page there\n\
+                     committed: each key that no node has is a new one\n";
+    assert_eq!(folder.done("commit"), committed);
 }
 
 /// A call mounts first, and what that erases is erased even if the call is then refused. Where the arguments alone

@@ -108,6 +108,13 @@ fn log_of_steps(folder: &Folder) -> std::path::PathBuf {
     library
 }
 
+/// The steps of a mount after a call that was done, as the log must have them: each empty block is erased.
+fn steps_of_mount(before: &[u8]) -> String {
+    let blocks = before.chunks(BLOCK).enumerate();
+    let empty = blocks.filter(|(_, block)| block.iter().all(|&byte| byte == 0xff));
+    empty.map(|(block, _)| format!("write {BLOCK} {}\nsync 0 0\n", BLOCK * block)).collect()
+}
+
 /// The steps of a wipe as the log must have them: each where it goes, and a sync behind it.
 fn steps_of_wipe(before: &[u8]) -> String {
     let noise = || Noise::new(&[9; NOISE]).unwrap();
@@ -130,18 +137,19 @@ fn steps_of_wipe(before: &[u8]) -> String {
     lines
 }
 
-/// The file is written in the order of the call's steps, and each is on the disk before the next begins.
+/// The file is written in the order of the steps, first those of the mount, and each is on the disk before the next
+/// begins.
 #[test]
 fn each_step_is_synced_before_the_next() {
     let folder = Folder::new("synced");
     let library = log_of_steps(&folder);
     folder.done("format --blocks 8");
     folder.done("write 0 0 x");
-    let expected = steps_of_wipe(&folder.image());
+    let expected = steps_of_mount(&folder.image()) + &steps_of_wipe(&folder.image());
     let mut wipe = folder.command(&["wipe", "0", "0"]);
     let wiped =
         wipe.env("LD_PRELOAD", library).env("LOG", folder.path.join("log")).output().unwrap();
     assert!(wiped.status.success(), "{}", String::from_utf8_lossy(&wiped.stderr));
-    assert_eq!(expected.lines().count(), 2 * 57);
+    assert_eq!(expected.lines().count(), 2 * (4 + 57));
     assert_eq!(String::from_utf8(folder.bytes("log")).unwrap(), expected);
 }

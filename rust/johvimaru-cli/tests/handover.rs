@@ -341,7 +341,8 @@ fn a_damaged_page_beside_a_kept_node() {
     }
 }
 
-/// What a cut erase of a dead block leaves is no damage, where a kept node comes onto that block.
+/// What a cut erase of a dead block has left is no damage, where an older recorder, whose mount did not erase that
+/// block, has put a kept node onto it.
 #[test]
 fn a_cut_erase_beside_a_kept_node() {
     let mut store = Store::format(vec![0; 8 * BLOCK], noise(1)).unwrap();
@@ -349,10 +350,12 @@ fn a_cut_erase_beside_a_kept_node() {
         store.write(at(0, offset), b"old").unwrap();
     }
     store.cut_off(at(0, 0)).unwrap();
-    let cut = Cut { n: 45, k: 600 };
-    let mut store = store.commit_cut(noise(2), cut).unwrap().mounted().unwrap();
     store.write(at(3, 0), b"kept").unwrap();
+    store.commit(noise(2)).unwrap();
     let node = store.record().node(at(3, 0)).unwrap();
+    let mut image = store.into_image();
+    image[3 * BLOCK..][..600].fill(0xff);
+    let store = Store::mount(image).unwrap();
     assert_eq!((node.page, Form::all(store.image()).nth(50)), (59, Some(Form::Spoilt)));
     let folder = Folder::new("handover-erased");
     folder.put("recorder.img", store.image());

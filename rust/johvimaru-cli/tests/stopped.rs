@@ -56,7 +56,7 @@ fn after_each_step(before: &[u8], call: CutCall) -> Vec<Vec<Form>> {
 /// a look at it is given to `look`.
 fn killed(name: &str, line: &str, call: CutCall, look: impl Fn(&Folder, &[u8])) {
     let folder = Folder::new(name);
-    folder.done("format --blocks 64");
+    folder.done("format --blocks 16");
     folder.done("write 0 0 old");
     let before = folder.image();
     let right = after_each_step(&before, call);

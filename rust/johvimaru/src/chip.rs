@@ -21,6 +21,11 @@ use core::fmt;
 /// at the page's start are written and the rest is still FFh; where it fails in an erase, some bytes at
 /// the block's start are FFh and the rest is as it was.
 ///
+/// A block in whose erase the power failed is unsettled, however it reads: until an erase of it ends, pages that
+/// are programmed into it may not be kept. No call programs such a block, because every mount erases all blocks
+/// that are not needed, empty ones too. So a chip must do each erase that it is asked for, also of a block that
+/// reads FFh.
+///
 /// A chip on a bus of the caller's:
 ///
 /// ```
@@ -97,7 +102,7 @@ pub trait Chip {
     /// Programs a page that is empty.
     fn program(&mut self, page: usize, bytes: &Page) -> Result<(), Self::Error>;
 
-    /// Erases a block: all its bytes are then FFh.
+    /// Erases a block: all its bytes are then FFh. A block that is empty already must be erased as well.
     fn erase(&mut self, block: usize) -> Result<(), Self::Error>;
 
     /// Leaves a block as an erase that the power cuts after its first k bytes: these are FFh, the rest is as

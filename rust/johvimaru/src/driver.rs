@@ -1,6 +1,7 @@
 //! Calls that drive a chip.
 
 use crate::raw::{self, DONE, POWER_CUT};
+use crate::step::without_empty_blocks;
 use crate::store::number;
 use crate::{
     ffi, room, Chip, Cut, Noise, Offset, Payload, Record, Refusal, Step, Store, BLOCK, PAGE,
@@ -80,10 +81,13 @@ impl<E> From<Refusal> for Failure<E> {
 /// after n and after n + 1 steps differ by one step. It is handed to the chip, then done on the mirror,
 /// and only then the next one is looked for. So a page that a call programs and erases again is seen.
 ///
-/// A step that changes nothing cannot be seen so. Of all calls only format has such steps, where it erases
-/// a block that is empty. Its steps are the same whatever the image holds, so they are learnt on a copy
-/// without empty blocks, and the chip is told all of them. The steps that a chip counts are therefore
-/// those of document 01.
+/// A step that changes nothing cannot be seen so. Format and mount have such steps, where they erase a block
+/// that is empty, and the chip must do these too: where the power failed in an erase, a block can look empty and
+/// not keep the next page, until an erase of it ends. So these two calls are made on copies in which the first
+/// byte of each empty block is 00h. Format erases every block, whatever it holds. Mount erases an empty block and
+/// one that holds nothing but such a byte alike, since neither is chosen or has data, and finds the same record.
+/// So every erase is seen, and the chip is told all of them; the mirror never has these bytes. No other call
+/// erases an empty block. The steps that a chip counts are therefore those of the documents.
 ///
 /// Where the chip fails, the call ends: the mirror has the steps that the chip has done whole, the record is
 /// gone, and every call but [`mount`](Driver::mount) and [`format`](Driver::format) fails with
@@ -171,17 +175,18 @@ impl<C: Chip> Driver<C> {
     /// Formats the chip.
     pub fn format(&mut self, noise: Noise) -> Result<(), Failure<C::Error>> {
         self.read_chip()?;
-        // Bytes that are not FFh, so that each erase is seen.
-        let full = vec![0; self.mirror.len()];
+        let full = without_empty_blocks(&self.mirror);
         self.drive(full, raw::Record::blank(), |image, record, cut| {
             ffi::format(image, record, noise.bytes(), Some(cut))
         })
     }
 
-    /// Reads the whole chip, and mounts it.
+    /// Reads the whole chip, and mounts it, as [`Store::mount`]. It has a step for each block that it erases, so
+    /// at least one for each empty block.
     pub fn mount(&mut self) -> Result<(), Failure<C::Error>> {
         self.read_chip()?;
-        self.drive(self.mirror.clone(), raw::Record::blank(), |image, record, cut| {
+        let full = without_empty_blocks(&self.mirror);
+        self.drive(full, raw::Record::blank(), |image, record, cut| {
             ffi::mount(image, record, &mut [0; PLACES], Some(cut))
         })
     }
@@ -281,7 +286,8 @@ impl<C: Chip> Driver<C> {
         result
     }
 
-    /// Makes a call on copies of this image and record, step by step, and hands each step on.
+    /// Makes a call on copies of this image and record, step by step, and hands each step on. No step of the call
+    /// may erase an empty block of this image.
     fn drive(
         &mut self,
         image: Vec<u8>,
@@ -296,7 +302,9 @@ impl<C: Chip> Driver<C> {
             if !matches!(reply, DONE | POWER_CUT) {
                 return Err(Refusal::known(reply).into());
             }
-            if let Some(step) = Step::between(&now, &next) {
+            let step = Step::between(&now, &next);
+            debug_assert!(step.is_some() || n == 1 && reply == DONE, "each step is seen");
+            if let Some(step) = step {
                 self.tell(&step).map_err(Failure::Chip)?;
                 step.apply(&mut self.mirror);
             }

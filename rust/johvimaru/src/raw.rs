@@ -76,7 +76,8 @@ pub fn format(image: &mut [u8], record: &mut Record, noise: &[u8]) -> u32 {
     ffi::format(image, record, noise, None)
 }
 
-/// Finds the record of an image, with a scratch of 224 numbers, and erases what cut calls have left.
+/// Finds the record of an image, with a scratch of 224 numbers, and erases every block that is not needed, as
+/// [`Store::mount`](crate::Store::mount).
 pub fn mount(image: &mut [u8], record: &mut Record, scratch: &mut [u32]) -> u32 {
     ffi::mount(image, record, scratch, None)
 }

@@ -2,6 +2,7 @@
 
 use crate::{BLOCK, PAGE, PAGES_IN_BLOCK};
 use alloc::boxed::Box;
+use alloc::vec::Vec;
 use core::fmt;
 
 /// The bytes of a page.
@@ -39,7 +40,9 @@ impl fmt::Debug for Step {
 impl Step {
     /// The step by which two images of one length differ, or none where they do not.
     ///
-    /// The step that changes nothing, the erase of an empty block, cannot be told from none.
+    /// The step that changes nothing, the erase of an empty block, cannot be told from none, and yet a chip must
+    /// do it. Format and mount have such steps; they are seen on copies in which the first byte of each empty
+    /// block is 00h, as [`Driver`](crate::Driver) makes them.
     ///
     /// ```
     /// use johvimaru::Step;
@@ -83,4 +86,35 @@ impl Step {
 /// Whether all bytes are FFh.
 pub(crate) fn is_erased(bytes: &[u8]) -> bool {
     bytes.iter().all(|&byte| byte == 0xff)
+}
+
+/// A copy of an image in which the first byte of each empty block is 00h, so that the erase of any block makes a
+/// difference. No page begins with that byte, so such a block has no header, as an empty one has none.
+pub(crate) fn without_empty_blocks(image: &[u8]) -> Vec<u8> {
+    let mut copy = image.to_vec();
+    for block in copy.chunks_mut(BLOCK).filter(|block| is_erased(block)) {
+        block[0] = 0;
+    }
+    copy
+}
+
+#[cfg(test)]
+mod tests {
+    use super::*;
+    use alloc::vec;
+
+    /// The erase of each block is seen, and nothing but the first bytes of empty blocks is another.
+    #[test]
+    fn copies_without_empty_blocks() {
+        let mut image = vec![0xff; 3 * BLOCK];
+        image[2 * BLOCK - 1] = 7;
+        let copy = without_empty_blocks(&image);
+        let others: Vec<usize> = (0..image.len()).filter(|at| image[*at] != copy[*at]).collect();
+        assert_eq!(others, [0, 2 * BLOCK]);
+        for block in 0..3 {
+            let (erase, mut erased) = (Step::Erase { block }, copy.clone());
+            erase.apply(&mut erased);
+            assert_eq!(Step::between(&copy, &erased), Some(erase));
+        }
+    }
 }

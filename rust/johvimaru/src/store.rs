@@ -80,7 +80,11 @@ impl<I: AsRef<[u8]> + AsMut<[u8]>> Store<I> {
         }
     }
 
-    /// Finds the record of an image from what is on it alone, and erases what cut calls have left.
+    /// Finds the record of an image from what is on it alone, and erases every block that is not needed: what cut
+    /// calls have left, data blocks without a live page on which the last commit covers everything, and empty
+    /// blocks. Those are erased because the power may have failed in an erase of one, after which a chip may not
+    /// keep what is programmed there; in memory that changes nothing, and [`Driver`](crate::Driver) has a chip do
+    /// it. So a mount has steps also after a call that was done. A second mount changes no byte.
     ///
     /// Refused with [`Refusal::ImageSize`], [`Refusal::NoCommit`], [`Refusal::NoKeyBlock`] or
     /// [`Refusal::EntryUnfit`]. The image then comes back as it was.
@@ -223,7 +227,7 @@ impl<I: AsRef<[u8]> + AsMut<[u8]>> Store<I> {
     /// Copies each live page of a data block, the lowest first, to the page that a write would take outside
     /// that block. Payload, length and key stay, and each copy has a sequence of its own, so all nodes read as
     /// before. The block then has no live page: the next commit erases it, unless a write takes one of its pages
-    /// before. So commit next.
+    /// before. So commit next. A mount erases it too, if the last commit covers all that is on it.
     ///
     /// Refused with [`Refusal::NothingToGather`], [`Refusal::NumbersSpent`] (a sequence for each copy) or
     /// [`Refusal::NoRoom`]. Nothing is changed then. Where a write is refused for want of a page, so is every

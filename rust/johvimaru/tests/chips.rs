@@ -8,8 +8,8 @@ mod common;
 use common::cuts::{every_step, memory, rich, wipe_at_every_step, InMemory, Memory, NODES};
 use common::{at, noise};
 use johvimaru::{
-    Chip, Cut, CutError, Driver, Failure, File, MemoryChip, Misuse, Outcome, Page, Payload,
-    Refusal, Store, BLOCK,
+    Chip, Cut, CutError, Driver, Failure, File, MemoryChip, Misuse, Page, Payload, Refusal, Store,
+    BLOCK,
 };
 
 /// The bytes of a step at which it is cut.
@@ -42,7 +42,7 @@ fn each_call_has_the_steps_of_document_01() {
     assert_eq!(steps(&mut driver, |driver| driver.cut_off(at(13, 0))), 1);
     assert_eq!(steps(&mut driver, |driver| driver.write(at(13, 7), &[b'p'; 224])), 1);
     assert_eq!(steps(&mut driver, |driver| driver.wipe(at(13, 0), noise(4))), 57);
-    assert_eq!(steps(&mut driver, |driver| driver.mount()), 0);
+    assert_eq!(steps(&mut driver, |driver| driver.mount()), 5);
 }
 
 /// The same calls by a store in memory leave the same image and record.
@@ -147,24 +147,48 @@ fn a_format_cut_at_every_step() {
     }
 }
 
-/// A mount that is cut is followed by another.
+/// A mount that is cut is followed by another. Each of its erases is a step, that of an empty block too.
 #[test]
 fn a_mount_that_is_cut() {
     let mut driver = rich();
     driver.chip_mut().cut_at(Cut { n: 15, k: 0 });
     driver.wipe(at(0, 0), noise(9)).unwrap_err();
     let image = driver.chip().inner().bytes().to_vec();
-    for k in [0, 1, 300, 4_096] {
+    let cuts = (0..5).flat_map(|n| [0, 1, 300, 4_096].map(|k| Cut { n, k }));
+    for cut in cuts {
         let mut driver = driver.clone();
         driver.chip_mut().power_on();
-        driver.chip_mut().cut_at(Cut { n: 0, k });
-        assert_eq!(driver.mount(), Err(Failure::Chip(CutError::PowerCut)), "{k}");
-        let cut = Store::mount_cut(image.clone(), Cut { n: 0, k }).unwrap();
-        assert!(driver.chip().inner().bytes() == cut.image(), "{k}");
-        let Outcome::Cut(cut) = cut else { panic!("the mount erases a block") };
+        driver.chip_mut().cut_at(cut);
+        let expected = Store::mount_cut(image.clone(), cut).unwrap();
+        if !expected.is_cut() {
+            assert_eq!(cut, Cut { n: 4, k: 0 }, "a torn copy of a key block, two empty, one dead");
+            return driver.mount().unwrap();
+        }
+        assert_eq!(driver.mount(), Err(Failure::Chip(CutError::PowerCut)), "{cut:?}");
+        assert!(driver.chip().inner().bytes() == expected.image(), "{cut:?}");
         driver.chip_mut().power_on();
         driver.mount().unwrap();
-        assert!(driver.mirror() == cut.mount().unwrap().image(), "{k}");
+        assert!(driver.mirror() == expected.mounted().unwrap().image(), "{cut:?}");
+    }
+    panic!("a mount has an end");
+}
+
+/// The bytes that make the erases of empty blocks seen come neither onto the mirror nor onto the chip.
+#[test]
+fn a_mount_that_fails_or_is_refused_leaves_the_mirror_as_it_was() {
+    let image = rich().mirror().to_vec();
+    for left in 0..4 {
+        let chip = MemoryChip::new(image.clone());
+        let mut driver = Driver::new(Failing { chip, left });
+        let result = driver.mount();
+        assert_eq!(result.is_err(), left < 3, "{left}: {result:?}");
+        assert!(driver.mirror() == image && driver.chip().chip.bytes() == image, "{left}");
+    }
+    for byte in [0xff, 0] {
+        let image = vec![byte; 8 * BLOCK];
+        let mut driver = Driver::new(Failing { chip: MemoryChip::new(image.clone()), left: 0 });
+        assert_eq!(driver.mount(), Err(Failure::Refused(Refusal::NoCommit)));
+        assert!(driver.mirror() == image && driver.chip().chip.bytes() == image, "{byte}");
     }
 }
 
@@ -208,8 +232,9 @@ impl Chip for Failing {
 fn a_failing_chip_leaves_the_mirror_where_it_stands() {
     for left in 0..46 {
         let chip = MemoryChip::new(rich().mirror().to_vec());
-        let mut driver = Driver::new(Failing { chip, left });
+        let mut driver = Driver::new(Failing { chip, left: 1_000 });
         driver.mount().unwrap();
+        driver.chip_mut().left = left;
         assert_eq!(driver.commit(noise(9)), Err(Failure::Chip("worn out")));
         assert!(driver.chip().chip.bytes() == driver.mirror(), "{left}");
         assert!(driver.record().is_none() && driver.copy().is_none());

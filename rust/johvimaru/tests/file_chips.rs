@@ -118,8 +118,8 @@ fn an_erase_in_part_leaves_the_same_in_memory_and_in_a_file() {
     fs::remove_file(&path).unwrap();
 }
 
-/// What is in a file that cannot be written can be mounted and read. A write fails in its step, for the
-/// system's reason.
+/// A mount has blocks to erase, empty ones at least: on a file that cannot be written it fails in its first step, for
+/// the system's reason. What is in the file can be read from a copy.
 #[test]
 fn a_file_that_is_opened_to_be_read_only() {
     let path = temporary("only-read.img");
@@ -129,12 +129,22 @@ fn a_file_that_is_opened_to_be_read_only() {
     let chip = FileChip::from_file(File::open(&path).unwrap()).unwrap();
     assert_eq!(chip.blocks(), 8, "a byte after the last block is no part of the chip");
     let mut driver = Driver::new(chip);
-    driver.mount().unwrap();
-    assert_eq!(driver.read(at(0, 0)).unwrap(), [16; 224]);
-    let failure = driver.write(at(0, 0), &[1; 224]).unwrap_err();
+    let failure = driver.mount().unwrap_err();
     assert!(failure.source().is_some_and(|source| source.is::<io::Error>()), "{failure:?}");
     assert!(matches!(driver.read(at(0, 0)), Err(Failure::NotMounted)));
     assert!(fs::read(&path).unwrap() == bytes);
+    bytes.pop();
+    assert_eq!(Store::mount(bytes).unwrap().read(at(0, 0)).unwrap(), [16; 224]);
+    fs::remove_file(&path).unwrap();
+}
+
+/// The erase of an empty block is written as any other: a file that cannot be written does not take it.
+#[test]
+fn an_erase_of_an_empty_block_is_written() {
+    let path = temporary("empty-erase.img");
+    FileChip::create(&path, 8).unwrap().erase(3).unwrap();
+    let mut chip = FileChip::from_file(File::open(&path).unwrap()).unwrap();
+    assert!(chip.erase(3).is_err());
     fs::remove_file(&path).unwrap();
 }
 

@@ -1,4 +1,5 @@
-//! Gathers: files, lengths and letters stay, whole or cut at any step, and the next commit erases the block.
+//! Gathers: files, lengths and letters stay, whole or cut at any step, and the next commit erases the block, or a
+//! mount before it.
 
 #[allow(dead_code)]
 mod common;
@@ -84,6 +85,26 @@ fn the_next_commit_erases_the_block() {
     assert!(store.image()[3 * BLOCK..4 * BLOCK].iter().all(|byte| *byte == 0xff));
     assert_eq!(store.pages_left(), left - 3 + PAGES_IN_BLOCK);
     assert_same(&expected, &store, "committed");
+}
+
+/// A gathered block goes with the next mount, if the last commit covers all that is on it, and else waits for a
+/// commit. Every node reads as before.
+#[test]
+fn a_mount_erases_a_gathered_block_that_is_covered() {
+    for commits in [false, true] {
+        let mut store = thin();
+        if commits {
+            store.commit(noise(2)).unwrap();
+        }
+        let before = store.clone();
+        let block = store.thinnest().unwrap();
+        store.gather(block).unwrap();
+        let mounted = Store::mount(store.image().to_vec()).unwrap();
+        let is_empty = mounted.image()[BLOCK * block..][..BLOCK].iter().all(|&byte| byte == 0xff);
+        assert_eq!(is_empty, commits);
+        assert_eq!(mounted.record(), store.record());
+        assert_same(&before, &mounted, "after a mount");
+    }
 }
 
 /// One node on several pages under one key: each mount takes the newest.

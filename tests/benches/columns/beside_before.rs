@@ -1,21 +1,13 @@
 //! The library beside a build of it from before: first the same bytes, then the times, now over before.
 //!
-//! The other build is a shared library with the same functions for C, which `JOHVIMARU_BEFORE` names. The
-//! repository keeps its archive, so that from before #103 is made at its top by
-//!
-//!     git show 056eff0:lib/x86_64/librecorder.a > /tmp/before.a
-//!     cc -shared -o /tmp/before.so -Wl,--whole-archive /tmp/before.a -Wl,--no-whole-archive
-//!
-//! and stands beside the one that is linked, where the variable is its whole path, /tmp/before.so.
+//! The other build is a shared library with the same functions for C, as [`johvimaru_tests::another_build`]
+//! says.
 
 use crate::bed::{Bed, Side, What};
 use johvimaru_tests::another_build::AnotherBuild;
 use johvimaru_tests::settings::{Setting, FIRST_SEQUENCE, SETTINGS};
 use johvimaru_tests::timing::run_ready;
 use std::cell::RefCell;
-
-/// Names the shared library.
-const VARIABLE: &str = "JOHVIMARU_BEFORE";
 
 /// The calls that are compared.
 const CALLS: [What; 8] = [
@@ -49,20 +41,6 @@ const IMAGES: [Image; 6] = [
 
 /// For each call a ratio of times.
 type Ratios = [f64; CALLS.len()];
-
-/// The build that the variable names; none where it is not set.
-///
-/// Panics where it cannot be opened or lacks a function.
-pub fn open() -> Option<AnotherBuild> {
-    let Some(file) = std::env::var_os(VARIABLE) else {
-        println!("to have a build from before beside it, set {VARIABLE} to a shared library, made as the head of tests/benches/columns/beside_before.rs says");
-        return None;
-    };
-    match AnotherBuild::open(file.as_ref()) {
-        Ok(build) => Some(build),
-        Err(why) => panic!("{VARIABLE}: {file:?} cannot be opened as a shared library: {why}"),
-    }
-}
 
 /// Panics where the build leaves other bytes than the library on an image to be timed.
 pub fn compare_results(build: AnotherBuild) {

@@ -118,6 +118,11 @@ impl Bed {
     /// The same, but that the setting's first write has this sequence.
     pub fn from_sequence(setting: &Setting, sequence: u32, what: What) -> Bed {
         let (image, record) = setting.lent_from(what.length(), sequence);
+        Bed::of(image, record, what)
+    }
+
+    /// The same of this image and record.
+    pub fn of(image: Vec<u8>, record: Record, what: What) -> Bed {
         let before = Lent { image, record, scratch: vec![0; PLACES], output: vec![0; PAYLOAD] };
         let (payload, noise) = (payload(1_000_000).bytes(), FORMAT_NOISE.bytes());
         let (changed, block) = (Vec::new(), full_block(&before.record));

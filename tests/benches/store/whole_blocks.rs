@@ -1,5 +1,5 @@
-//! A mount beside one pass of the form of every page, and a commit and a wipe beside the same bytes
-//! moved without a test; all beside the second implementation.
+//! A mount beside one pass of the form of every page and the fill of the blocks that it erases, and a commit
+//! and a wipe beside the same bytes moved without a test; all beside the second implementation.
 //!
 //! What the floor takes of the same pass or moves stands there too, since no call can do with less than
 //! document 01's tests. On the largest image those of a commit and a wipe take longer than the moves, so
@@ -18,11 +18,14 @@ use johvimaru_tests::timing::{run_ready, Times, Way};
 use std::cell::RefCell;
 use std::hint::black_box;
 
-/// On the largest image the time of a mount over that of one pass of the form of every page, and that of
-/// a commit or wipe over that of the same bytes moved without a test, are at most this.
+/// On the largest image the time of a mount over that of one pass of the form of every page and the fill, and
+/// that of a commit or wipe over that of the same bytes moved without a test, are at most this.
 const LIMIT: f64 = 1.5;
 /// The largest image.
 const MOST_BLOCKS: usize = 256;
+
+/// Sizes of images, and how many writes nearly fill them or all places.
+pub const SIZES: [(usize, usize); 4] = [(8, 60), (32, 440), (128, 440), (MOST_BLOCKS, 440)];
 
 /// Rounds, and times in a round.
 const ROUNDS: usize = 50;
@@ -34,7 +37,7 @@ pub fn whole_blocks(bench: bool) {
         println!("\n{:<36}{:>12}{:>12}{:>12}", "", "ours /", "ours /", "floor /");
         println!("{:<36}{:>12}{:>12}{:>12}", "", "pass, moves", "second", "pass, moves");
     }
-    for (blocks, full) in [(8, 60), (32, 440), (128, 440), (MOST_BLOCKS, 440)] {
+    for (blocks, full) in SIZES {
         for writes in [CALLS, full] {
             mounts(&Setting { name: "mount", blocks, live: writes.min(VACANT), writes }, bench);
         }
@@ -75,6 +78,15 @@ fn pass(image: &[u8]) -> u32 {
     image.chunks_exact(PAGE).map(|page| harness::form(page, &mut fields)).sum()
 }
 
+/// Fills the blocks that these steps erase with FFh.
+pub fn fill(image: &mut [u8], steps: &[Step]) {
+    for step in steps {
+        if let Step::Erase { block } = step {
+            black_box(&mut image[BLOCK * block..][..BLOCK]).fill(ERASED);
+        }
+    }
+}
+
 /// A call by the second implementation, on a copy that it finds as it was.
 fn by_second(store: &Store, call: Call) -> Way<'_> {
     let copy = RefCell::new(store.clone());
@@ -92,10 +104,13 @@ fn mounts(setting: &Setting, bench: bool) {
     let same = left.image == bed.before.image && left.record == bed.before.record;
     assert!(same, "a mount finds what was written");
     if bench {
-        let image = bed.before.image.clone();
+        let (mut image, steps) = (bed.before.image.clone(), store.steps(Call::MOUNT));
         let bed = RefCell::new(bed);
-        let pass =
-            Way { ready: Box::new(|| ()), work: Box::new(|| assert!(pass(black_box(&image)) > 0)) };
+        let work = || {
+            assert!(pass(black_box(&image)) > 0);
+            fill(&mut image, &steps);
+        };
+        let pass = Way { ready: Box::new(|| ()), work: Box::new(work) };
         let mut ways = vec![Bed::way(&bed, Side::Ours), pass, by_second(&store, Call::MOUNT)];
         ways.extend(by_floor(&bed));
         let name = format!("mount, {} blocks, {} writes", setting.blocks, setting.writes);

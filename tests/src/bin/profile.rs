@@ -37,7 +37,7 @@ const COLUMNS: [(&str, &[&str]); 8] = [
         "headers, entries",
         &["image::look::form_at", "page::headers", "page::columns", "page::entries", "page::forms"],
     ),
-    ("search, emptiness", &["store::find", "image::look", "store::strays"]),
+    ("search, emptiness", &["store::find", "image::look", "store::sweep"]),
     ("cipher", &["cipher"]),
     ("pages written", &["page", "image", "store::stages"]),
     ("memory", &["mem", "__mem"]),

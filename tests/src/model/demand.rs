@@ -1,18 +1,19 @@
 //! Document 01, demand 3 ("The plain book of demand 3", "Contracts and cases"): a list of calls with
-//! cuts, run on a store beside the book, and what must hold after each call.
+//! cuts, run on a store beside the book and a chip with unsettled blocks, and what must hold after each call.
 
 use super::aes;
 use super::blocks::page_to_take;
 use super::book::{Book, Key};
 use super::calls::{self, Refusal, CUT, DONE};
+use super::chip::Chip;
 use super::copies;
 use super::files::{self, PLACES};
-use super::image::{blocks, pages, play, Power, Step, BLOCK, PAGES_IN_BLOCK};
+use super::image::{blocks, has_right_size, pages, play, Power, Step, BLOCK, PAGES_IN_BLOCK};
 use super::keys::{in_noise, Slot, NOISE, POSITIONS};
 use super::list::{Call, Data, Event, Lent};
 use super::origin::{Origin, Origins};
-use super::pages::{Header, Page, FREE, HEADER, LAST, PAGE, PAYLOAD, PAYLOAD_BYTES, SPACE};
-use super::record::{Numbers, Record, LETTERS, MAP, SCRATCH};
+use super::pages::{Header, Page, ERASED, FREE, HEADER, LAST, PAGE, PAYLOAD, PAYLOAD_BYTES, SPACE};
+use super::record::{Numbers, Record, LETTERS, MAP, NONE, SCRATCH};
 use super::store::Store;
 use crate::rng::Rng;
 use std::collections::HashMap;
@@ -37,24 +38,35 @@ pub enum Maker {
     Second,
     /// The same, but that gathers go this way.
     Gathers(fn(&Store, usize) -> Way),
+    /// The same, but that mounts go this way.
+    Mounts(fn(&Store) -> Way),
     /// This function. The steps are to be those of the second implementation.
     Other(fn(&mut Store, Call, Power) -> u32),
 }
 
 impl Maker {
+    /// The way that a call goes, where it is not the second implementation's.
+    fn way(self, store: &Store, call: Call) -> Option<Way> {
+        match (self, call) {
+            (Maker::Gathers(way), Call::Gather { block }) => Some(way(store, block)),
+            (Maker::Mounts(way), Call::MOUNT)
+                if has_right_size(&store.image) && store.record.has_right_lengths() =>
+            {
+                Some(way(store))
+            }
+            _ => None,
+        }
+    }
+
     /// The steps that a call has.
     fn steps(self, store: &Store, call: Call) -> Vec<Step> {
-        match (self, call) {
-            (Maker::Gathers(way), Call::Gather { block }) => way(store, block).steps,
-            _ => store.steps(call),
-        }
+        self.way(store, call).map_or_else(|| store.steps(call), |way| way.steps)
     }
 
     /// Does a call. Gives the reply.
     fn call(self, store: &mut Store, call: Call, power: Power) -> u32 {
-        match (self, call) {
-            (Maker::Gathers(way), Call::Gather { block }) => {
-                let Way { reply, steps, record } = way(store, block);
+        match (self, self.way(store, call)) {
+            (_, Some(Way { reply, steps, record })) => {
                 store.record = record;
                 if play(&mut store.image, &steps, power) {
                     reply
@@ -62,7 +74,7 @@ impl Maker {
                     CUT
                 }
             }
-            (Maker::Other(function), _) => function(store, call, power),
+            (Maker::Other(function), None) => function(store, call, power),
             _ => store.call_with(call, power),
         }
     }
@@ -78,6 +90,10 @@ pub struct Run {
     pub on: bool,
     /// The book.
     pub book: Book,
+    /// The chip that each call's steps are done on, beside the image.
+    pub chip: Chip,
+    /// Whether a mount is tried after each call that finished. What it must give follows from the points.
+    tries_mounts: bool,
     origins: Origins,
     /// For each call by its number the noise that it took.
     noises: Vec<Vec<u8>>,
@@ -140,18 +156,43 @@ impl Run {
 
     /// The same, and the calls are then done by this maker.
     pub fn by(maker: Maker, blocks: usize, seed: u64) -> Run {
-        let mut rng = Rng::new(seed);
-        let mut store = Store { image: rng.bytes(BLOCK * blocks), record: Record::blank() };
-        let noise = Data::noise(rng.number());
-        assert_eq!(store.format(noise, Power::STAYS), DONE);
+        let noise = Data::noise(Rng::new(!seed).number());
+        Run::with_noise(maker, blocks, seed, noise)
+    }
 
-        let noise = noise.bytes();
-        let steps = calls::format::outcome(&store.image, MAP, LETTERS, &noise);
+    /// The same, and the format has this noise. Before it any block may be unsettled.
+    pub fn with_noise(maker: Maker, blocks: usize, seed: u64, noise: Data) -> Run {
+        let image = Rng::new(seed).bytes(BLOCK * blocks);
+        let mut chip = Chip::of_unknown_past(&image, seed);
+        let mut store = Store { image, record: Record::blank() };
+        let bytes = noise.bytes();
+        let steps = calls::format::outcome(&store.image, MAP, LETTERS, &bytes);
+        let steps = steps.expect("the image has a right size");
+        assert_eq!(store.format(noise, Power::STAYS), DONE);
+        assert_eq!(chip.program_on_unsettled(&steps), None, "of a format");
+        chip.play(&steps, Power::STAYS);
+
         let mut origins = Origins::new(store.image.len());
         let key = |position| Key::new(position, 0);
-        origins.follow(&steps.expect("the format was taken"), Power::STAYS, key, key);
-        let (book, nodes) = (Book::new(), HashMap::new());
-        Run { maker, store, on: true, book, origins, noises: vec![noise], nodes, covered: 0, seed }
+        origins.follow(&steps, Power::STAYS, key, key);
+        Run {
+            maker,
+            store,
+            on: true,
+            book: Book::new(),
+            chip,
+            tries_mounts: true,
+            origins,
+            noises: vec![bytes],
+            nodes: HashMap::new(),
+            covered: 0,
+            seed,
+        }
+    }
+
+    /// The same, but that no mount is tried after the calls: it is held to the points alone.
+    pub fn by_points_alone(self) -> Run {
+        Run { tries_mounts: false, ..self }
     }
 
     /// The same, but that the commit block covers this sequence, so that the next is the one after it.
@@ -167,8 +208,14 @@ impl Run {
             }
         }
         record.numbers.sequence = covered + 1;
+        run.chip = Chip::settled(image, seed);
         run.covered = covered;
         run
+    }
+
+    /// Where each byte of the image comes from, in order.
+    pub fn origins(&self) -> &[Origin] {
+        self.origins.bytes()
     }
 
     /// Does one call and holds it to the book. Gives the reply, or none where the power is off and the
@@ -191,8 +238,8 @@ impl Run {
         let steps = self.maker.steps(&before, call);
         let reply = self.maker.call(&mut self.store, call, power);
         self.check_reply(&before, call, reply)?;
-        let is_cut = power.steps < steps.len();
-        ensure!((reply == CUT) == is_cut, "reply {reply}, the call has {} steps", steps.len());
+        self.check_on_settled(&steps)?;
+        self.chip.play(&steps, power);
         match reply {
             DONE | CUT => {
                 self.check_played(&before, &steps, power)?;
@@ -202,7 +249,18 @@ impl Run {
             }
             refusal => self.check_refused(call, refusal, before)?,
         }
+        let is_cut = power.steps < steps.len();
+        ensure!((reply == CUT) == is_cut, "reply {reply}, the call has {} steps", steps.len());
+        ensure!(self.chip.bytes() == self.store.image, "the chip has lost a page");
         Ok(Some(reply))
+    }
+
+    /// No step programs a block that is unsettled at that moment.
+    fn check_on_settled(&self, steps: &[Step]) -> Result<(), Broken> {
+        match self.chip.program_on_unsettled(steps) {
+            Some((step, block)) => Err(format!("step {step} programs the unsettled block {block}")),
+            None => Ok(()),
+        }
     }
 
     /// The image is what the steps leave of the one before.
@@ -230,17 +288,33 @@ impl Run {
         Ok(())
     }
 
-    /// A write that is taken programs its node and that alone, under the key that the lowest f then has
-    /// and that has enciphered no node before.
+    /// A write that is taken programs its node and that alone, a mount programs nothing, and a read has no
+    /// step.
     fn check_programs(
         &mut self,
         event: &Event,
         before: &Store,
         steps: &[Step],
     ) -> Result<(), Broken> {
-        let Some(mut node) = Node::of(event.call) else {
-            return Ok(());
-        };
+        let programs = steps.iter().any(|step| matches!(step, Step::Program { .. }));
+        match (event.call, Node::of(event.call)) {
+            (Call::Mount { .. }, _) => ensure!(!programs, "a mount programs a page"),
+            (Call::Read { .. }, _) => ensure!(steps.is_empty(), "a read has steps"),
+            (_, Some(node)) => self.check_node(node, event.power, before, steps)?,
+            (_, None) => {}
+        }
+        Ok(())
+    }
+
+    /// The steps of a write are its node's, under the key that the lowest f then has and that has enciphered
+    /// no node before.
+    fn check_node(
+        &mut self,
+        mut node: Node,
+        power: Power,
+        before: &Store,
+        steps: &[Step],
+    ) -> Result<(), Broken> {
         let lowest = self.book.marks.iter().position(|&mark| mark == FREE);
         let position = lowest.expect("the call was not refused");
         let key = self.book.key(position);
@@ -255,7 +329,7 @@ impl Run {
 
         let old = self.nodes.get(&key);
         ensure!(old.is_none(), "{key:?} has enciphered {old:?} before");
-        if event.power.reaches(0, PAGE) >= HEADER {
+        if power.reaches(0, PAGE) >= HEADER {
             self.nodes.insert(key, node);
         }
         Ok(())
@@ -287,7 +361,6 @@ impl Run {
             false => Key::new(position, number),
         };
         self.origins.follow(steps, power, |position| book.key(position), copied);
-        self.origins.clear_empty_blocks(&self.store.image);
 
         self.check_pages_under_keys()?;
         self.on = reply == DONE;
@@ -296,6 +369,9 @@ impl Run {
             return Ok(());
         }
         self.check_at_rest()?;
+        if matches!(call, Call::Mount { .. }) {
+            self.check_accounted()?;
+        }
         self.check_reads(call)?;
         match origins {
             Some(origins) => self.check_purge(call, before, &origins),
@@ -394,7 +470,11 @@ impl Run {
 
     /// What holds after each call that finished, the power being on.
     pub fn check_at_rest(&self) -> Result<(), Broken> {
-        self.check_mount()?;
+        let unsettled = self.chip.unsettled();
+        ensure!(unsettled.is_empty(), "the blocks {unsettled:?} are left unsettled");
+        if self.tries_mounts {
+            self.check_mount()?;
+        }
         let record = &self.store.record;
         for (place, content) in self.book.places.iter().enumerate() {
             let key = record.entry(place).map(|entry| usize::from(entry.key));
@@ -408,6 +488,15 @@ impl Run {
         }
         self.check_counted()?;
         self.check_keys()
+    }
+
+    /// A byte that is of no key and that none has enciphered is text or erased.
+    fn check_accounted(&self) -> Result<(), Broken> {
+        let is_plain = |byte: u8| matches!(byte, ERASED | b' '..=b'~' | b'\r' | b'\n');
+        let mut bytes = self.store.image.iter().zip(self.origins.bytes());
+        let other = bytes.position(|(&byte, &from)| from == Origin::Nothing && !is_plain(byte));
+        ensure!(other.is_none(), "byte {other:?} is of no key and yet no text");
+        Ok(())
     }
 
     /// A call uses up as many sequences at most as a block has pages, or two epochs.
@@ -454,14 +543,22 @@ impl Run {
             && bytes.all(|(at, &byte)| origins[at] == Origin::Enciphered(key) && page[at] == byte)
     }
 
-    /// A mount is accepted, erases nothing and gives the record.
+    /// A mount is accepted, gives the record and keeps every live page; a second one changes nothing.
     fn check_mount(&self) -> Result<(), Broken> {
         let mut store = Store { record: Record::blank(), ..self.store.clone() };
-        let reply = self.maker.call(&mut store, Call::MOUNT, Power::cut(0, 0));
+        let reply = self.maker.call(&mut store, Call::MOUNT, Power::STAYS);
         ensure!(reply == DONE, "a mount replies {reply}");
-        ensure!(store.image == self.store.image, "a mount changes the image");
         let (found, own) = (&store.record, &self.store.record);
         ensure!(found == own, "a mount gives {found:?}, the record is {own:?}");
+        for &page in own.map[..PLACES].iter().filter(|&&page| page != NONE) {
+            let bytes = PAGE * usize::from(page)..PAGE * (usize::from(page) + 1);
+            let kept = store.image[bytes.clone()] == self.store.image[bytes];
+            ensure!(kept, "a mount changes the live page {page}");
+        }
+        let once = store.clone();
+        let reply = self.maker.call(&mut store, Call::MOUNT, Power::STAYS);
+        ensure!(reply == DONE, "a second mount replies {reply}");
+        ensure!(store == once, "a second mount changes something");
         Ok(())
     }
 

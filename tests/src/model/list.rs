@@ -1,9 +1,10 @@
 //! Document 01, "Contracts and cases": a list of calls on one image and record, any of which may be
 //! cut, at any n and k. Gathers, of document 02, are among them.
 
+use super::aes;
 use super::calls::Node;
 use super::image::Power;
-use super::keys::NOISE;
+use super::keys::{KEY, NOISE};
 use super::pages::PAYLOAD;
 use super::record::SCRATCH;
 use crate::rng::Rng;
@@ -100,13 +101,24 @@ impl Data {
         Data { length: NOISE, seed }
     }
 
-    /// The bytes. The last seeds give odd ones: what is erased, zeros, and the text of a node's header.
+    /// This seed gives bytes that are all FFh.
+    pub const ALL_ERASED: u64 = u64::MAX;
+    /// This seed gives bytes that a key of FFh enciphers to FFh.
+    pub const ERASED_ON_FLASH: u64 = u64::MAX - 3;
+
+    /// The bytes. The last seeds give odd ones: what is erased, zeros, the text of a node's header, and what
+    /// is enciphered to FFh.
     pub fn bytes(self) -> Vec<u8> {
         let header = b"N       7  0   0   1      40: ";
         match u64::MAX - self.seed {
             0 => vec![0xff; self.length],
             1 => vec![0; self.length],
             2 => header.iter().copied().cycle().take(self.length).collect(),
+            3 => {
+                let mut bytes = vec![0xff; self.length];
+                aes::stream(&[0xff; KEY], &mut bytes);
+                bytes
+            }
             _ => Rng::new(self.seed).bytes(self.length),
         }
     }
@@ -149,6 +161,26 @@ impl Call {
             _ => None,
         }
     }
+}
+
+/// A write of the payload of a seed.
+pub fn write(file: usize, offset: usize, seed: u64) -> Call {
+    Call::Write { file, offset, payload: Data::payload(seed) }
+}
+
+/// A cut-off.
+pub fn cut_off(file: usize, offset: usize) -> Call {
+    Call::CutOff { file, offset }
+}
+
+/// A commit with the noise of a seed.
+pub fn commit(seed: u64) -> Call {
+    Call::Commit { noise: Data::noise(seed) }
+}
+
+/// A wipe with the noise of a seed.
+pub fn wipe(file: usize, offset: usize, seed: u64) -> Call {
+    Call::Wipe { file, offset, noise: Data::noise(seed) }
 }
 
 /// By how much the length of what is lent for a call differs from the right one.

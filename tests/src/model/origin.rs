@@ -1,10 +1,10 @@
 //! Document 01, "The plain book of demand 3": what each byte is, from the step that programs it to
-//! one that erases it. Where each byte of an image comes from.
+//! one that erases it. Nothing else changes where a byte comes from, whatever is read there.
 
 use super::book::Key;
 use super::image::{Power, Step, BLOCK};
 use super::keys::{KEY, POSITIONS_IN_BLOCK, SLOTS};
-use super::pages::{Header, ERASED, HEADER, PAGE, PAYLOAD_BYTES};
+use super::pages::{Header, HEADER, PAGE, PAYLOAD_BYTES};
 use std::collections::HashSet;
 
 /// Where a byte of the image comes from.
@@ -60,16 +60,8 @@ impl Origins {
         }
     }
 
-    /// In a block all of whose bytes are FFh there is nothing, however its last erase ended.
-    pub fn clear_empty_blocks(&mut self, image: &[u8]) {
-        for (bytes, origins) in image.chunks_exact(BLOCK).zip(self.bytes.chunks_exact_mut(BLOCK)) {
-            if bytes.iter().all(|&byte| byte == ERASED) {
-                origins.fill(Origin::Nothing);
-            }
-        }
-    }
-
-    /// The first `done` bytes of a page with this header are programmed at `start`.
+    /// The first `done` bytes of a page with this header are programmed at `start`. The others stay what they
+    /// were.
     fn program(
         &mut self,
         start: usize,
@@ -78,6 +70,7 @@ impl Origins {
         present: impl Fn(usize) -> Key,
         copied: impl Fn(usize) -> Key,
     ) {
+        self.bytes[start..start + done].fill(Origin::Nothing);
         let done = done.clamp(PAYLOAD_BYTES.start, PAYLOAD_BYTES.end);
         let payload = &mut self.bytes[start + HEADER..start + done];
         match header {

@@ -1,6 +1,7 @@
 //! A chip whose power fails where it is told.
 
-use crate::{Chip, Cut, Page, BLOCK, PAGE};
+use crate::{Chip, Cut, Page, BLOCK, PAGE, PAGES_IN_BLOCK};
+use alloc::vec::Vec;
 use core::error::Error;
 use core::fmt;
 
@@ -34,6 +35,11 @@ impl<E: Error + 'static> Error for CutError<E> {
 /// A chip whose power fails after n whole steps and k bytes of one more. From then on it answers nothing,
 /// until its power is on again.
 ///
+/// It has the fault of a chip whose erases are cut: a block is unsettled from an erase in which the power fails,
+/// whatever it then reads, until an erase of it ends. What is programmed into an unsettled block is lost, without
+/// an error: the page stays as it was. So a driver that spares a chip the erase of empty blocks loses pages here.
+/// [`Driver`](crate::Driver) programs no such block.
+///
 /// ```
 /// use johvimaru::{Cut, CutChip, Driver, MemoryChip, Noise, Offset};
 ///
@@ -60,6 +66,8 @@ pub struct CutChip<C> {
     bytes: usize,
     cut: Option<Cut>,
     off: bool,
+    /// The blocks whose last erase was cut.
+    unsettled: Vec<usize>,
 }
 
 /// The chip inside is not shown.
@@ -69,6 +77,7 @@ impl<C> fmt::Debug for CutChip<C> {
             .field("steps", &self.steps)
             .field("cut", &self.cut)
             .field("off", &self.off)
+            .field("unsettled", &self.unsettled)
             .finish_non_exhaustive()
     }
 }
@@ -76,7 +85,7 @@ impl<C> fmt::Debug for CutChip<C> {
 impl<C: Chip> CutChip<C> {
     /// A chip whose power stays on until a cut is chosen.
     pub fn new(chip: C) -> CutChip<C> {
-        CutChip { chip, steps: 0, bytes: 0, cut: None, off: false }
+        CutChip { chip, steps: 0, bytes: 0, cut: None, off: false, unsettled: Vec::new() }
     }
 
     /// Chooses the cut: so many whole steps from now on, and so many bytes of one more. A k that is larger
@@ -107,6 +116,31 @@ impl<C: Chip> CutChip<C> {
         self.bytes
     }
 
+    /// The blocks that are unsettled, in the order in which their erases were cut.
+    ///
+    /// ```
+    /// use johvimaru::{Chip, Cut, CutChip, MemoryChip};
+    ///
+    /// let mut chip = CutChip::new(MemoryChip::new(vec![0xff; 8 * johvimaru::BLOCK]));
+    /// chip.cut_at(Cut { n: 0, k: johvimaru::BLOCK });
+    /// assert!(chip.erase(1).is_err());
+    /// chip.power_on();
+    ///
+    /// // The block reads FFh, and yet what is programmed into it is lost.
+    /// assert_eq!(chip.unsettled(), [1]);
+    /// chip.program(17, &[b' '; 256])?;
+    /// assert_eq!(chip.inner().bytes(), [0xff; 8 * johvimaru::BLOCK]);
+    ///
+    /// chip.erase(1)?;
+    /// assert_eq!(chip.unsettled(), []);
+    /// chip.program(17, &[b' '; 256])?;
+    /// assert_eq!(chip.inner().bytes()[17 * 256..18 * 256], [b' '; 256]);
+    /// # Ok::<(), Box<dyn std::error::Error>>(())
+    /// ```
+    pub fn unsettled(&self) -> &[usize] {
+        &self.unsettled
+    }
+
     /// The chip inside.
     pub fn inner(&self) -> &C {
         &self.chip
@@ -115,6 +149,14 @@ impl<C: Chip> CutChip<C> {
     /// Gives the chip inside.
     pub fn into_inner(self) -> C {
         self.chip
+    }
+
+    /// Hands a program to the chip inside, unless it is lost.
+    fn program_settled(&mut self, page: usize, bytes: &Page) -> Result<(), CutError<C::Error>> {
+        match self.unsettled.contains(&(page / PAGES_IN_BLOCK)) {
+            true => Ok(()),
+            false => self.chip.program(page, bytes).map_err(CutError::Chip),
+        }
     }
 
     /// The bytes that the step now to come may do, where the power fails in it.
@@ -150,20 +192,25 @@ impl<C: Chip> Chip for CutChip<C> {
     }
 
     fn program(&mut self, page: usize, bytes: &Page) -> Result<(), Self::Error> {
-        let Some(k) = self.last_bytes()? else {
-            return self.chip.program(page, bytes).map_err(CutError::Chip);
-        };
+        let Some(k) = self.last_bytes()? else { return self.program_settled(page, bytes) };
         let mut part = [0xff; PAGE];
         self.bytes = k.min(PAGE);
         part[..self.bytes].copy_from_slice(&bytes[..self.bytes]);
-        self.chip.program(page, &part).map_err(CutError::Chip)?;
+        self.program_settled(page, &part)?;
         Err(CutError::PowerCut)
     }
 
     fn erase(&mut self, block: usize) -> Result<(), Self::Error> {
-        let Some(k) = self.last_bytes()? else {
-            return self.chip.erase(block).map_err(CutError::Chip);
+        let last = self.last_bytes()?;
+        let was = self.unsettled.iter().position(|&unsettled| unsettled == block);
+        let Some(k) = last else {
+            self.chip.erase(block).map_err(CutError::Chip)?;
+            was.map(|at| self.unsettled.remove(at));
+            return Ok(());
         };
+        if was.is_none() {
+            self.unsettled.push(block);
+        }
         self.bytes = k.min(BLOCK);
         self.chip.erase_part(block, k).map_err(CutError::Chip)?;
         Err(CutError::PowerCut)

@@ -10,8 +10,10 @@ use std::path::Path;
 /// A chip in a file, of as many full blocks as the file has. It comes with the feature `std`.
 ///
 /// Steps change the file in place, one by one in their order, and each is on the disk (`fdatasync`) when it ends.
-/// So a program that is killed leaves what a chip's power cut leaves. What lies below the file may keep older
-/// bytes: docs/USING.md, "What a file cannot promise".
+/// So a program that is killed leaves what a chip's power cut leaves. The erase of an empty block is written as any
+/// other: a mount writes each spare block of the file, so a file that cannot be written cannot be mounted so. To
+/// look at one, mount a copy of its bytes by [`Store::mount`](crate::Store::mount). What lies below the file may
+/// keep older bytes: docs/USING.md, "What a file cannot promise".
 ///
 /// ```
 /// use johvimaru::{Driver, FileChip, Noise, Offset};

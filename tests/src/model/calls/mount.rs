@@ -3,7 +3,7 @@
 use super::{require, run_steps, Refusal};
 use crate::model::blocks::{forms, kind, Commit, Kind};
 use crate::model::files::{self, PLACES};
-use crate::model::image::{blocks, has_right_size, Power, Step};
+use crate::model::image::{blocks, has_right_size, Power, Step, PAGES_IN_BLOCK};
 use crate::model::keys::POSITIONS;
 use crate::model::pages::{Entry, Form, Header, DELETED, FREE, USED};
 use crate::model::record::{is_node, Numbers, Record, LETTERS, MAP, NONE, SCRATCH};
@@ -53,7 +53,7 @@ pub fn outcome(image: &[u8]) -> Result<Mounted, Refusal> {
 
     let sequence = |decision: Option<Decision>| decision.map_or(0, |decision| decision.sequence);
     let scratch = decisions.into_iter().map(sequence).collect();
-    Ok(Mounted { steps: survey.erases(&record.numbers), record, scratch })
+    Ok(Mounted { steps: survey.erases(&record, chosen.commit.covered), record, scratch })
 }
 
 /// What all pages and blocks of an image are.
@@ -149,11 +149,7 @@ impl Survey {
 
     /// The next numbers, one above the highest, and the chosen blocks' places.
     fn numbers(&self, chosen: &Chosen) -> Numbers {
-        let sequences =
-            self.forms.iter().filter_map(Form::header).filter_map(|header| match header {
-                Header::Node { sequence, .. } | Header::CutOff { sequence, .. } => Some(sequence),
-                Header::Keys { .. } | Header::Commit { .. } => None,
-            });
+        let sequences = self.forms.iter().filter_map(sequence);
         let epochs = self.kinds.iter().filter_map(|kind| match kind {
             Kind::Keys { epoch, .. } | Kind::Commit(Commit { epoch, .. }) => Some(*epoch),
             Kind::Empty | Kind::Data | Kind::Other => None,
@@ -167,18 +163,35 @@ impl Survey {
         }
     }
 
-    /// The erases of the strays: neither chosen nor data, and not empty.
-    fn erases(&self, numbers: &Numbers) -> Vec<Step> {
-        let chosen = [numbers.keys0, numbers.keys1, numbers.commit].map(|place| place as usize);
-        let stays = |block, kind: &Kind| {
-            chosen.contains(&block) || matches!(kind, Kind::Data | Kind::Empty)
+    /// The erases, in one pass: of all blocks but the chosen ones and data blocks, so of empty ones too, and of
+    /// each data block that has neither a live page nor a header above the covered sequence.
+    fn erases(&self, record: &Record, covered: u32) -> Vec<Step> {
+        let Numbers { keys0, keys1, commit, .. } = record.numbers;
+        let chosen = [keys0, keys1, commit].map(|place| place as usize);
+        let is_live = |block| {
+            let mut named = record.map[..PLACES].iter().filter(|&&page| page != NONE);
+            named.any(|&page| usize::from(page) / PAGES_IN_BLOCK == block)
         };
-        self.kinds
-            .iter()
-            .enumerate()
-            .filter(|&(block, kind)| !stays(block, kind))
-            .map(|(block, _)| Step::Erase { block })
-            .collect()
+        let goes = |block| match self.kinds[block] {
+            Kind::Data => !is_live(block) && self.highest_sequence(block) <= Some(covered),
+            _ => !chosen.contains(&block),
+        };
+        let blocks = (0..self.kinds.len()).filter(|&block| goes(block));
+        blocks.map(|block| Step::Erase { block }).collect()
+    }
+
+    /// The highest sequence of a block's whole and torn headers.
+    fn highest_sequence(&self, block: usize) -> Option<u32> {
+        let forms = &self.forms[PAGES_IN_BLOCK * block..][..PAGES_IN_BLOCK];
+        forms.iter().filter_map(sequence).max()
+    }
+}
+
+/// The sequence of a whole or torn page with a node or a cut-off.
+fn sequence(form: &Form) -> Option<u32> {
+    match form.header()? {
+        Header::Node { sequence, .. } | Header::CutOff { sequence, .. } => Some(sequence),
+        Header::Keys { .. } | Header::Commit { .. } => None,
     }
 }
 
@@ -189,7 +202,7 @@ fn raise<T>(best: &mut Option<(u32, T)>, epoch: u32, found: T) {
     }
 }
 
-/// Finds the record of an image and erases what is left of cut calls. Gives the reply and the record's
+/// Finds the record of an image and erases the blocks that it does not need. Gives the reply and the record's
 /// numbers, all 0 when refused.
 pub fn mount(
     image: &mut [u8],

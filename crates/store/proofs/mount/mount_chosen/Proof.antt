@@ -1,9 +1,9 @@
--- Which blocks are empty is found first, then the record is made, then the strays are erased with what power there is.
+-- Which blocks are empty is found first, then the record is made, then the blocks that are not needed are erased with what power there is.
 use native.Mathlib.Omega.{arith}
 use mathlib.Core.Path.{refl}
 use Rattle.image.proofs.Looks.{sized}
 use Rattle.store.proofs.Rebuilds.{fits-rebuilt}
-use Rattle.store.proofs.MountCalls.{survey-commit, survey-kind, survey-ranges, pages-refuse, mount-left}
+use Rattle.store.proofs.MountCalls.{survey-commit, survey-kind, survey-ranges, pages-refuse, mount-left, mount-sweeping}
 use borrow.Author.Needs.{needs}
 use Rattle.store.proofs.mount.mount_chosen.Statement.{statement}
 use Rattle.store.proofs.mount.mount_chosen.Tie as tie
@@ -70,19 +70,18 @@ numbers-of-requires c κs =
     let h = fits-rebuilt (a .image .now) _ _ _ (c .before .before .before .before .before .before .before .before .before .before .rebuild-record .ensures .0) (c .before .highest .given .1) in
     survey-ranges (a .image .now) (a .s) (s .pre .1) (m .size) (m .commitThere) (m .keys0There) (m .keys1There) _ (h .1)
 
-slice-aggregate-erase-strays : tie.Need-slice-aggregate-erase-strays
-slice-aggregate-erase-strays c = search needs
+slice-aggregate-erase-swept : tie.Need-slice-aggregate-erase-swept
+slice-aggregate-erase-swept c = search needs
 
-slice-aggregate-erase-strays-2 : tie.Need-slice-aggregate-erase-strays-2
-slice-aggregate-erase-strays-2 c = search needs
-
-erase-strays-requires : tie.Need-erase-strays-requires
-erase-strays-requires c κs =
+erase-swept-requires : tie.Need-erase-swept-requires
+erase-swept-requires c κs =
     let s = c .before .before .before .before .before .before .before .before .before .before .before .before .before .before .before .before .before .before .before .before .before .before .before .before .before .before .before .before .before .before .before in
     let a = s .args in
     let r = c .before .before .before .before .before .before .before .before .before .before .before .before .before .before .rebuild-record .ensures in
-    let h = fits-rebuilt (a .image .now) _ _ _ (r .0) (c .before .before .before .before .before .highest .given .1) in
-    ((sized (a .image .now) (s .pre .0 .size) .most, omega arith, r .1 (h .0) .eventsMade), c .before .before .before .before .before .before .before .before .before .before .before .before .before .before .before .before .before .before .before .before .before .before .before .before .find-empty .ensures)
+    mount-sweeping (a .image .now) (a .map .now) (a .letters .now) (a .scratch .now) (s .pre .0) (a .n) (a .k) _ _ _ _ _
+    (survey-commit (a .image .now) (a .s) (s .pre .1) _ (c .before .before .before .before .before .before .before .before .before .before .before .before .before .before .before .before .before .before .before .before .found-at .ensures)) (r .0)
+    _ _ (a .s) _ (c .before .before .before .before .before .highest .given .1) (r .1) (omega arith) (s .pre .1)
+    (c .before .before .before .numbers-of .ensures)
 
 taken-requires : tie.Need-taken-requires
 taken-requires c κs = search needs
@@ -106,7 +105,8 @@ returns-2 c =
     let r = c .before .before .before .before .before .before .before .before .before .before .before .before .before .before .before .before .before .before .rebuild-record .ensures in
     rw (c .taken .ensures)
     (mount-left (a .image .now) (a .map .now) (a .letters .now) (a .scratch .now) (s .pre .0) (a .n) (a .k) _ _ _ _ _ (survey-commit (a .image .now) (a .s) (s .pre .1) _ (c .before .before .before .before .before .before .before .before .before .before .before .before .before .before .before .before .before .before .before .before .before .before .before .before .found-at .ensures)) (r .0)
-    _ _ _ (a .s) _ _ (c .before .before .before .before .before .before .before .before .before .highest .given .1) (r .1) (s .pre .1) (c .before .before .before .before .before .before .before .numbers-of .ensures) (c .before .before .before .erase-strays .ensures))
+    _ _ _ (a .s) _ _ (c .before .before .before .before .before .before .before .before .before .highest .given .1) (r .1) (s .pre .1)
+    (c .before .before .before .before .before .before .before .numbers-of .ensures) (c .before .before .before .erase-swept .ensures))
 
 pub mount-chosen-spec : {M : Type 1} → statement M
 mount-chosen-spec =
@@ -127,9 +127,8 @@ mount-chosen-spec =
     same-length-4
     returns
     numbers-of-requires
-    slice-aggregate-erase-strays
-    slice-aggregate-erase-strays-2
-    erase-strays-requires
+    slice-aggregate-erase-swept
+    erase-swept-requires
     taken-requires
     same-length-5
     same-length-6

@@ -22,13 +22,13 @@ spend-requires c κs =
     let s = c .before .before .before .before .before .before .before .before .before .before .before .before .before .before in
     (s .pre .1 .1, rw (c .before .before .before .before .before .before .before .before .event-form-at .ensures) (range-right (s .args .image .now) (s .args .g)))
 
-note-requires : tie.Need-note-requires
-note-requires c κs =
-    let s = c .before .before .before .before .before .before .before .before .before .before .before .before .before .before .before .before .before .before in
-    (s .pre .1 .3, page-most (s .args .image .now) (s .args .g) (s .pre .0 .0) (s .pre .0 .1) .0)
-
 sequence-of-requires : tie.Need-sequence-of-requires
 sequence-of-requires c κs = search needs
+
+note-requires : tie.Need-note-requires
+note-requires c κs =
+    let s = c .before .before .before .before .before .before .before .before .before .before .before .before .before .before .before .before .before .before .before in
+    (s .pre .1 .3, page-most (s .args .image .now) (s .args .g) (s .pre .0 .0) (s .pre .0 .1) .0)
 
 higher-requires : tie.Need-higher-requires
 higher-requires c κs = search needs
@@ -51,13 +51,14 @@ returns c =
     let a = s .args in
     let places = c .before .before .before .before .before .before .before .before .before .before .before .before .before .before .apply in
     let letters = c .before .before .before .before .before .before .before .before .spend in
-    let events = c .before .before .before .before .note in
+    let events = c .before .before .before .note in
+    let sequence = c .before .before .before .before .before .sequence-of in
     let form = c .before .before .before .before .before .before .before .before .before .before .before .before .before .before .before .before .before .event-form-at in
     let most = page-most (a .image .now) (a .g) (s .pre .0 .0) (s .pre .0 .1) in
     page-passed (a .image .now) (a .covered) (a .g) (pass (a .map .now) (a .letters .now) (a .scratch .now) (a .events .now) (a .highest))
     (pass (places .last .0) (letters .last .0) (places .last .1 .0) (events .last .0) (c .higher .result))
-    (form .result) (form .ensures) (omega (arith, s .pre .1 .3, most .0)) (places .ensures) (letters .ensures) (events .ensures)
-    (c .higher .ensures ∙ ap (max (a .highest)) (c .before .sequence-of .ensures))
+    (form .result) (form .ensures) (omega (arith, s .pre .1 .3, most .0)) (places .ensures) (letters .ensures) (rw (sequence .ensures) at (events .ensures))
+    (c .higher .ensures ∙ ap (max (a .highest)) (sequence .ensures))
 
 pub replay-form-spec : {M : Type 1} → statement M
 replay-form-spec =
@@ -66,8 +67,8 @@ replay-form-spec =
     event-form-at-requires
     apply-requires
     spend-requires
-    note-requires
     sequence-of-requires
+    note-requires
     higher-requires
     same-length
     same-length-2

@@ -7,8 +7,8 @@ use mathlib.Core.Bool.{Bool, cond}
 use lib.ListN.{length, getD, length-set}
 use Rattle.base.proofs.Folds.{filled-next}
 use Rattle.image.specs.Look.{blockEmpty}
-use Rattle.store.proofs.strays.find_empty.Statement.{statement}
-use Rattle.store.proofs.strays.find_empty.Tie as tie
+use Rattle.store.proofs.sweep.find_empty.Statement.{statement}
+use Rattle.store.proofs.sweep.find_empty.Tie as tie
 
 abbrev Inv-loop : tie.InvT-loop
 Inv-loop image empties₀ n b₀ empties b =

@@ -2,23 +2,19 @@
 use Prim.Native.Nat.{_-_}
 use native.Mathlib.Omega.{arith}
 use mathlib.Core.Path.{_≡_, refl, sym, _∙_}
-use mathlib.Core.Bool.{not, _||_}
-use lib.Dec.{eqb}
-use lib.ListN.{getD}
 use borrow.Author.Needs.{needs}
 use Rattle.base.specs.Search.{firstFrom}
 use Rattle.base.proofs.Searches.{first-here, first-next, first-none}
-use Rattle.store.specs.Kind.{isChosen}
-use Rattle.store.proofs.strays.next_stray.Statement.{statement}
-use Rattle.store.proofs.strays.next_stray.Tie as tie
+use Rattle.store.specs.Rebuild.{isUnmarked}
+use Rattle.store.proofs.sweep.next_unmarked.Statement.{statement}
+use Rattle.store.proofs.sweep.next_unmarked.Tie as tie
 
 abbrev Inv-loop : tie.InvT-loop
-Inv-loop events empties numbers from n b₀ b =
-    firstFrom (λ a. not (isChosen numbers a || not (eqb (getD events a 0) 0) || not (eqb (getD empties a 0) 0))) (n - from) from
-    ≡ firstFrom (λ a. not (isChosen numbers a || not (eqb (getD events a 0) 0) || not (eqb (getD empties a 0) 0))) (n - b) b
+Inv-loop events lives numbers from n b₀ b =
+    firstFrom (isUnmarked events lives numbers) (n - from) from ≡ firstFrom (isUnmarked events lives numbers) (n - b) b
 
 abbrev μ-loop : tie.MeasureT-loop
-μ-loop events empties numbers from n b₀ b = n - b
+μ-loop events lives numbers from n b₀ b = n - b
 
 loop-holds : tie.Need-loop-holds Inv-loop μ-loop
 loop-holds c = refl
@@ -51,8 +47,8 @@ loop-again c =
 returns-2 : tie.Need-returns-2 Inv-loop μ-loop
 returns-2 c = sym (c .before .loop .inv ∙ first-none _ _ (c .before .loop .b) (c .loop-test .left))
 
-pub next-stray-spec : {M : Type 1} → statement M
-next-stray-spec =
+pub next-unmarked-spec : {M : Type 1} → statement M
+next-unmarked-spec =
     tie.close
     (tie.spec
     Inv-loop

@@ -1,32 +1,28 @@
 -- A mount that is cut. Where the power of a commit fails among the pages of its first copy, the block that the copy began in is neither chosen nor data:
 -- the next mount has to erase it, and a mount without power for a step is cut.
-use Prim.Native.Nat.{ℕ, zero, suc, _+_, _<_, min}
+use Prim.Native.Nat.{ℕ, zero, suc, _+_, _<_}
 use native.Mathlib.Omega.{arith}
-use native.Mathlib.Decide.{ℕ-discrete}
-use mathlib.Core.Path.{_≡_, refl, sym, ap, subst, _∙_}
-use mathlib.Core.Bool.{Bool, true, false, _&&_, _||_}
-use mathlib.Core.List.{List, [], _∷_, _++_, map}
+use mathlib.Core.Path.{_≡_, sym, ap, subst, _∙_}
+use mathlib.Core.Bool.{true, false, _&&_, _||_}
+use mathlib.Core.List.{List, [], _∷_, map}
 use lib.Dec.{T, eqb, leb, ltb}
-use lib.ListN.{length, take, drop, replicate, take-append-drop}
+use lib.ListN.{length}
 use borrow.Author.Tests.{lt-ltb, le-ltb, ne-eqb}
-use Rattle.base.specs.Each.{Each, allAre}
-use Rattle.base.proofs.Choice.{and-true}
-use Rattle.base.proofs.Eachs.{allAre-replicate}
+use Rattle.base.specs.Each.{Each}
 use Rattle.base.proofs.Folds.{length-listFrom}
 use Rattle.base.proofs.Searches.{count-some}
-use Rattle.page.specs.Frame.{pageSize, erased}
-use Rattle.page.specs.Form.{isEmpty}
+use Rattle.page.specs.Frame.{pageSize}
 use Rattle.page.specs.Header.{keysFrame}
 use Rattle.page.specs.Key.{positions, keyBlock}
 use Rattle.image.specs.Size.{blockSize, pagesInBlock, blocks}
 use Rattle.image.specs.Look.{blockAt, blockEmpty, lowestEmpty}
 use Rattle.image.specs.Block.{renewedKey, keyBlockPage}
-use Rattle.image.specs.Step.{Step, erase, Inside, upTo, whole, play}
+use Rattle.image.specs.Step.{Step, erase, whole, play}
 use Rattle.image.proofs.Looks.{block-inside}
-use Rattle.image.proofs.Empties.{block-empty-same}
+use Rattle.image.proofs.Empties.{block-empty-same, erase-stays-empty}
 use Rattle.image.proofs.Plays.{play-append-first}
 use Rattle.image.proofs.Rows.{rowSteps}
-use Rattle.image.proofs.Step.{cleared, whole-length, upTo-whole, block-upTo-other, block-erase-upTo}
+use Rattle.image.proofs.Step.{whole-length, upTo-whole}
 use Rattle.store.specs.Kind.{kindOf, keysEpoch}
 use Rattle.store.specs.Record.{Record}
 use Rattle.store.specs.Outcome.{Outcome, left}
@@ -179,30 +175,6 @@ module _ (m : Machine) (s : Settled m) (on : T (m .on)) (arg : List ℕ) (done :
       later i l = rw (le-ltb i n (omega arith), ne-eqb i n (λ z. omega arith))
 
 -- ---- a mount, cut or not, leaves an empty block empty
-allAre-append : (v : ℕ) (xs ys : List ℕ) → allAre v (xs ++ ys) ≡ allAre v xs && allAre v ys
-unfolding allAre
-allAre-append v [] ys = refl
-allAre-append v (x ∷ xs) ys = go (eqb x v) (allAre-append v xs ys)
-  where
-    go : (b : Bool) → allAre v (xs ++ ys) ≡ allAre v xs && allAre v ys → b && allAre v (xs ++ ys) ≡ (b && allAre v xs) && allAre v ys
-    go true e = e
-    go false e = refl
-
-isEmpty-cleared : (k : ℕ) (xs : List ℕ) → isEmpty xs ≡ true → isEmpty (cleared k xs) ≡ true
-unfolding isEmpty cleared
-isEmpty-cleared k xs e =
-    let m = min k (length xs) in
-    let two = and-true (allAre erased (take m xs)) (allAre erased (drop m xs))
-    (sym (allAre-append erased (take m xs) (drop m xs)) ∙ ap (allAre erased) (take-append-drop m xs) ∙ e) in
-    allAre-append erased (replicate m erased) (drop m xs) ∙ rw (allAre-replicate erased m, two .1)
-
-erase-stays-empty : (k d : ℕ) (img : List ℕ) (b : ℕ) → Inside (length img) (erase d) → blockEmpty img b ≡ true → blockEmpty (upTo k (erase d) img) b ≡ true
-unfolding blockEmpty
-erase-stays-empty k d img b ins e = elim (ℕ-discrete d b) [
-  | yes z ↦ rw (← z) (ap isEmpty (block-erase-upTo k d img ins) ∙ isEmpty-cleared k (blockAt img d) (rw z e))
-  | no z ↦ ap isEmpty (block-upTo-other k (erase d) img ins b z) ∙ e
-]
-
 empty-stays : (bs : List ℕ) (img : List ℕ) (n k b : ℕ) → Each (λ (d : ℕ). d < blocks img) bs → blockEmpty img b ≡ true
     → blockEmpty (play n k (map erase bs) img) b ≡ true
 unfolding play

@@ -108,8 +108,7 @@ module _ (m : Machine) (call : Call) (g : ℕ) (page : List ℕ) (size : length 
     paged-settled zero k = record {
       sound = rw (calls-next m (event 0 k)) (paged-sound 0 k);
       good = λ h. absurd (cut-off k h);
-      tight = λ h. absurd
-          (cut-off k h);
+      tight = λ h. absurd (cut-off k h);
       someEmpty = λ h. absurd (cut-off k h);
       unsettledIdle = unsettled-idle 0 k;
       allSettled = λ h. absurd (cut-off k h);

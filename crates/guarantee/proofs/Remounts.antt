@@ -1,6 +1,5 @@
--- A mount after a call that finished gives the record that the call left: what a finished call leaves needs no mending. It erases blocks that are empty or
--- that no
--- record reads any more, and keeps every live page; and another mount after it changes no byte.
+-- A mount after a call that finished gives the record that the call left: what a finished call leaves needs no mending. It erases blocks that are
+-- empty or that no record reads any more, and keeps every live page; and another mount after it changes no byte.
 use Prim.Native.Nat.{ℕ, _<_, _≤_}
 use native.Mathlib.Omega.{arith}
 use mathlib.Core.Path.{_≡_, refl, sym, ap, subst, _∙_}

@@ -1,6 +1,7 @@
 -- Empty pages and blocks: a block is empty exactly if its pages are, and what a step does to emptiness.
-use Prim.Native.Nat.{ℕ, zero, suc, _+_, _*_, _/_, _≤_}
+use Prim.Native.Nat.{ℕ, zero, suc, _+_, _*_, _/_, _≤_, min}
 use native.Mathlib.Omega.{arith}
+use native.Mathlib.Decide.{ℕ-discrete}
 use mathlib.Core.Path.{_≡_, refl, sym, ap, _∙_}
 use mathlib.Core.Bool.{Bool, true, false, _&&_}
 use mathlib.Core.List.{List, [], _∷_, _++_}
@@ -10,7 +11,7 @@ use lib.Seq.{take-add, drop-drop}
 use Rattle.base.specs.Part.{part, splice}
 use Rattle.base.specs.Search.{allFrom}
 use Rattle.base.specs.Each.{allAre}
-use Rattle.base.proofs.Choice.{true-false}
+use Rattle.base.proofs.Choice.{and-true, true-false}
 use Rattle.base.proofs.Parts.{splice-part}
 use Rattle.base.proofs.Searches.{all-holds, all-intro}
 use Rattle.base.proofs.Eachs.{allAre-true, allAre-replicate}
@@ -20,7 +21,7 @@ use Rattle.page.specs.Page.{cutPage}
 use Rattle.image.specs.Size.{blockSize, pagesInBlock}
 use Rattle.image.specs.Look.{pageAt, blockAt, pageEmpty, blockEmpty}
 use Rattle.image.specs.Step.{program, erase, Inside, upTo, whole}
-use Rattle.image.proofs.Step.{page-length, block-length, block-erase, page-program}
+use Rattle.image.proofs.Step.{cleared, page-length, block-length, block-erase, block-erase-upTo, block-upTo-other, page-program}
 
 -- ---- bytes
 allAre-append : (v : ℕ) (xs ys : List ℕ) → allAre v (xs ++ ys) ≡ allAre v xs && allAre v ys
@@ -35,6 +36,14 @@ allAre-append v (x ∷ xs) ys = go (eqb x v) (allAre-append v xs ys)
 pub isEmpty-replicate : (n : ℕ) → isEmpty (replicate n erased) ≡ true
 unfolding isEmpty
 isEmpty-replicate n = allAre-replicate erased n
+
+isEmpty-cleared : (k : ℕ) (xs : List ℕ) → isEmpty xs ≡ true → isEmpty (cleared k xs) ≡ true
+unfolding isEmpty cleared
+isEmpty-cleared k xs e =
+    let m = min k (length xs) in
+    let parted = sym (allAre-append erased (take m xs) (drop m xs)) ∙ ap (allAre erased) (take-append-drop m xs) ∙ e in
+    let rest = and-true (allAre erased (take m xs)) (allAre erased (drop m xs)) parted .1 in
+    allAre-append erased (replicate m erased) (drop m xs) ∙ rw (allAre-replicate erased m, rest)
 
 pub isEmpty-true : (xs : List ℕ) (n : ℕ) → length xs ≡ n → isEmpty xs ≡ true → xs ≡ replicate n erased
 unfolding isEmpty
@@ -101,6 +110,15 @@ block-empty-same img img' b e = ap isEmpty e
 -- ---- after a step
 pub erase-empties : (b : ℕ) (img : List ℕ) → Inside (length img) (erase b) → blockEmpty (whole (erase b) img) b ≡ true
 erase-empties b img ins = block-empty-of (whole (erase b) img) b blockSize (block-erase b img ins)
+
+-- no erase, cut anywhere, makes an empty block other than empty
+pub erase-stays-empty : (k d : ℕ) (img : List ℕ) (b : ℕ) → Inside (length img) (erase d) → blockEmpty img b ≡ true
+    → blockEmpty (upTo k (erase d) img) b ≡ true
+unfolding blockEmpty
+erase-stays-empty k d img b ins e = elim (ℕ-discrete d b) [
+  | yes z ↦ rw (← z) (ap isEmpty (block-erase-upTo k d img ins) ∙ isEmpty-cleared k (blockAt img d) (rw z e))
+  | no z ↦ ap isEmpty (block-upTo-other k (erase d) img ins b z) ∙ e
+]
 
 pub program-fills : (g : ℕ) (page img : List ℕ) → Inside (length img) (program g page) → isEmpty page ≡ false
     → blockEmpty (whole (program g page) img) (g / pagesInBlock) ≡ false

@@ -1,5 +1,5 @@
 -- What it says that a record fits, fact by fact; and what follows of a live place.
-use Prim.Native.Nat.{ℕ, _+_, _%_, _<_, _≤_}
+use Prim.Native.Nat.{ℕ, _+_, _/_, _%_, _<_, _≤_}
 use native.Mathlib.Omega.{arith}
 use mathlib.Core.Path.{_≡_, refl, sym, ap, _∙_}
 use mathlib.Core.Logic.{_⊎_, inl, inr, ⊎-elim}
@@ -10,7 +10,7 @@ use lib.ListN.{length, getD}
 use borrow.Author.Tests.{ltb-true, lt-ltb, leb-true, le-leb, eqb-true, eq-eqb}
 use Rattle.base.specs.Search.{allFrom}
 use Rattle.base.proofs.Choice.{cond-same, and-true, and-intro, and-assoc, true-false, both-ways}
-use Rattle.base.proofs.Searches.{all-agree, all-holds, all-intro, any-holds, count-any, count-some, count-unique, unique-count}
+use Rattle.base.proofs.Searches.{all-agree, all-holds, all-intro, any-holds, any-intro, count-any, count-some, count-unique, unique-count}
 use Rattle.page.specs.Plan.{filePlan, places, placeOf}
 use Rattle.page.specs.Frame.{payloadSize}
 use Rattle.page.specs.Header.{nodeLetter, lastNumber, lastPosition, within, inPlan, nodeRanges, inRange}
@@ -25,15 +25,22 @@ use Rattle.page.specs.Form.{wholeNode}
 use Rattle.page.proofs.Plans.{place-unique}
 use Rattle.page.proofs.Ranges.{within-true, within-intro}
 use Rattle.image.proofs.Looks.{sized}
-use Rattle.image.specs.Size.{blockSize, blocks, pages, sizeRight}
+use Rattle.image.specs.Size.{blockSize, pagesInBlock, blocks, pages, sizeRight}
 use Rattle.image.specs.Look.{formAt}
-use Rattle.store.specs.Kind.{kindOf, keysEpoch, commitEpoch, isData, hasEvents}
-use Rattle.store.specs.Record.{Record, pageOf, keyOf, live, isAt, nodeAt, placeFits, namedTimes, keysApart, lettersFit, numbersFit, blocksFit, fits}
+use Rattle.store.specs.Kind.{pageIn, kindOf, keysEpoch, commitEpoch, isData, headed, hasEvents}
+use Rattle.store.specs.Record.{Record, pageOf, keyOf, live, liveIn, hasLive, isAt, nodeAt, placeFits, namedTimes, keysApart, lettersFit, numbersFit, blocksFit, fits}
 use Rattle.store.specs.declared.Kind.the-variants.{Keys, Commit}
 use Rattle.store.proofs.BlockKinds.{whole-in-range, whole-inside, keys-range, commit-range, keys-inside, commit-inside, data-has-events}
 use Rattle.store.proofs.Choices.{commit-epoch, keys-epoch}
 
 -- ---- places
+-- the block of a live page has one
+pub live-in : (map : List ℕ) (b x : ℕ) → x < places → live map x ≡ true → pageOf map x / pagesInBlock ≡ b → hasLive map b ≡ true
+unfolding hasLive
+live-in map b x h l e =
+    any-intro (liveIn map b) places 0 x (omega arith) (omega arith)
+    (and-intro (live map x) (eqb (pageOf map x / pagesInBlock) b) l (eq-eqb (pageOf map x / pagesInBlock) b e))
+
 -- place x is none in both halves
 pub record Vacant (map : List ℕ) (x : ℕ) : Type 0 where
   pub no-page : pageOf map x ≡ none
@@ -301,6 +308,19 @@ module _ (img : List ℕ) (r : Record) (fit : Fit img r) where
       go : Vacant (r .map) x ⊎ Named img (r .map) x → Named img (r .map) x
       go (inl v) = absurd (omega (arith, v .no-page, ltb-true (pageOf (r .map) x) none l))
       go (inr n) = n
+
+  -- so a block with a live page has an event
+  pub live-headed : (b : ℕ) → hasLive (r .map) b ≡ true → hasEvents img b ≡ true
+  unfolding hasLive
+  live-headed b e =
+      let w = any-holds (liveIn (r .map) b) places 0 e in
+      let x = w .0 in
+      let g = pageOf (r .map) x in
+      let two = and-true (live (r .map) x) (eqb (g / pagesInBlock) b) (w .3) in
+      let n = live-named x (omega (arith, w .2)) (two .0) in
+      let here : g / pagesInBlock ≡ b = eqb-true _ _ (two .1) in
+      let at : pageIn b (g % pagesInBlock) ≡ g = omega (arith, here) in
+      any-intro (λ i. headed (formAt img (pageIn b i))) pagesInBlock 0 (g % pagesInBlock) (omega arith) (omega arith) (rw (at, n .whole, n .node))
 
   pub live-page : (x : ℕ) → x < places → live (r .map) x ≡ true → pageOf (r .map) x < pages img
   live-page x h l = named-inside img (r .map) x (live-named x h l)

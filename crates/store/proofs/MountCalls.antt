@@ -1,5 +1,5 @@
 -- What the code of a mount needs where it goes on, and that it leaves what the call's definition says.
-use Prim.Native.Nat.{ℕ, _/_, _%_, _<_, _≤_}
+use Prim.Native.Nat.{ℕ, _<_, _≤_}
 use native.Mathlib.Omega.{arith}
 use mathlib.Core.Path.{_≡_, refl, sym, ap, _∙_}
 use mathlib.Core.Bool.{true, false, cond, _||_}
@@ -9,18 +9,18 @@ use lib.ListN.{length, drop}
 use borrow.Author.Tests.{leb-true, eqb-true, eq-eqb}
 use Rattle.base.specs.Search.{whichFrom, highestFrom}
 use Rattle.base.proofs.Choice.{and-true}
-use Rattle.base.proofs.Searches.{any-holds, any-intro, highest-least}
+use Rattle.base.proofs.Searches.{highest-least}
 use Rattle.page.specs.Plan.{places}
 use Rattle.page.specs.Header.{lastNumber}
-use Rattle.image.specs.Size.{pagesInBlock, blocks, pages, mostBlocks, sizeRight}
+use Rattle.image.specs.Size.{blocks, pages, mostBlocks, sizeRight}
 use Rattle.image.specs.Look.{formAt}
 use Rattle.image.specs.Step.{erase}
 use Rattle.image.specs.Power.{device, powerFor, run}
 use Rattle.image.specs.declared.Power.{Power}
 use Rattle.image.proofs.Looks.{sized}
 use Rattle.store.specs.Reply.{verdict, numberOf, isDone}
-use Rattle.store.specs.Kind.{pageIn, kindOf, coveredBy, headed, hasEvents}
-use Rattle.store.specs.Record.{Record, recordOf, pageOf, live, liveIn, hasLive, isDead, keysApart}
+use Rattle.store.specs.Kind.{kindOf, coveredBy, headed}
+use Rattle.store.specs.Record.{recordOf, isDead, keysApart}
 use Rattle.store.specs.Outcome.{left, mostSteps}
 use Rattle.store.specs.Find.{isFound, foundAt}
 use Rattle.store.specs.Format.{buffersRight, noNumbers}
@@ -42,25 +42,13 @@ use Rattle.store.proofs.Choices.{commit-chosen, keys-chosen}
 use Rattle.store.proofs.Finds.{found-is}
 use Rattle.store.proofs.Rebuilds.{fits-rebuilt, unfit-rebuilt}
 use Rattle.store.proofs.Decisions.{mount-map-length}
-use Rattle.store.proofs.Fits.{Fit, live-named}
+use Rattle.store.proofs.Fits.{live-headed}
 use Rattle.store.proofs.Mounts.{mounted-fit, sequence-most, epoch-most}
 use Rattle.store.proofs.Outcomes.{leaves, left-stepless, mount-outcome, mount-refused, mount-as-lent, mount-filled}
 use Rattle.store.proofs.Counts.{mount-few}
 use Rattle.store.proofs.Cuts.{run-left, taken-few}
 
 -- ---- what the pass over the blocks found
--- a block with a live page has an event, where the record fits
-live-headed : (img : List ℕ) (r : Record) → Fit img r → (b : ℕ) → hasLive (r .map) b ≡ true → hasEvents img b ≡ true
-unfolding hasLive
-live-headed img r fit b e =
-    let w = any-holds (liveIn (r .map) b) places 0 e in
-    let x = w .0 in
-    let two = and-true (live (r .map) x) (eqb (pageOf (r .map) x / pagesInBlock) b) (w .3) in
-    let n = live-named img r fit x (omega (arith, w .2)) (two .0) in
-    let q : pageOf (r .map) x / pagesInBlock ≡ b = eqb-true _ _ (two .1) in
-    let k : pageIn b (pageOf (r .map) x % pagesInBlock) ≡ pageOf (r .map) x = omega (arith, q) in
-    any-intro (λ i. headed (formAt img (pageIn b i))) pagesInBlock 0 (pageOf (r .map) x % pagesInBlock) (omega arith) (omega arith) (rw (k, n .whole, n .node))
-
 module _ (img : List ℕ) where
   surveyed-commit : surveyOf img (blocks img) .commit .at ≡ chosenCommit img
   unfolding surveyOf chosenCommit

@@ -1,5 +1,5 @@
 -- Mount, twice: what an accepted mount of any image leaves fits the image that it leaves, and a second mount of that image leaves the same, byte for byte.
-use Prim.Native.Nat.{ℕ, zero, suc, _+_, _/_, _%_, _<_, _≤_}
+use Prim.Native.Nat.{ℕ, zero, suc, _+_, _/_, _<_, _≤_}
 use native.Mathlib.Omega.{arith}
 use mathlib.Core.Path.{_≡_, refl, sym, ap, _∙_}
 use mathlib.Core.Logic.{_⊎_, inl, inr}
@@ -11,8 +11,8 @@ use borrow.Author.Tests.{eq-eqb}
 use Rattle.base.specs.Each.{Each}
 use Rattle.base.specs.Search.{whichFrom, highestFrom}
 use Rattle.base.specs.Fold.{listFrom}
-use Rattle.base.proofs.Choice.{and-intro, true-false}
-use Rattle.base.proofs.Searches.{any-intro, any-agree, all-agree, highest-bounds, highest-least}
+use Rattle.base.proofs.Choice.{true-false}
+use Rattle.base.proofs.Searches.{any-agree, all-agree, highest-bounds, highest-least}
 use Rattle.base.proofs.Folds.{listFrom-agree}
 use Rattle.page.specs.Frame.{payloadSize}
 use Rattle.page.specs.Plan.{places}
@@ -27,8 +27,8 @@ use Rattle.image.proofs.Plays.{playAll-nil, playAll-cons}
 use Rattle.image.proofs.Empties.{erase-empty}
 use Rattle.image.proofs.Step.{page-of-same}
 use Rattle.image.proofs.Forms.{form-same}
-use Rattle.store.specs.Kind.{pageIn, kindOf, keysEpoch, commitEpoch, coveredBy, headed, isChosen, hasEvents}
-use Rattle.store.specs.Record.{Record, pageOf, live, liveIn, hasLive, isDead, placeFits, fits}
+use Rattle.store.specs.Kind.{pageIn, kindOf, keysEpoch, commitEpoch, coveredBy, isChosen}
+use Rattle.store.specs.Record.{Record, pageOf, hasLive, isDead, placeFits, fits}
 use Rattle.store.specs.Find.{isFound, foundAt}
 use Rattle.store.specs.Mount.{chosenCommit, chosenKeys, coveredIn, letterIn, entryIn, decision, mountMap, mountScratch, entriesFit, isSpent, mountLetter, sequenceOf, epochOf, mountNumbers, mounted, isStray, isCoveredDead, isSwept, mountSteps, mountOf}
 use Rattle.store.specs.Outcome.{Outcome, leftWhole}
@@ -39,10 +39,10 @@ use Rattle.store.specs.declared.Kind.the-variants.{Other}
 use Rattle.store.specs.declared.Found.the-variants.{At}
 use Rattle.store.specs.declared.Reply.the-variants.{Done}
 use Rattle.store.proofs.Verdicts.{mount-taken, mount-done}
-use Rattle.store.proofs.BlockKinds.{data-agree, page-in, page-outside}
+use Rattle.store.proofs.BlockKinds.{data-agree, page-outside}
 use Rattle.store.proofs.Choices.{foremost-at, foremost-lowered, chosenBy, commit-by-epoch, keys-by-epoch}
 use Rattle.store.proofs.Finds.{found-is}
-use Rattle.store.proofs.Fits.{Vacant, Named, Fit, fits-agree, named-live}
+use Rattle.store.proofs.Fits.{Vacant, Named, Fit, fits-agree, named-live, live-in, live-headed}
 use Rattle.store.proofs.Decisions.{mount-map-agree, mount-scratch-agree}
 use Rattle.store.proofs.Mounts.{mounted-fit, mounted-fits}
 use Rattle.store.proofs.Outcomes.{mount-outcome}
@@ -230,8 +230,7 @@ module _ (img img' map letters scratch : List ℕ) (t : MountTaken img map lette
     commit-swept,
     keys-swept 0 (omega arith),
     keys-swept 1 (omega arith),
-    sequence-view img img'
-        (commitAt img) count-pages covered-swept note-swept,
+    sequence-view img img' (commitAt img) count-pages covered-swept note-swept,
     epochs-swept,
   )
 
@@ -249,27 +248,17 @@ module _ (img img' map letters scratch : List ℕ) (t : MountTaken img map lette
 
   -- the block of a live page stays
   live-kept : (x : ℕ) → x < places → Named img (mounted img .map) x → swept img (pageOf (mounted img .map) x / pagesInBlock) ≡ false
-  unfolding hasLive
-  live-kept x h n = kept (pageOf (mounted img .map) x) refl
+  live-kept x h n = go (swept img (pageOf (mounted img .map) x / pagesInBlock)) refl
     where
-      kept : (g : ℕ) → pageOf (mounted img .map) x ≡ g → swept img (pageOf (mounted img .map) x / pagesInBlock) ≡ false
-      kept g z = rw z (go (swept img (g / pagesInBlock)) refl)
-        where
-          here : hasLive (mounted img .map) (g / pagesInBlock) ≡ true
-          here =
-              any-intro (liveIn (mounted img .map) (g / pagesInBlock)) places 0 x (omega arith) (omega arith)
-              (and-intro (live (mounted img .map) x) (eqb (pageOf (mounted img .map) x / pagesInBlock) (g / pagesInBlock))
-              (named-live img (mounted img) fit (t .size) x n) (eq-eqb (pageOf (mounted img .map) x / pagesInBlock) (g / pagesInBlock) (rw z)))
+      b : ℕ
+      b = pageOf (mounted img .map) x / pagesInBlock
 
-          events : hasEvents img (g / pagesInBlock) ≡ true
-          events =
-              let form = rw z at (n .whole) in
-              any-intro (λ i. headed (formAt img (pageIn (g / pagesInBlock) i))) pagesInBlock 0 (g % pagesInBlock) (omega arith) (omega arith)
-              (let q : pageIn (g / pagesInBlock) (g % pagesInBlock) ≡ g = page-in g in rw (q, form, n .node))
+      here : hasLive (mounted img .map) b ≡ true
+      here = live-in (mounted img .map) b x h (named-live img (mounted img) fit (t .size) x n) refl
 
-          go : (v : Bool) → swept img (g / pagesInBlock) ≡ v → v ≡ false
-          go true e = absurd (true-false here (swept-unlive img (mounted img) (g / pagesInBlock) e (λ y. events)))
-          go false e = refl
+      go : (v : Bool) → swept img b ≡ v → v ≡ false
+      go true e = absurd (true-false here (swept-unlive img (mounted img) b e (live-headed img (mounted img) fit b)))
+      go false e = refl
 
   named-swept : (x : ℕ) → x < places → formAt img' (pageOf (mountMap img (commitAt img)) x) ≡ formAt img (pageOf (mountMap img (commitAt img)) x)
   unfolding mounted

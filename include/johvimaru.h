@@ -34,6 +34,8 @@
  *     enciphered, and uses no key.
  *   - No call puts a payload on the stack. What saves registers there while a call runs may do so: an
  *     interrupt, a signal, a dynamic linker that looks for memcpy at its first call.
+ *   - Of the functions for a bus, johvimaru_bus_program_byte leaves no more of a page than the byte that it
+ *     gives. The model of the chip is for tests, and leaves pages as they were sent on the stack.
  *
  * On the chip itself the 30 bytes of a page's header are not enciphered. That of a node tells its file, its
  * offset, its key position and the length of its payload, and after a commit or a wipe it may stand there
@@ -67,23 +69,68 @@
  *
  * THE CHIP
  *
- * After a call on the mirror its steps are repeated on the chip, one after the other in the same order:
- * what a power failure leaves is right only in that order. A write has one step, the page that the map now
- * has at the place; a gather has one for each page that it copies. For any call, its steps are learnt from
- * its form with n and k, with k = 0, on copies of image and record as they were before the call:
+ * The steps of a call on the mirror are repeated on the chip, one after the other in the same order: what
+ * a power failure leaves is right only in that order.
+ *
+ * The steps of a mount and of a format are read off the image that the call, made whole, has left:
+ *
+ *   - A mount's are the erases of exactly those blocks that are empty in that image, in ascending order
+ *     (proved as mount-steps-seen).
+ *   - A format's are the erases of all blocks in ascending order, then the programs of pages 0 to 41 in
+ *     ascending order, with the bytes that the image then has (proved as format-steps-seen).
+ *
+ * So the chip is told erases of blocks that were empty before, too. They make no difference to the image,
+ * and yet the chip must do them: that settles a block whose erase was cut (see POWER CUTS). Each step of any
+ * other call makes a difference (proved as calls-seen).
+ *
+ * A write has one step, the page that the map now has at the place; a gather has one for each page that it
+ * copies. For any call but mount and format, its steps are learnt from its form with n and k, with k = 0, on
+ * copies of image and record as they were before the call:
  *
  *   - The copy after n is what the image is after n steps. Where the reply is JOHVIMARU_POWER_CUT
  *     there are more; else there are no more than n.
  *   - The copies after n and after n + 1 differ by one step. A page that was empty and is no more is
  *     programmed with the 256 bytes that it now has. A block that is now empty and was not is erased.
- *   - The erase of an empty block makes no difference, and yet the chip must do it: that settles a block
- *     whose erase was cut (see POWER CUTS). Only format and mount have such steps. So lend these two copies
- *     in which the first byte of each empty block is 00h. They do to such a block what they do to an empty
- *     one: reply, record and the list of their erases are the same, and each erase now makes a difference.
- *     The mirror is not given that byte; when the call is done the last copy has none of them left.
  *
  * Two images far apart do not show the steps between them: format erases a block and then programs it,
  * and a call may program a page and erase it again before it is done. tests/c/chip.c is an example.
+ *
+ * Where the chip fails in a step, or its power does, the steps after it are not begun. The record is void
+ * then: the chip is read into the mirror, and mounted.
+ *
+ *
+ * A CHIP ON A BUS
+ *
+ * A chip with the commands of ONFI takes bytes one by one, each marked as command, address or data, and
+ * gives bytes back. The mark is that of two lines: CLE is high for a command, ALE for an address, neither
+ * for data. What is sent for a step, where C is a command, A an address and D data:
+ *
+ *     program of a page    C FFh, C 80h, A column 00h 00h, A row, D 256 bytes, C 10h, C 70h
+ *     erase of a block     C FFh, C 60h, A row, C D0h, C 70h
+ *
+ * The row is the page, for an erase the block's first page, as three bytes, the low one first. The library
+ * tells these bytes one by one:
+ *
+ *   1. For i = 0 to JOHVIMARU_BUS_PROGRAM_LENGTH - 1, or JOHVIMARU_BUS_ERASE_LENGTH - 1, it asks for byte i
+ *      by johvimaru_bus_program_byte or johvimaru_bus_erase_byte, and sends it with its mark.
+ *   2. After the commands FFh, 10h and D0h the chip works. The caller waits for its ready line before it
+ *      sends the next byte.
+ *   3. After the last byte it receives one, the status. johvimaru_bus_reply says whether the step was done.
+ *      Where it was not, the chip has failed: see THE CHIP.
+ *
+ * To read a page the caller sends C FFh, C 00h, A column 00h 00h, A row and C 30h, waits for the ready line,
+ * and receives 256 bytes.
+ *
+ * What the chip does is written down as a model: a few registers and a rule for each byte. Proved is that
+ * after these bytes, for the program of any empty page or the erase of any block and from any registers, the
+ * step is done on the model's image and the status is not failed; and that where they stop and a reset
+ * follows, the step is undone or complete.
+ * Not proved, and the caller's, are what the model does not have: time, the ready line (here status bit 6,
+ * ready, is always 1), bits that flip, and the wires. A power failure after 10h or D0h, while the chip
+ * works, is one within a step: see POWER CUTS.
+ *
+ * johvimaru_model_send and johvimaru_model_receive are the model, to try a driver against.
+ * tests/c/bus.c is an example.
  *
  *
  * FILES, OFFSETS AND PLACES
@@ -110,9 +157,10 @@
  * erases blocks of such pages. An image that this version has written must not be given to version 1.
  * Version 2 has no gather, and reads, commits and wipes an image on which gathers were made, whole or cut, as
  * this version does. A caller of version 2 compiles anew: there are two calls more and the reply 15, which
- * these alone give. The mount of version 2, and of this version before the release 0.5.0, finds the same
+ * these alone give. The mount of version 2, and of version 3 before the release 0.5.0, finds the same
  * record, but leaves empty blocks and data blocks without a live page as they are. So a caller that was
  * written for it has one thing to change: it must have the chip erase empty blocks too, as THE CHIP says.
+ * Version 3 has no functions for a bus. A caller of version 3 has nothing to change.
  *
  *
  * THE WORKING RECORD
@@ -176,8 +224,9 @@
  * - A buffer goes over as a pointer and a length, in elements. The pointer is not null, even where the
  *   length is 0, is aligned for its type, and so many elements can be read there, and written where
  *   the pointer is not to const. A length is at most PTRDIFF_MAX bytes.
- * - numbers points to five elements, and the length of a read to one. Neither has a length beside it,
- *   and neither pointer is null.
+ * - numbers points to five elements, and the length of a read to one. So do, of the functions for a bus,
+ *   registers to five, page_register to 256, cycle to two and byte to one. They have no length beside them,
+ *   and no pointer is null.
  * - Buffers of one call that the call may write do not overlap any other buffer of that call.
  * - Nothing else writes the buffers while the call runs, nor reads those that it may write.
  * - The chip does the steps in the order in which they come, and a step is begun only when the one
@@ -201,7 +250,7 @@ extern "C" {
 #endif
 
 /* The version of the library's calls and constants: those of another one are others. */
-#define JOHVIMARU_VERSION 3
+#define JOHVIMARU_VERSION 4
 
 /* ---- Sizes, of a type in which an image's bytes can be counted whatever an int holds */
 
@@ -234,6 +283,13 @@ extern "C" {
 /* Bytes of noise that format, commit and wipe take: a key of 16 bytes for each of 448 key positions. */
 #define JOHVIMARU_NOISE_SIZE 7168UL
 
+/* Bytes that are sent to a chip on a bus for a step, until its status is received. */
+#define JOHVIMARU_BUS_PROGRAM_LENGTH 265UL
+#define JOHVIMARU_BUS_ERASE_LENGTH 7UL
+
+/* Registers of the model of a chip. */
+#define JOHVIMARU_MODEL_REGISTERS_LENGTH 5UL
+
 /* Stands in a map for none. */
 #define JOHVIMARU_NONE 65535U
 
@@ -247,6 +303,12 @@ extern "C" {
 #define JOHVIMARU_KEYS_0 2
 #define JOHVIMARU_KEYS_1 3
 #define JOHVIMARU_COMMIT 4
+
+/* ---- Marks of a byte on a bus */
+
+#define JOHVIMARU_BUS_COMMAND 0
+#define JOHVIMARU_BUS_ADDRESS 1
+#define JOHVIMARU_BUS_DATA 2
 
 /* ---- Replies */
 
@@ -262,7 +324,7 @@ extern "C" {
 #define JOHVIMARU_REFUSED_FILE 4
 /* The offset is not below the file's count. */
 #define JOHVIMARU_REFUSED_OFFSET 5
-/* The payload is not 1 to 224 bytes, or the output for it is not 224 bytes. */
+/* The payload is not 1 to 224 bytes, or the output for it is not 224 bytes. On a bus: not 256 bytes. */
 #define JOHVIMARU_REFUSED_PAYLOAD 6
 /* The record does not fit the image. */
 #define JOHVIMARU_REFUSED_RECORD 7
@@ -270,7 +332,7 @@ extern "C" {
 #define JOHVIMARU_NOTHING_THERE 8
 /* No key is free; a commit replaces the deleted ones. */
 #define JOHVIMARU_NO_FREE_KEY 9
-/* There is no page to take, or no empty block. */
+/* There is no page to take, or no empty block. On a bus: no such page or block, or the chip failed. */
 #define JOHVIMARU_NO_ROOM 10
 /* The sequences or epochs, which end at 99,999,999, do not last for the call. */
 #define JOHVIMARU_NUMBERS_SPENT 11
@@ -601,6 +663,78 @@ uint32_t johvimaru_wipe_cut(uint8_t *image, size_t image_length,
                             const uint8_t *noise, size_t noise_length,
                             uint32_t file, uint32_t offset,
                             uint64_t n, size_t k);
+
+/* ---- A chip on a bus */
+
+/*
+ * Tells byte i of those that program a page, of which there are JOHVIMARU_BUS_PROGRAM_LENGTH.
+ *
+ *   page      0 to 4,095: the page, counted from the start of the image.
+ *   bytes     its 256 bytes.
+ *   i         which byte, from 0 on. Behind the last one it is the command 70h again.
+ *   cycle     two bytes: one for the mark, then the byte that is sent.
+ *
+ * Tests, in order: JOHVIMARU_REFUSED_PAYLOAD (bytes not of 256), JOHVIMARU_NO_ROOM (page). Refused, cycle is
+ * as it was, and nothing of the step is to be sent.
+ */
+uint32_t johvimaru_bus_program_byte(uint32_t page, const uint8_t *bytes, size_t bytes_length,
+                                    size_t i, uint8_t cycle[2]);
+
+/*
+ * Tells byte i of those that erase a block, of which there are JOHVIMARU_BUS_ERASE_LENGTH.
+ *
+ *   block     0 to 255.
+ *   i         which byte, from 0 on. Behind the last one it is the command 70h again.
+ *   cycle     two bytes: one for the mark, then the byte that is sent.
+ *
+ * Tests: JOHVIMARU_NO_ROOM (block). Refused, cycle is as it was, and nothing of the step is to be sent.
+ */
+uint32_t johvimaru_bus_erase_byte(uint32_t block, size_t i, uint8_t cycle[2]);
+
+/*
+ * Tells how a step ended, by the status byte that was received after its last byte: JOHVIMARU_DONE, or
+ * JOHVIMARU_NO_ROOM where bit 0 says that the chip failed.
+ */
+uint32_t johvimaru_bus_reply(uint8_t status);
+
+/*
+ * Sends a byte to the model of a chip.
+ *
+ *   image     what is on the chip.
+ *   registers five numbers: the state (0 idle, 1 status, 2 output, 3 read, 4 program, 5 erase), the address
+ *             bytes so far (an erase counts from 2, so that an address is whole at 5), the column, the row,
+ *             and 1 for failed, else 0. To begin with: 0, 0, 0, 0, 0, as after a reset.
+ *   page_register
+ *             256 bytes: those of a program so far, FFh elsewhere. To begin with: all FFh.
+ *   mark      JOHVIMARU_BUS_COMMAND, JOHVIMARU_BUS_ADDRESS or JOHVIMARU_BUS_DATA. A byte of any other mark
+ *             counts as a command that there is not.
+ *   byte      the byte.
+ *
+ * Tests: JOHVIMARU_REFUSED_IMAGE. Refused, nothing is changed. Any registers are taken: those that no bytes
+ * over this image leave count as failed, with no command.
+ *
+ * Done, the registers are the next ones. Failed is set and the command dropped by a byte that is out of
+ * place, by the last byte of an address if its column or row is outside, and by data behind the page's end.
+ * Failed is cleared by 00h, 60h and 80h where they begin a command, and by FFh, which drops any command.
+ * 10h programs the page with the page register, where it is empty; where not, it sets failed and changes
+ * nothing. D0h erases the block, whatever the low four bits of the row are.
+ */
+uint32_t johvimaru_model_send(uint8_t *image, size_t image_length,
+                              uint32_t registers[JOHVIMARU_MODEL_REGISTERS_LENGTH],
+                              uint8_t page_register[JOHVIMARU_PAGE_SIZE],
+                              uint32_t mark, uint8_t byte);
+
+/*
+ * Receives a byte from the model of a chip, into byte[0]: after 30h those of the page from the column on,
+ * and FFh behind its end; after 70h the status, 40h, or 41h for failed; at any other time FFh.
+ *
+ * Tests: JOHVIMARU_REFUSED_IMAGE. Refused, byte[0] is FFh, and the registers are as they were. Done, the
+ * column may be one higher, and nothing else is changed.
+ */
+uint32_t johvimaru_model_receive(const uint8_t *image, size_t image_length,
+                                 uint32_t registers[JOHVIMARU_MODEL_REGISTERS_LENGTH],
+                                 const uint8_t page_register[JOHVIMARU_PAGE_SIZE],
+                                 uint8_t byte[1]);
 
 /* ---- Words, of johvimaru.c */
 

@@ -10,8 +10,8 @@
 //! path from the top of the repository, by the bytes of these paths. In a shell, there:
 //!
 //! ```text
-//! { grep -E '^(base|cipher|page|image|store|recorder):' crates.txt
-//!   find crates/{base,cipher,page,image,store,recorder}/{src,specs,proofs} -type f |
+//! { grep -E '^(base|cipher|page|image|chip|store|recorder):' crates.txt
+//!   find crates/{base,cipher,page,image,chip,store,recorder}/{src,specs,proofs} -type f |
 //!     LC_ALL=C sort | xargs sha256sum; } | sha256sum
 //! ```
 

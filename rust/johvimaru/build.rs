@@ -20,8 +20,15 @@ const FOLDER: &str = "JOHVIMARU_LIB_DIR";
 const KEPT: &str = "lib/x86_64";
 const BUILT: &str = "target/staticlib";
 /// The crates in the order in which `rt` proves them, and how many seconds each takes on two cores.
-const CRATES: [(&str, u32); 6] =
-    [("base", 2), ("cipher", 30), ("page", 60), ("image", 25), ("store", 150), ("recorder", 30)];
+const CRATES: [(&str, u32); 7] = [
+    ("base", 2),
+    ("cipher", 30),
+    ("page", 60),
+    ("image", 25),
+    ("chip", 30),
+    ("store", 150),
+    ("recorder", 30),
+];
 
 fn main() {
     println!("cargo::rerun-if-env-changed={FOLDER}");

@@ -1,7 +1,8 @@
 /*
- * How a device drives its chip: it makes each call on copies of a mirror, learns the call's steps from the
- * form with n and k, and repeats them on the chip in the same order, the erases of empty blocks too. The
- * power fails in an erase, and a mount settles the block. It is C and C++.
+ * How a device drives its chip: it makes each call on copies of a mirror and repeats its steps on the chip in
+ * the same order, the erases of empty blocks too. The steps of a format and of a mount are read off the image
+ * that the call leaves, those of the others are learnt from the form with n and k. The power fails in an
+ * erase, and a mount settles the block. It is C and C++.
  */
 #include <inttypes.h>
 #include <stdio.h>
@@ -76,7 +77,7 @@ struct store {
     uint32_t numbers[JOHVIMARU_NUMBERS_LENGTH];
 };
 
-static struct store store, lent, now, next;
+static struct store store, before, now, next;
 
 static uint8_t noise[JOHVIMARU_NOISE_SIZE];
 static uint8_t payload[40];
@@ -132,60 +133,110 @@ static uint32_t wipe(struct store *s, uint64_t n, size_t k)
                               k);
 }
 
-/* ---- Steps */
+/* ---- Steps: on the chip, and when they have ended there, on the mirror */
 
-/*
- * Gives each empty block the first byte 00h. Format and mount erase empty blocks, and without that byte such
- * an erase would make no difference. They do to a block with it what they do to an empty one.
- */
-static void mark_empty_blocks(uint8_t *image)
+static uint64_t steps;
+
+/* 0: the power failed. */
+static int program(size_t page, const uint8_t *bytes)
 {
-    for (size_t at = 0; at < IMAGE_SIZE; at += JOHVIMARU_BLOCK_SIZE) {
-        if (all_erased(image + at, JOHVIMARU_BLOCK_SIZE)) {
-            image[at] = 0;
-        }
+    steps++;
+    if (!program_page(page, bytes)) {
+        return 0;
     }
+    memcpy(store.image + page * JOHVIMARU_PAGE_SIZE, bytes, JOHVIMARU_PAGE_SIZE);
+    return 1;
 }
 
-/* Repeats the step by which two images differ, on the chip and then on the mirror. 0: the power failed. */
+/* 0: the power failed. */
+static int erase(size_t block)
+{
+    steps++;
+    if (!erase_block(block)) {
+        return 0;
+    }
+    memset(store.image + block * JOHVIMARU_BLOCK_SIZE, 0xFF, JOHVIMARU_BLOCK_SIZE);
+    return 1;
+}
+
+/* Repeats the step by which two images differ. 0: the power failed. */
 static int repeat_step(const uint8_t *before, const uint8_t *after)
 {
     for (size_t block = 0; block < BLOCKS; block++) {
         size_t at = block * JOHVIMARU_BLOCK_SIZE;
         if (memcmp(before + at, after + at, JOHVIMARU_BLOCK_SIZE) != 0
             && all_erased(after + at, JOHVIMARU_BLOCK_SIZE)) {
-            if (!erase_block(block)) {
-                return 0;
-            }
-            memset(store.image + at, 0xFF, JOHVIMARU_BLOCK_SIZE);
-            return 1;
+            return erase(block);
         }
     }
     for (size_t page = 0; page < IMAGE_SIZE / JOHVIMARU_PAGE_SIZE; page++) {
         size_t at = page * JOHVIMARU_PAGE_SIZE;
         if (memcmp(before + at, after + at, JOHVIMARU_PAGE_SIZE) != 0) {
-            if (!program_page(page, after + at)) {
-                return 0;
-            }
-            memcpy(store.image + at, after + at, JOHVIMARU_PAGE_SIZE);
-            return 1;
+            return program(page, after + at);
         }
     }
     return 1;
 }
 
-/* Makes a call on the lent copies and repeats its steps, after each of which chip and mirror are the same. */
-static void drive(const char *name, call *call)
+/* Repeats the steps of a mount that has left an image: it has erased the blocks that are empty there. */
+static int repeat_mount(const uint8_t *image)
 {
-    uint64_t n = 0;
+    for (size_t block = 0; block < BLOCKS; block++) {
+        if (all_erased(image + block * JOHVIMARU_BLOCK_SIZE, JOHVIMARU_BLOCK_SIZE)
+            && !erase(block)) {
+            return 0;
+        }
+    }
+    return 1;
+}
+
+/* Repeats the steps of a format that has left an image: it has erased all blocks, then programmed 42 pages. */
+static int repeat_format(const uint8_t *image)
+{
+    for (size_t block = 0; block < BLOCKS; block++) {
+        if (!erase(block)) {
+            return 0;
+        }
+    }
+    for (size_t page = 0; page < 42; page++) {
+        if (!program(page, image + page * JOHVIMARU_PAGE_SIZE)) {
+            return 0;
+        }
+    }
+    return 1;
+}
+
+/* ---- Calls */
+
+/* A call was done, and its steps have ended on the chip: there is then what the call has left. */
+static void done(const char *name, uint32_t reply, const struct store *left)
+{
+    if (memcmp(left->image, flash, IMAGE_SIZE) != 0
+        || memcmp(store.image, flash, IMAGE_SIZE) != 0) {
+        printf("%s: the call leaves another image\n", name);
+        exit(1);
+    }
+    store = *left;
+    printf("%s: reply %" PRIu32 ", steps %" PRIu64 "\n", name, reply, steps);
+}
+
+static void say_power_failed(const char *name)
+{
+    printf("%s: the power failed in step %" PRIu64 "\n", name, steps);
+}
+
+/* Makes a call on copies and repeats its steps, after each of which chip and mirror are the same. */
+static void on_chip(const char *name, call *call)
+{
     uint32_t reply = JOHVIMARU_POWER_CUT;
-    now = lent;
-    while (reply == JOHVIMARU_POWER_CUT) {
-        n++;
-        next = lent;
+    before = store;
+    now = store;
+    steps = 0;
+    for (uint64_t n = 1; reply == JOHVIMARU_POWER_CUT; n++) {
+        next = before;
         reply = call(&next, n, 0);
         if (!repeat_step(now.image, next.image)) {
-            printf("%s: the power failed in step %" PRIu64 "\n", name, n);
+            say_power_failed(name);
             return;
         }
         now = next;
@@ -194,28 +245,26 @@ static void drive(const char *name, call *call)
             exit(1);
         }
     }
-    if (memcmp(now.image, flash, IMAGE_SIZE) != 0) {
-        printf("%s: the call leaves another image\n", name);
-        exit(1);
-    }
-    store = now;
-    printf("%s: reply %" PRIu32 ", steps %" PRIu64 "\n", name, reply, n);
+    done(name, reply, &now);
 }
 
-/* A call that erases no empty block. */
-static void on_chip(const char *name, call *call)
+/* A format or a mount: the chip is read, the call is made whole on a copy, and then its steps are repeated. */
+static void from_chip(const char *name, call *call, int (*repeat)(const uint8_t *image))
 {
-    lent = store;
-    drive(name, call);
-}
-
-/* A format or a mount. The chip is read first. */
-static void from_chip(const char *name, call *call)
-{
+    uint32_t reply;
     memcpy(store.image, flash, IMAGE_SIZE);
-    lent = store;
-    mark_empty_blocks(lent.image);
-    drive(name, call);
+    next = store;
+    steps = 0;
+    reply = call(&next, FOREVER, 0);
+    if (reply != JOHVIMARU_DONE) {
+        printf("%s: reply %" PRIu32 ", nothing is done to the chip\n", name, reply);
+        return;
+    }
+    if (!repeat(next.image)) {
+        say_power_failed(name);
+        return;
+    }
+    done(name, reply, &next);
 }
 
 /* ---- Reads, on the chip itself */
@@ -255,7 +304,8 @@ int main(void)
 {
     const uint8_t counts[JOHVIMARU_FILES] = JOHVIMARU_FILE_COUNTS;
     memset(payload, 'p', sizeof payload);
-    from_chip("format", format);
+    from_chip("mount", mount, repeat_mount);
+    from_chip("format", format, repeat_format);
     on_chip("write", write_node);
     on_chip("write", write_node);
 
@@ -270,14 +320,14 @@ int main(void)
     on_chip("wipe", wipe);
 
     /* Whenever the power comes on, a mount erases the spare blocks, also after a call that was done. */
-    from_chip("mount", mount);
+    from_chip("mount", mount, repeat_mount);
 
     /* The power fails in the first erase of a commit. A mount settles the block before it is used again. */
     power = 16;
     on_chip("commit", commit);
     print_unsettled();
     power = FOREVER;
-    from_chip("mount", mount);
+    from_chip("mount", mount, repeat_mount);
     print_unsettled();
     on_chip("commit", commit);
     return 0;

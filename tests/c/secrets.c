@@ -83,6 +83,34 @@ static int write_file(void)
     return failed;
 }
 
+/* ---- The functions for a bus: the first page of key block 0 goes over it, to the last page of the image. */
+
+static uint8_t cycle[2];
+static uint32_t registers[JOHVIMARU_MODEL_REGISTERS_LENGTH];
+static uint8_t page_register[JOHVIMARU_PAGE_SIZE];
+static size_t at;
+
+#define KEY_PAGE image + numbers[JOHVIMARU_KEYS_0] * JOHVIMARU_BLOCK_SIZE, JOHVIMARU_PAGE_SIZE
+#define MODEL image, sizeof image, registers, page_register
+CALL(tell_byte, johvimaru_bus_program_byte(4095, KEY_PAGE, at, cycle))
+CALL(send_byte, johvimaru_model_send(MODEL, cycle[0], cycle[1]))
+
+/* Looks at the last byte of the page, and at the one that has the page programmed. */
+static int look_at_bus(void)
+{
+    int failed = 0;
+    for (at = 0; at < JOHVIMARU_BUS_PROGRAM_LENGTH - 3; at++) {
+        tell_byte();
+        send_byte();
+        failed |= reply != JOHVIMARU_DONE;
+    }
+    failed |= look("byte of a program", tell_byte);
+    failed |= look("the model, data", send_byte);
+    at++;
+    tell_byte();
+    return failed | look("the model, 10h", send_byte);
+}
+
 int main(void)
 {
     int status;
@@ -102,5 +130,6 @@ int main(void)
     payload_length = 40;
     status |= look("write of 40 bytes", write_node);
     status |= look("read of 40 bytes", read_node);
+    status |= look_at_bus();
     return status;
 }

@@ -29,6 +29,33 @@ static int too_much(const char *name, void (*call)(void))
     return 1;
 }
 
+/* ---- The functions for a bus */
+
+static uint8_t cycle[2];
+static uint8_t received[1];
+static uint32_t registers[JOHVIMARU_MODEL_REGISTERS_LENGTH];
+static uint8_t page_register[JOHVIMARU_PAGE_SIZE];
+static size_t at;
+
+#define MODEL image, sizeof image, registers, page_register
+CALL(program_byte, johvimaru_bus_program_byte(4095, noise, JOHVIMARU_PAGE_SIZE, at, cycle))
+CALL(erase_byte, johvimaru_bus_erase_byte(255, at, cycle))
+CALL(status_reply, johvimaru_bus_reply(received[0]))
+CALL(model_send, johvimaru_model_send(MODEL, cycle[0], cycle[1]))
+CALL(model_receive, johvimaru_model_receive(MODEL, received))
+
+/* Each byte of a step, told by a function, sent to the model, and the status. */
+static int too_much_in_step(void (*tell)(void), size_t length)
+{
+    int status = 0;
+    for (at = 0; at < length; at++) {
+        status |= too_much("a byte of a step", tell);
+        status |= too_much("send", model_send);
+    }
+    status |= too_much("receive", model_receive);
+    return status | too_much("the reply of a step", status_reply);
+}
+
 int main(void)
 {
     int status = too_much("format", format);
@@ -46,5 +73,7 @@ int main(void)
     payload_length = 5;
     status |= too_much("write of 5 bytes", write_node);
     status |= too_much("read of 5 bytes", read_node);
+    status |= too_much_in_step(erase_byte, JOHVIMARU_BUS_ERASE_LENGTH);
+    status |= too_much_in_step(program_byte, JOHVIMARU_BUS_PROGRAM_LENGTH);
     return status;
 }

@@ -1,5 +1,5 @@
-//! The functions of the library `harness`, as safe Rust functions. Those of `recorder` are in the crate
-//! `johvimaru`.
+//! The functions of the library `harness`, as safe Rust functions, and those of `recorder` for the chip's bus.
+//! Its others are in the crate `johvimaru`.
 //!
 //! A lent slice goes over as a pointer and a length, and the reply comes back as a number.
 //! Nothing compares these declarations with the Rattle source: a change there is a change here.
@@ -189,5 +189,117 @@ pub mod page {
     pub fn commit_valid(payload: &[u8], part: u32) -> u32 {
         // SAFETY: as in `form`.
         unsafe { harness_commit_valid(payload.as_ptr(), payload.len(), part) }
+    }
+}
+
+/// The functions of the library `recorder` for the chip's bus, and those of `harness` that drive a chip over it.
+pub mod bus {
+    use crate::model::bus::{Raw, Sent};
+
+    extern "C" {
+        fn johvimaru_bus_program_byte(
+            page: u32,
+            bytes: *const u8,
+            bytes_length: usize,
+            i: usize,
+            cycle: *mut u8,
+        ) -> u32;
+        fn johvimaru_bus_erase_byte(block: u32, i: usize, cycle: *mut u8) -> u32;
+        fn johvimaru_bus_reply(status: u8) -> u32;
+        fn johvimaru_model_send(
+            image: *mut u8,
+            image_length: usize,
+            registers: *mut u32,
+            page_register: *mut u8,
+            mark: u32,
+            byte: u8,
+        ) -> u32;
+        fn johvimaru_model_receive(
+            image: *const u8,
+            image_length: usize,
+            registers: *mut u32,
+            page_register: *const u8,
+            byte: *mut u8,
+        ) -> u32;
+        fn harness_chip_program(
+            image: *mut u8,
+            image_length: usize,
+            registers: *mut u32,
+            page_register: *mut u8,
+            page: u32,
+            bytes: *const u8,
+            bytes_length: usize,
+        ) -> u32;
+        fn harness_chip_erase(
+            image: *mut u8,
+            image_length: usize,
+            registers: *mut u32,
+            page_register: *mut u8,
+            block: u32,
+        ) -> u32;
+    }
+
+    /// The driver's byte `i` for the program of a page: mark and byte go into `cycle`.
+    pub fn program_byte(page: u32, bytes: &[u8], i: usize, cycle: &mut [u8; 2]) -> u32 {
+        // SAFETY: the pointer to the bytes goes with their length, the other is that of an array of two
+        // bytes, and both are borrowed for the whole call.
+        unsafe {
+            johvimaru_bus_program_byte(page, bytes.as_ptr(), bytes.len(), i, cycle.as_mut_ptr())
+        }
+    }
+
+    /// The driver's byte `i` for the erase of a block: mark and byte go into `cycle`.
+    pub fn erase_byte(block: u32, i: usize, cycle: &mut [u8; 2]) -> u32 {
+        // SAFETY: as in `program_byte`.
+        unsafe { johvimaru_bus_erase_byte(block, i, cycle.as_mut_ptr()) }
+    }
+
+    /// The driver's reply by the status that it received.
+    pub fn reply(status: u8) -> u32 {
+        // SAFETY: nothing is lent.
+        unsafe { johvimaru_bus_reply(status) }
+    }
+
+    /// Sends a byte to the model of the chip.
+    pub fn send(image: &mut [u8], raw: &mut Raw, sent: Sent) -> u32 {
+        let (numbers, page) = (raw.numbers.as_mut_ptr(), raw.page.as_mut_ptr());
+        // SAFETY: the image goes over with its length, and the others are arrays of five numbers and of 256
+        // bytes. All are borrowed mutably for the whole call, so no two overlap.
+        unsafe {
+            let (image, length) = (image.as_mut_ptr(), image.len());
+            johvimaru_model_send(image, length, numbers, page, sent.mark(), sent.byte())
+        }
+    }
+
+    /// Receives a byte from the model of the chip, into `byte`.
+    pub fn receive(image: &[u8], raw: &mut Raw, byte: &mut u8) -> u32 {
+        let (numbers, page) = (raw.numbers.as_mut_ptr(), raw.page.as_ptr());
+        // SAFETY: as in `send`; the page register and the image are only read.
+        unsafe { johvimaru_model_receive(image.as_ptr(), image.len(), numbers, page, byte) }
+    }
+
+    /// Programs a page over the bus.
+    pub fn program(image: &mut [u8], raw: &mut Raw, page: u32, bytes: &[u8]) -> u32 {
+        let (numbers, register) = (raw.numbers.as_mut_ptr(), raw.page.as_mut_ptr());
+        // SAFETY: as in `send`; the bytes go over with their length and are only read.
+        unsafe {
+            let (image, length) = (image.as_mut_ptr(), image.len());
+            harness_chip_program(
+                image,
+                length,
+                numbers,
+                register,
+                page,
+                bytes.as_ptr(),
+                bytes.len(),
+            )
+        }
+    }
+
+    /// Erases a block over the bus.
+    pub fn erase(image: &mut [u8], raw: &mut Raw, block: u32) -> u32 {
+        let (numbers, page) = (raw.numbers.as_mut_ptr(), raw.page.as_mut_ptr());
+        // SAFETY: as in `send`.
+        unsafe { harness_chip_erase(image.as_mut_ptr(), image.len(), numbers, page, block) }
     }
 }

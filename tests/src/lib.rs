@@ -2,11 +2,13 @@
 //!
 //! The store itself is the crate `johvimaru`, over the library `recorder`.
 //!
-//! - [`ffi`]: the functions of the library `harness`, as safe Rust functions.
+//! - [`ffi`]: the functions of the library `harness`, and those of `recorder` for the chip's bus, as safe Rust
+//!   functions.
 //! - [`side_by_side`]: the same call by library and second implementation, and their first difference.
 //! - [`kept`]: a store of both with its plain book.
 //! - [`model`]: second implementations, written from the public documents alone.
 //! - [`random_lists`]: lists of calls of the store.
+//! - [`bus_streams`]: streams of bytes on the chip's bus.
 //! - [`store_lists`]: lists of calls on library and second implementation side by side.
 //! - [`sources`]: the functions of the sources in Rattle, and which calls which.
 //! - [`dividing`]: the writer of columns as it was when it divided, with its divisions counted.
@@ -21,6 +23,7 @@
 //! - [`shared_library`], [`databases`] and [`timing`]: what speed is compared with, and the clock.
 
 pub mod another_build;
+pub mod bus_streams;
 pub mod databases;
 pub mod dividing;
 mod driven_chip;

@@ -1,7 +1,7 @@
 //! The C header: programs that use it, as C and as C++, its constants, and the words of johvimaru.c.
 
-use johvimaru::raw::{DONE, POWER_CUT};
-use johvimaru::Refusal;
+use johvimaru::raw::{Registers, DONE, POWER_CUT};
+use johvimaru::{Cycles, Mark, Refusal};
 use johvimaru_tests::model::files::{COUNTS, FILES, PLACES};
 use johvimaru_tests::model::image::{BLOCK, SIZES};
 use johvimaru_tests::model::keys::NOISE;
@@ -37,9 +37,9 @@ fn run(name: &str, compiler: &str, words: &[&str]) -> String {
     printed
 }
 
-/// What the example must print.
-fn example_text() -> String {
-    std::fs::read_to_string(path("tests/c/example.txt")).expect("the text is there")
+/// What a program of tests/c must print.
+fn text(name: &str) -> String {
+    std::fs::read_to_string(path("tests/c").join(name)).expect("the text is there")
 }
 
 /// A compiler of each language, and the words that name the language.
@@ -49,15 +49,28 @@ const LANGUAGES: [(&str, [&str; 3]); 2] =
 #[test]
 fn the_example_in_both_languages() {
     for (compiler, words) in LANGUAGES {
-        assert_eq!(run("example", compiler, &words), example_text(), "{compiler}");
+        assert_eq!(run("example", compiler, &words), text("example.txt"), "{compiler}");
     }
+}
+
+/// The bytes of each step, sent to the model of a chip, leave it as the image. Where they stop within a write, a
+/// mount finds what was there before, or what was written.
+#[test]
+fn the_bytes_on_a_bus() {
+    for (compiler, words) in LANGUAGES {
+        assert_eq!(run("bus", compiler, &words), text("bus.txt"), "{compiler}");
+    }
+    let page = std::fs::read_to_string(path("docs/USING.md")).expect("the page is there");
+    let shown: String = text("bus.txt").lines().map(|line| format!("    {line}\n")).collect();
+    assert!(page.contains(&format!("&& ./bus\n{shown}\n")), "docs/USING.md shows other lines");
 }
 
 /// The steps of each call, as the header says that they are learnt, leave a chip as the image, and no block of it
 /// unsettled that is then programmed.
 #[test]
 fn the_steps_on_a_chip() {
-    let text = "format: reply 0, steps 50\nwrite: reply 0, steps 1\nwrite: reply 0, steps 1\n\
+    let text = "mount: reply 13, nothing is done to the chip\n\
+                format: reply 0, steps 50\nwrite: reply 0, steps 1\nwrite: reply 0, steps 1\n\
                 read: reply 0, 40 bytes, the payload, then 184 stars\n\
                 read: reply 8, 0 bytes, none, then 224 stars\n\
                 gather: reply 0, steps 1\ncommit: reply 0, steps 46\n\
@@ -89,7 +102,10 @@ fn the_secrets_that_calls_leave() {
                 write, stack: key, vectors:\n\
                 wipe, stack:, vectors: key\n\
                 write of 40 bytes, stack: key, vectors:\n\
-                read of 40 bytes, stack: key, vectors: payload\n";
+                read of 40 bytes, stack: key, vectors: payload\n\
+                byte of a program, stack:, vectors:\n\
+                the model, data, stack: key, vectors:\n\
+                the model, 10h, stack: key, vectors:\n";
     assert_eq!(run("secrets", "cc", &["-std=c11", "-Wl,-z,now", "-x", "c"]), text);
 }
 
@@ -157,6 +173,9 @@ fn the_constants() {
         ("NUMBERS_LENGTH", 5),
         ("SCRATCH_LENGTH", SCRATCH),
         ("NOISE_SIZE", NOISE),
+        ("BUS_PROGRAM_LENGTH", Cycles::program(0, &[0; PAGE]).expect("there is a page 0").len()),
+        ("BUS_ERASE_LENGTH", Cycles::erase(0).expect("there is a block 0").len()),
+        ("MODEL_REGISTERS_LENGTH", Registers::reset().numbers.len()),
     ];
     for (name, size) in sizes {
         assert_eq!(defined_wide(&header, name, "UL"), size, "{name}");
@@ -166,12 +185,15 @@ fn the_constants() {
     assert_eq!(text_of(&header, "FILE_COUNTS"), format!("{{{counts}}}"));
     let indices = ["NEXT_SEQUENCE", "NEXT_EPOCH", "KEYS_0", "KEYS_1", "COMMIT"];
     assert_eq!(indices.map(|name| defined(&header, name)), [0, 1, 2, 3, 4]);
+    let marks = ["BUS_COMMAND", "BUS_ADDRESS", "BUS_DATA"];
+    let numbers = [Mark::Command, Mark::Address, Mark::Data].map(|mark| mark as u32);
+    assert_eq!(marks.map(|name| defined(&header, name)), numbers);
     for (name, reply) in replies() {
         assert_eq!(defined(&header, name), reply, "{name}");
     }
     // The others are the guard against a second inclusion, the version, none, the counts and the size of
     // the stack.
-    let all = sizes.len() + indices.len() + replies().len() + 5;
+    let all = sizes.len() + indices.len() + marks.len() + replies().len() + 5;
     let defines = header.lines().filter(|line| line.starts_with("#define JOHVIMARU_")).count();
     assert_eq!(defines, all, "a constant of the header is not looked at here");
 }

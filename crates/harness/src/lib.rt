@@ -1,4 +1,5 @@
 // C entry points into the inner layers, for tests and benchmarks. They are no part of the product.
+pub mod chips;
 pub mod ciphers;
 pub mod pages;
 

@@ -7,7 +7,7 @@ use mathlib.Core.List.{List, [], _∷_, _++_}
 use lib.ListN.{length, getD, take}
 use Rattle.base.specs.Each.{Each}
 use Rattle.image.specs.Look.{blockAt}
-use Rattle.image.specs.Step.{Step, Inside, upTo, whole, play, playAll}
+use Rattle.image.specs.Step.{Step, Inside, AllLegal, upTo, whole, play, playAll}
 use Rattle.image.proofs.Step.{blockOf, upTo-length, whole-length, block-upTo-other, block-whole-other}
 
 -- ---- the definitions' clauses, for those who do not open them
@@ -43,6 +43,11 @@ pub playAll-append : (xs ys : List Step) (img : List ℕ) → playAll (xs ++ ys)
 unfolding playAll
 playAll-append [] ys img = refl
 playAll-append (x ∷ xs) ys img = playAll-append xs ys (whole x img)
+
+pub legal-append : (xs ys : List Step) (img : List ℕ) → AllLegal img xs → AllLegal (playAll xs img) ys → AllLegal img (xs ++ ys)
+unfolding playAll
+legal-append [] ys img p q = q
+legal-append (x ∷ xs) ys img p q = (p .0, legal-append xs ys (whole x img) (p .1) q)
 
 -- the power fails in the first list, or after it
 pub play-append-first : (n k : ℕ) (xs ys : List Step) (img : List ℕ) → n < length xs → play n k (xs ++ ys) img ≡ play n k xs img

@@ -1,4 +1,6 @@
 // The store for C: each call over numbers and lent slices, with its reply as a number.
+pub mod bus;
+
 use store::Answer;
 use store::Numbers;
 use store::commit;

@@ -342,7 +342,7 @@ module _ (img : List ℕ) (r : Record) (block : ℕ) (fit : Fit img r) where
           any-intro (λ i. headed (formAt img (pageIn block i))) pagesInBlock 0 (g % pagesInBlock) (omega arith) (omega arith)
           (rw (at, l .0 .whole) (rw (l .0 .node)))
 
-  chosen-full : (b : ℕ) → isChosen (r .numbers) b ≡ true → blockEmpty img b ≡ false
+  pub chosen-full : (b : ℕ) → isChosen (r .numbers) b ≡ true → blockEmpty img b ≡ false
   chosen-full b e = go (blockEmpty img b) refl
     where
       by-block : (u v w : Bool) → eqb b (r .numbers .keys0) ≡ u → eqb b (r .numbers .keys1) ≡ v → eqb b (r .numbers .commit) ≡ w → u || v || w ≡ true

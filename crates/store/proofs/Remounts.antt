@@ -325,7 +325,7 @@ module _ (img map letters scratch : List ℕ) (done : mountOf img map letters sc
   abbrev left : List ℕ
   left = leftWhole (mountOf img map letters scratch) img .image
 
-  left-swept : Swept (swept img) img left
+  pub left-swept : Swept (swept img) img left
   unfolding leftWhole mountSteps
   left-swept = rw (mount-outcome img map letters scratch done) (sweep (swept img) img)
 

@@ -1,5 +1,6 @@
 //! What the command is asked, from its words.
 
+mod spelling;
 mod words;
 
 use crate::help::Topic;
@@ -76,6 +77,8 @@ pub enum Command {
     Map(MapOptions),
     /// Play a handover.
     Demo,
+    /// Print the bytes that a call sends to a chip on its bus.
+    BusTrace(Traced),
     /// Say what has changed between two images.
     Diff {
         /// The older image file.
@@ -119,6 +122,17 @@ pub enum Call {
     },
 }
 
+/// A call whose bytes are printed.
+#[derive(Debug, PartialEq, Eq)]
+pub enum Traced {
+    /// Format, and how many blocks.
+    Format(Option<usize>),
+    /// Mount.
+    Mount,
+    /// A call that comes after a mount.
+    Call(Call),
+}
+
 /// How a recorder is handed over.
 #[derive(Debug, Default, PartialEq, Eq)]
 pub struct Handover {
@@ -143,7 +157,10 @@ pub struct MapOptions {
 
 /// Takes the words of the command, without its own name.
 pub fn parse(words: &[OsString]) -> Result<Request, Usage> {
-    let (topic, rest) = subcommand(words)?;
+    let (topic, rest) = subcommand(words, "what is to be done is missing")?;
+    if topic == Topic::BusTrace {
+        return bus_trace(&rest);
+    }
     let shape = Shape::of(topic);
     let words = Words::sort(&shape, &rest)?;
     let image = words.path(IMAGE_OPTION).unwrap_or_else(|| PathBuf::from(IMAGE));
@@ -169,7 +186,7 @@ pub fn parse(words: &[OsString]) -> Result<Request, Usage> {
 }
 
 /// Finds the subcommand, and the words without it. `--image` may stand before it.
-fn subcommand(words: &[OsString]) -> Result<(Topic, Vec<OsString>), Usage> {
+fn subcommand(words: &[OsString], missing: &str) -> Result<(Topic, Vec<OsString>), Usage> {
     let mut at = 0;
     while let Some(word) = words.get(at) {
         match word.as_bytes() {
@@ -184,12 +201,38 @@ fn subcommand(words: &[OsString]) -> Result<(Topic, Vec<OsString>), Usage> {
             }
         }
     }
-    wrong("what is to be done is missing")
+    wrong(missing)
 }
 
 /// The subcommand of a name.
 fn named(name: &str) -> Result<Topic, Usage> {
-    Topic::of(name).ok_or_else(|| Usage(format!("there is no {name:?}")))
+    Topic::of(name).ok_or_else(|| {
+        let hint = spelling::meant(name).map(|topic| format!("; is it {}?", topic.name()));
+        Usage(format!("there is no {name:?}{}", hint.unwrap_or_default()))
+    })
+}
+
+/// `bus-trace`, with a call and the words of that.
+fn bus_trace(words: &[OsString]) -> Result<Request, Usage> {
+    let (topic, _) = subcommand(words, "bus-trace needs CALL")?;
+    if topic == Topic::Johvimaru {
+        return Ok(Request { image: IMAGE.into(), command: Command::Help(Topic::BusTrace) });
+    }
+    if !Shape::of(topic).has_steps() {
+        let calls = "format, mount, write, cut-off, gather, commit or wipe";
+        return wrong(format!("bus-trace takes {calls}, and not {}", topic.name()));
+    }
+    let Request { image, command } = parse(words)?;
+    let (traced, cut) = match command {
+        Command::Format { blocks, cut, .. } => (Traced::Format(blocks), cut),
+        Command::Mount(cut) => (Traced::Mount, cut),
+        Command::Call(call, cut) => (Traced::Call(call), cut),
+        _ => return Ok(Request { image, command: Command::Help(Topic::BusTrace) }),
+    };
+    if cut.is_some() {
+        return wrong("bus-trace has no option --cut");
+    }
+    Ok(Request { image, command: Command::BusTrace(traced) })
 }
 
 /// `help`, with the name of a subcommand or without.
@@ -209,6 +252,7 @@ fn command(shape: &Shape, words: &Words) -> Result<Command, Usage> {
     let (text, json, force) = (words.has("--text"), words.has("--json"), words.has("--force"));
     let call = match shape.topic {
         Topic::Johvimaru => return help(words),
+        Topic::BusTrace => return wrong("bus-trace needs CALL"),
         Topic::Version => return Ok(Command::Version),
         Topic::List => return Ok(Command::List(json)),
         Topic::Check => return Ok(Command::Check(json)),
@@ -350,6 +394,36 @@ mod tests {
         let before_after = Some(("a".into(), "b".into()));
         let options = MapOptions { svg: Some("o.svg".into()), before_after };
         assert_eq!(command_of("map --before a --after b --svg o.svg"), Command::Map(options));
+    }
+
+    #[test]
+    fn a_trace_of_a_call_with_its_words() {
+        let trace = |call| Command::BusTrace(Traced::Call(call));
+        let write = |text: &str| {
+            let text = Some(text.as_bytes().to_vec());
+            trace(Call::Write { file: 2, offset: 5, text })
+        };
+        assert_eq!(command_of("bus-trace write 2 5 x"), write("x"));
+        assert_eq!(command_of("bus-trace write 2 5 -- --cut"), write("--cut"));
+        assert_eq!(command_of("bus-trace commit"), trace(Call::Commit));
+        assert_eq!(command_of("bus-trace gather --thinnest"), trace(Call::Gather(None)));
+        assert_eq!(command_of("bus-trace mount"), Command::BusTrace(Traced::Mount));
+        let format = Command::BusTrace(Traced::Format(Some(8)));
+        assert_eq!(command_of("bus-trace format --blocks 8 --force"), format);
+        for line in ["--image x bus-trace mount", "bus-trace --image x mount"] {
+            assert_eq!(parsed(line).unwrap().image, PathBuf::from("x"), "{line}");
+        }
+        for line in ["bus-trace --help", "bus-trace write --help", "help bus-trace"] {
+            assert_eq!(command_of(line), Command::Help(Topic::BusTrace), "{line}");
+        }
+        assert_eq!(usage("bus-trace"), "bus-trace needs CALL");
+        assert_eq!(usage("bus-trace write 2"), "write needs OFFSET");
+        let calls = "bus-trace takes format, mount, write, cut-off, gather, commit or wipe";
+        for name in ["read", "bus-trace", "handover", "version"] {
+            assert_eq!(usage(&format!("bus-trace {name}")), format!("{calls}, and not {name}"));
+        }
+        assert_eq!(usage("bus-trace wipe 0 0 --cut 1,2"), "bus-trace has no option --cut");
+        assert_eq!(usage("bus-trace comit"), "there is no \"comit\"; is it commit?");
     }
 
     #[test]

@@ -1,5 +1,6 @@
 //! The calls that change the flash, on an image file. Each but format mounts first.
 
+pub mod bus_trace;
 mod gather;
 
 use crate::args::Call;
@@ -10,6 +11,7 @@ use johvimaru::{
     Chip, Cut, CutChip, CutError, Driver, Failure, FileChip, MemoryChip, Noise, Offset, Payload,
     Record, Refusal, Store, BLOCK, MAX_BLOCKS, MIN_BLOCKS, PAYLOAD,
 };
+use std::fmt::Display;
 use std::io::{self, IsTerminal, Read, Write};
 use std::path::Path;
 
@@ -52,9 +54,7 @@ pub fn format(
     cut: Option<Cut>,
     out: &mut dyn Write,
 ) -> Result<(), Problem> {
-    if blocks.is_some_and(|blocks| !(MIN_BLOCKS..=MAX_BLOCKS).contains(&blocks)) {
-        return Err(Refusal::ImageSize.into());
-    }
+    test_blocks(blocks)?;
     let Some(file) = ImageFile::find(path)? else {
         return format_new(path, blocks.unwrap_or(BLOCKS), cut, out);
     };
@@ -71,6 +71,14 @@ pub fn format(
     let mut device = device(&file)?;
     let end = make(&mut device, cut, |device| device.format(Noise::from_system()?).map_err(told))?;
     say_formatted(end, blocks, &device, cut, out)
+}
+
+/// Tests whether an image can have so many blocks, where a number is asked for.
+fn test_blocks(blocks: Option<usize>) -> Result<(), Refusal> {
+    match blocks.is_none_or(|blocks| (MIN_BLOCKS..=MAX_BLOCKS).contains(&blocks)) {
+        true => Ok(()),
+        false => Err(Refusal::ImageSize),
+    }
 }
 
 /// What stands in a file, in words.
@@ -190,7 +198,10 @@ impl Ready {
         })
     }
 
-    fn make(&self, device: &mut Device) -> Result<(), Problem> {
+    fn make<C: Chip<Error: Display>>(
+        &self,
+        device: &mut Driver<CutChip<C>>,
+    ) -> Result<(), Problem> {
         match self {
             Ready::Write(at, payload) => device.write(*at, payload),
             Ready::CutOff(from) => device.cut_off(*from),
@@ -246,7 +257,11 @@ pub fn device(file: &ImageFile) -> Result<Device, Problem> {
 }
 
 /// Mounts the device. A refusal is one of the file.
-fn mount_device(device: &mut Device, path: &Path, cut: Option<Cut>) -> Result<End, Problem> {
+fn mount_device<C: Chip<Error: Display>>(
+    device: &mut Driver<CutChip<C>>,
+    path: &Path,
+    cut: Option<Cut>,
+) -> Result<End, Problem> {
     let end = make(device, cut, |device| device.mount().map_err(told));
     end.map_err(|problem| match problem {
         Problem::Refused(refusal) => image_file::refused(path, refusal),
@@ -272,7 +287,7 @@ fn make<C: Chip>(
 }
 
 /// A failure of the device as the command tells it.
-pub fn told<E: std::fmt::Display>(failure: Failure<CutError<E>>) -> Problem {
+pub fn told<E: Display>(failure: Failure<CutError<E>>) -> Problem {
     match failure {
         Failure::Refused(refusal) => Problem::Refused(refusal),
         Failure::Chip(CutError::Chip(error)) => Problem::System(format!("the image file: {error}")),

@@ -37,13 +37,15 @@ pub enum Topic {
     Demo,
     /// `diff`.
     Diff,
+    /// `bus-trace`.
+    BusTrace,
     /// `version`.
     Version,
 }
 
 impl Topic {
     /// All topics.
-    pub const ALL: [Topic; 18] = [
+    pub const ALL: [Topic; 19] = [
         Topic::Johvimaru,
         Topic::Format,
         Topic::Mount,
@@ -61,6 +63,7 @@ impl Topic {
         Topic::Map,
         Topic::Demo,
         Topic::Diff,
+        Topic::BusTrace,
         Topic::Version,
     ];
 
@@ -84,6 +87,7 @@ impl Topic {
             Topic::Map => "map",
             Topic::Demo => "demo",
             Topic::Diff => "diff",
+            Topic::BusTrace => "bus-trace",
             Topic::Version => "version",
         }
     }
@@ -114,6 +118,7 @@ pub fn text(topic: Topic) -> &'static str {
         Topic::Map => MAP,
         Topic::Demo => DEMO,
         Topic::Diff => DIFF,
+        Topic::BusTrace => BUS_TRACE,
         Topic::Version => VERSION,
     }
 }
@@ -138,6 +143,7 @@ johvimaru: a flash page store that forgets, on an image file
   check                        what is there, in words
   map                          a picture of blocks, pages and keys
   diff OLD NEW                 what has changed between two images
+  bus-trace CALL ..            the bytes that a call sends to a chip on its bus
   demo                         a handover with power cuts, from beginning to end
   version                      the version of this command
   help WHAT                    more on one of these
@@ -148,7 +154,7 @@ format mounts it first, as a recorder does when its power comes on. The file
 is changed in place, step by step, each step on the disk before the next: a
 command that is stopped leaves what a power failure leaves, and the next call
 mounts it; a format that was stopped is made again, with --force. read, export,
-list, check, map and diff change nothing.
+list, check, map, diff and bus-trace change nothing.
 
 Files are 0 to 13. Files 0 and 1 have 32 offsets, 2 and 3 have 24, 4 to 7 have
 16, 8 to 13 have 8.
@@ -385,6 +391,35 @@ printed.
 It mounts copies, and leaves both files as they are. The exit status is 0
 whether they differ or not. Where a mount is refused it says what can be told
 without it, and the exit status is 1.
+";
+
+const BUS_TRACE: &str = "\
+johvimaru bus-trace CALL .. [--image FILE]
+
+Prints the bytes that a call sends to a chip on its bus, step by step. CALL is
+format, mount, write, cut-off, gather, commit or wipe, with its own words:
+`johvimaru bus-trace write 0 0 \"draught 4.12 m\"`. The call is made on a copy,
+against the model of a chip, and the file is left as it is. Each call but
+format mounts the copy first; the steps of that mount are not printed, those
+of `bus-trace mount` are. Nor are the bytes by which a page is read.
+
+A line for each step says what it does, and the lines after it what goes over
+the bus, in hexadecimal digits:
+  step 1: program page 48
+  C ff                 a command byte, one on each line
+  A 00 00 30 00 00     address bytes: column, then row, the low byte first
+  D 4e 20 20 ..        data bytes, 16 on each line
+  S 40                 the status that was received: bit 0 set is failed
+The last line counts steps and bytes. `grep -v '^D'` leaves the data out.
+
+KEYS: format, commit and wipe program key blocks, so their D lines hold keys;
+a commit and a wipe those of the nodes that are there too. Keep such a trace as
+you keep the chip, or print it without them. A line on standard error says so.
+New keys in a trace are used for nothing: the call itself takes other ones.
+
+Exit status and refusals are those of the call. format needs no --force here,
+write makes no file, and --cut is not taken: between two bytes a step is done
+whole or not at all.
 ";
 
 #[cfg(test)]

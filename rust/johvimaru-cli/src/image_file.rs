@@ -205,6 +205,15 @@ pub fn look(path: &Path) -> Result<Vec<u8>, Problem> {
     image.ok_or_else(|| refused(path, Refusal::ImageSize))
 }
 
+/// How many blocks a file has, where it is there and of the size of an image.
+pub fn blocks_of(path: &Path) -> Result<Option<usize>, Problem> {
+    if !is_there(path)? {
+        return Ok(None);
+    }
+    let length = fs::metadata(path).map_err(|error| at(path, error))?.len();
+    Ok(is_image_size(length).then_some(length as usize / BLOCK))
+}
+
 /// Whether so many bytes are 8 to 256 full blocks.
 pub fn is_image_size(length: u64) -> bool {
     let block = BLOCK as u64;

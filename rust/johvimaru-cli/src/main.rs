@@ -142,6 +142,7 @@ fn run(request: Request, out: &mut dyn Write) -> Result<(), Problem> {
         Command::Check(json) => check::run(&image, json, out),
         Command::Map(options) => picture::run(&image, &options, out),
         Command::Demo => demo::run(out),
+        Command::BusTrace(traced) => calls::bus_trace::run(&image, traced, out),
         Command::Diff { old, new, json } => diff::run(&old, &new, json, out),
     }
 }

@@ -9,7 +9,7 @@ use std::fs;
 use std::os::unix::ffi::OsStringExt;
 
 /// All calls on an image.
-const CALLS: [&str; 13] = [
+const CALLS: [&str; 16] = [
     "format",
     "mount",
     "write 0 0 x",
@@ -23,10 +23,13 @@ const CALLS: [&str; 13] = [
     "export 0",
     "import 0",
     "handover",
+    "bus-trace mount",
+    "bus-trace write 0 0 x",
+    "bus-trace commit",
 ];
 
 /// Lines that are not understood.
-const WRONG: [&str; 63] = [
+const WRONG: [&str; 73] = [
     "",
     "forget",
     "--cut 1,2",
@@ -90,7 +93,32 @@ const WRONG: [&str; 63] = [
     "gather 3 --thinnest",
     "gather --thinnest=3",
     "gather --thin",
+    "bus-trace",
+    "bus-trace --image x",
+    "bus-trace forget",
+    "bus-trace read 0 0",
+    "bus-trace bus-trace mount",
+    "bus-trace write 0",
+    "bus-trace write 0 0 x y",
+    "bus-trace commit --cut 1,2",
+    "bus-trace commit --json",
+    "bus-trace --cut 1,2 commit",
 ];
+
+/// What was meant is told where it can be guessed.
+#[test]
+fn words_that_were_meant() {
+    let folder = Folder::new("meant");
+    for (line, said) in [
+        ("wirte 0 0 x", "there is no \"wirte\"; is it write?"),
+        ("help bustrace", "there is no \"bustrace\"; is it bus-trace?"),
+        ("bus-trace cutoff 0 0", "there is no \"cutoff\"; is it cut-off?"),
+        ("forget", "there is no \"forget\""),
+    ] {
+        let said = format!("johvimaru: {said}\n`johvimaru --help` says what there is.\n");
+        assert_eq!(folder.run(line).errors, said, "{line}");
+    }
+}
 
 #[test]
 fn words_that_are_not_understood() {
@@ -107,7 +135,7 @@ fn words_that_are_not_understood() {
 /// Words that the command knows.
 const KNOWN: &str =
     "write read format list wipe gather commit handover export import check 0 1 13 - -- --cut 0,0 \
-     --blocks 8 --image i.img --raw --help = --cut=1,1 --keep --json --text --version";
+     --blocks 8 --image i.img --raw --help = --cut=1,1 --keep --json --text --version bus-trace";
 
 /// Any bytes may stand among the words: the command answers, and does not fall over.
 #[test]

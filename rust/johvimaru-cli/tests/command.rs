@@ -201,8 +201,24 @@ fn help_for_each() {
     let folder = Folder::new("help");
     let all = folder.done("--help");
     for name in [
-        "format", "mount", "write", "read", "cut-off", "gather", "commit", "wipe", "handover",
-        "export", "import", "list", "check", "map", "diff", "demo", "version",
+        "format",
+        "mount",
+        "write",
+        "read",
+        "cut-off",
+        "gather",
+        "commit",
+        "wipe",
+        "handover",
+        "export",
+        "import",
+        "list",
+        "check",
+        "map",
+        "diff",
+        "bus-trace",
+        "demo",
+        "version",
     ] {
         assert!(all.contains(name), "{name}");
         let text = folder.done(&format!("{name} --help"));
@@ -447,6 +463,7 @@ fn compare_session(name: &str, first_call: &str, lines: usize) {
 fn the_sessions_of_the_documents() {
     compare_session("session", "write 0 0 \"draught 4.12 m\"", 20);
     compare_session("session-gather", "write 0 0 \"draught 4.12 m\" --image thin.img", 10);
+    compare_session("session-bus", "format --blocks 8 --image bus.img", 20);
 }
 
 /// The refusals of a call have the documents' numbers and a sentence.

@@ -26,7 +26,8 @@ use core::fmt;
 /// that are not needed, empty ones too. So a chip must do each erase that it is asked for, also of a block that
 /// reads FFh.
 ///
-/// A chip on a bus of the caller's:
+/// A chip with the commands of ONFI needs only a [`Bus`](crate::Bus): [`BusChip`](crate::BusChip) makes a chip of
+/// it. A chip behind a controller that programs pages and erases blocks:
 ///
 /// ```
 /// use johvimaru::{Chip, Driver, Noise, Page};
@@ -38,8 +39,8 @@ use core::fmt;
 /// #     }
 /// # }
 /// # impl std::error::Error for Timeout {}
-/// # struct Bus(Vec<u8>);
-/// # impl Bus {
+/// # struct Controller(Vec<u8>);
+/// # impl Controller {
 /// #     fn fetch(&self, at: usize, bytes: &mut [u8]) -> Result<(), Timeout> {
 /// #         bytes.copy_from_slice(&self.0[at..at + bytes.len()]);
 /// #         Ok(())
@@ -54,11 +55,11 @@ use core::fmt;
 /// #     }
 /// # }
 ///
-/// struct OnBus {
-///     bus: Bus,
+/// struct Behind {
+///     controller: Controller,
 /// }
 ///
-/// impl Chip for OnBus {
+/// impl Chip for Behind {
 ///     type Error = Timeout;
 ///
 ///     fn blocks(&self) -> usize {
@@ -66,21 +67,21 @@ use core::fmt;
 ///     }
 ///
 ///     fn read(&mut self, page: usize, bytes: &mut Page) -> Result<(), Self::Error> {
-///         self.bus.fetch(256 * page, bytes)
+///         self.controller.fetch(256 * page, bytes)
 ///     }
 ///
 ///     fn program(&mut self, page: usize, bytes: &Page) -> Result<(), Self::Error> {
 ///         // Returns when the chip is no longer busy.
-///         self.bus.page_program(256 * page, bytes)
+///         self.controller.page_program(256 * page, bytes)
 ///     }
 ///
 ///     fn erase(&mut self, block: usize) -> Result<(), Self::Error> {
-///         self.bus.block_erase(4_096 * block)
+///         self.controller.block_erase(4_096 * block)
 ///     }
 /// }
 ///
-/// # let bus = Bus(vec![0; 64 * 4_096]);
-/// let mut driver = Driver::new(OnBus { bus });
+/// # let controller = Controller(vec![0; 64 * 4_096]);
+/// let mut driver = Driver::new(Behind { controller });
 /// // Once, when the recorder is made.
 /// driver.format(Noise::from_system()?)?;
 /// // Each time that its power comes on.

@@ -1,7 +1,6 @@
 //! Calls that drive a chip.
 
 use crate::raw::{self, DONE, POWER_CUT};
-use crate::step::without_empty_blocks;
 use crate::store::number;
 use crate::{
     ffi, room, Chip, Cut, Noise, Offset, Payload, Record, Refusal, Step, Store, BLOCK, PAGE,
@@ -77,24 +76,23 @@ impl<E> From<Refusal> for Failure<E> {
 
 /// A chip with its mirror and record: each call goes to the chip step by step.
 ///
-/// The steps of a call are learnt from its form with n and k, with k = 0, on copies of the mirror: the copies
-/// after n and after n + 1 steps differ by one step. It is handed to the chip, then done on the mirror,
-/// and only then the next one is looked for. So a page that a call programs and erases again is seen.
+/// A format or a mount is made whole on a copy of the mirror, and its steps are read off the image that it leaves:
+/// a format erases all blocks and then programs pages 0 to 41, a mount erases exactly the blocks that are empty
+/// then, all in ascending order. So the chip is told the erases of empty blocks too, which make no difference to an
+/// image, and which it must do: where the power failed in an erase, a block can look empty and not keep the next
+/// page, until an erase of it ends.
 ///
-/// A step that changes nothing cannot be seen so. Format and mount have such steps, where they erase a block
-/// that is empty, and the chip must do these too: where the power failed in an erase, a block can look empty and
-/// not keep the next page, until an erase of it ends. So these two calls are made on copies in which the first
-/// byte of each empty block is 00h. Format erases every block, whatever it holds. Mount erases an empty block and
-/// one that holds nothing but such a byte alike, since neither is chosen or has data, and finds the same record.
-/// So every erase is seen, and the chip is told all of them; the mirror never has these bytes. No other call
-/// erases an empty block. The steps that a chip counts are therefore those of the documents.
+/// The steps of any other call are learnt from its form with n and k, with k = 0, on copies of the mirror: the copies
+/// after n and after n + 1 steps differ by one step. It is handed to the chip, then done on the mirror,
+/// and only then the next one is looked for. So a page that a call programs and erases again is seen. None of these
+/// calls erases an empty block. The steps that a chip counts are therefore those of the documents.
 ///
 /// Where the chip fails, the call ends: the mirror has the steps that the chip has done whole, the record is
 /// gone, and every call but [`mount`](Driver::mount) and [`format`](Driver::format) fails with
 /// [`Failure::NotMounted`]. The step that failed may stand on the chip in part; mount reads the chip
 /// anew.
 ///
-/// A call is made on a copy as often as it has steps, and at least once.
+/// A format or a mount is made on a copy once, any other call as often as it has steps, and at least once.
 ///
 /// ```
 /// use johvimaru::{Driver, File, MemoryChip, Noise};
@@ -175,20 +173,18 @@ impl<C: Chip> Driver<C> {
     /// Formats the chip.
     pub fn format(&mut self, noise: Noise) -> Result<(), Failure<C::Error>> {
         self.read_chip()?;
-        let full = without_empty_blocks(&self.mirror);
-        self.drive(full, raw::Record::blank(), |image, record, cut| {
-            ffi::format(image, record, noise.bytes(), Some(cut))
-        })
+        let (mut image, mut record) = (self.mirror.clone(), raw::Record::blank());
+        let reply = raw::format(&mut image, &mut record, noise.bytes());
+        self.follow(reply, &image, record, Step::of_format(&image))
     }
 
     /// Reads the whole chip, and mounts it, as [`Store::mount`]. It has a step for each block that it erases, so
     /// at least one for each empty block.
     pub fn mount(&mut self) -> Result<(), Failure<C::Error>> {
         self.read_chip()?;
-        let full = without_empty_blocks(&self.mirror);
-        self.drive(full, raw::Record::blank(), |image, record, cut| {
-            ffi::mount(image, record, &mut [0; PLACES], Some(cut))
-        })
+        let (mut image, mut record) = (self.mirror.clone(), raw::Record::blank());
+        let reply = raw::mount(&mut image, &mut record, &mut [0; PLACES]);
+        self.follow(reply, &image, record, Step::of_mount(&image))
     }
 
     /// Writes a payload, as [`Store::write`].
@@ -273,7 +269,24 @@ impl<C: Chip> Driver<C> {
         Ok(())
     }
 
-    /// Makes a call from mirror and record, which a refusal leaves as they are.
+    /// Hands the steps of a call on that was made whole on a copy, and has left this image and record.
+    fn follow(
+        &mut self,
+        reply: u32,
+        image: &[u8],
+        record: raw::Record,
+        steps: impl Iterator<Item = Step>,
+    ) -> Result<(), Failure<C::Error>> {
+        Refusal::result(reply)?;
+        for step in steps {
+            self.tell(&step).map_err(Failure::Chip)?;
+        }
+        debug_assert!(self.mirror == image, "the mirror is what the call leaves");
+        self.record = Some(Record(record));
+        Ok(())
+    }
+
+    /// Makes any other call from mirror and record, which a refusal leaves as they are.
     fn call(
         &mut self,
         call: impl Fn(&mut [u8], &mut raw::Record, Cut) -> u32,
@@ -287,7 +300,7 @@ impl<C: Chip> Driver<C> {
     }
 
     /// Makes a call on copies of this image and record, step by step, and hands each step on. No step of the call
-    /// may erase an empty block of this image.
+    /// may erase an empty block.
     fn drive(
         &mut self,
         image: Vec<u8>,
@@ -303,10 +316,9 @@ impl<C: Chip> Driver<C> {
                 return Err(Refusal::known(reply).into());
             }
             let step = Step::between(&now, &next);
-            debug_assert!(step.is_some() || n == 1 && reply == DONE, "each step is seen");
+            debug_assert!(step.is_some(), "each step is seen");
             if let Some(step) = step {
                 self.tell(&step).map_err(Failure::Chip)?;
-                step.apply(&mut self.mirror);
             }
             if reply == DONE {
                 debug_assert!(self.mirror == next, "the mirror is what the call leaves");
@@ -318,11 +330,13 @@ impl<C: Chip> Driver<C> {
         Ok(())
     }
 
-    /// Hands a step to the chip.
+    /// Hands a step to the chip. Once it has ended there, it is done on the mirror.
     fn tell(&mut self, step: &Step) -> Result<(), C::Error> {
         match step {
-            Step::Program { page, bytes } => self.chip.program(*page, bytes),
-            Step::Erase { block } => self.chip.erase(*block),
+            Step::Program { page, bytes } => self.chip.program(*page, bytes)?,
+            Step::Erase { block } => self.chip.erase(*block)?,
         }
+        step.apply(&mut self.mirror);
+        Ok(())
     }
 }

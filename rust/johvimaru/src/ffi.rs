@@ -3,6 +3,8 @@
 //! Nothing compares these declarations with include/johvimaru.h: a change there is a change here.
 #![allow(unsafe_code)]
 
+pub mod bus;
+
 use crate::raw::Record;
 use crate::Cut;
 

@@ -39,6 +39,8 @@
 //!   [`Store::pages_left`], [`Store::live_pages`] and [`Record::thin_blocks`] tell when, and which block.
 //! - [`Driver`] drives a [`Chip`]: each step of a call goes to the chip before the next, and the mirror is
 //!   brought along. [`FileChip`] is a chip in a file, [`CutChip`] one whose power fails where it is told.
+//! - [`BusChip`] is a chip on a [`Bus`] of the caller's, driven by the bytes of the ONFI commands, which come from
+//!   the proved library; [`Cycles`] are the bytes of a step alone, and [`ModelBus`] is a model of the chip for tests.
 //! - With the feature `cut`, each call has a form that the power cuts after n steps and k bytes of one
 //!   more. It takes the store and leaves an [`Unmounted`] image, which only a mount makes a store again.
 //! - [`Form`] says what stands on a page, for pictures and reports.
@@ -82,6 +84,7 @@ extern crate alloc;
 #[cfg(feature = "std")]
 extern crate std;
 
+mod bus;
 mod chip;
 #[cfg(feature = "cut")]
 mod cut;
@@ -98,6 +101,7 @@ mod room;
 mod step;
 mod store;
 
+pub use bus::{Bus, BusChip, BusError, Cycle, Cycles, Mark, ModelBus};
 #[cfg(feature = "std")]
 pub use chip::FileChip;
 pub use chip::{Chip, CutChip, CutError, MemoryChip, Misuse};

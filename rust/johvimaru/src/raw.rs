@@ -4,7 +4,8 @@
 //! These functions are safe, since the library tests what it is given and refuses what is wrong. They
 //! are for tests of the library, and for callers whose record must lie in buffers of their own. All
 //! others use [`Store`](crate::Store), which keeps image and record together. The forms with n and k,
-//! which end in `_cut`, come with the feature `cut`.
+//! which end in `_cut`, come with the feature `cut`. Those that begin with `bus` and `model` are for a chip on a
+//! bus; all others use [`BusChip`](crate::BusChip) and [`ModelBus`](crate::ModelBus).
 //!
 //! ```
 //! use johvimaru::raw::{self, Record};
@@ -21,6 +22,10 @@
 //! assert_eq!(output[..6], *b"track\0");
 //! assert_eq!(raw::read(&image, &record, 13, 6, &mut output), (8, 0));
 //! ```
+
+mod bus;
+
+pub use bus::{bus_erase_byte, bus_program_byte, bus_reply, model_receive, model_send, Registers};
 
 #[cfg(feature = "cut")]
 use crate::Cut;

@@ -2,11 +2,13 @@
 
 use crate::{BLOCK, PAGE, PAGES_IN_BLOCK};
 use alloc::boxed::Box;
-use alloc::vec::Vec;
 use core::fmt;
 
 /// The bytes of a page.
 pub type Page = [u8; PAGE];
+
+/// The pages that a format programs, from the first on: two key blocks, and the ten of a commit.
+const FORMATTED_PAGES: usize = 42;
 
 /// A step of the flash.
 #[derive(Clone, PartialEq, Eq)]
@@ -41,8 +43,8 @@ impl Step {
     /// The step by which two images of one length differ, or none where they do not.
     ///
     /// The step that changes nothing, the erase of an empty block, cannot be told from none, and yet a chip must
-    /// do it. Format and mount have such steps; they are seen on copies in which the first byte of each empty
-    /// block is 00h, as [`Driver`](crate::Driver) makes them.
+    /// do it. Only format and mount have such steps: see [`of_format`](Step::of_format) and
+    /// [`of_mount`](Step::of_mount).
     ///
     /// ```
     /// use johvimaru::Step;
@@ -68,6 +70,44 @@ impl Step {
         Some(Step::Program { page: PAGES_IN_BLOCK * block + page, bytes: copy })
     }
 
+    /// The steps of a format that was done, from the image that it has left: the erases of all blocks, then the
+    /// programs of pages 0 to 41 with the bytes that stand there, each in ascending order. That these are its steps
+    /// is proved, as `format-steps-seen`.
+    ///
+    /// ```
+    /// use johvimaru::{Noise, Step, Store};
+    ///
+    /// let store = Store::format(vec![0; 32_768], Noise::from_system()?)?;
+    /// let mut chip = vec![0; 32_768];
+    /// Step::of_format(store.image()).for_each(|step| step.apply(&mut chip));
+    /// assert_eq!(chip, store.image());
+    /// assert_eq!(Step::of_format(store.image()).count(), 50);
+    /// # Ok::<(), Box<dyn std::error::Error>>(())
+    /// ```
+    pub fn of_format(image: &[u8]) -> impl Iterator<Item = Step> + '_ {
+        let erases = (0..image.len() / BLOCK).map(|block| Step::Erase { block });
+        let pages = image.as_chunks::<PAGE>().0.iter().enumerate().take(FORMATTED_PAGES);
+        erases.chain(pages.map(|(page, bytes)| Step::Program { page, bytes: Box::new(*bytes) }))
+    }
+
+    /// The steps of a mount that was done, from the image that it has left: the erases of exactly those blocks
+    /// that are empty in it, in ascending order. That these are its steps is proved, as `mount-steps-seen`.
+    ///
+    /// ```
+    /// use johvimaru::{Noise, Step, Store};
+    ///
+    /// let store = Store::format(vec![0; 32_768], Noise::from_system()?)?;
+    /// let store = Store::mount(store.into_image())?;
+    /// let erases = [3, 4, 5, 6, 7].map(|block| Step::Erase { block });
+    /// assert!(Step::of_mount(store.image()).eq(erases));
+    /// # Ok::<(), Box<dyn std::error::Error>>(())
+    /// ```
+    pub fn of_mount(image: &[u8]) -> impl Iterator<Item = Step> + '_ {
+        let blocks = image.chunks(BLOCK).enumerate();
+        let empty = blocks.filter(|(_, bytes)| is_erased(bytes));
+        empty.map(|(block, _)| Step::Erase { block })
+    }
+
     /// Does the step on an image.
     ///
     /// # Panics
@@ -86,35 +126,4 @@ impl Step {
 /// Whether all bytes are FFh.
 pub(crate) fn is_erased(bytes: &[u8]) -> bool {
     bytes.iter().all(|&byte| byte == 0xff)
-}
-
-/// A copy of an image in which the first byte of each empty block is 00h, so that the erase of any block makes a
-/// difference. No page begins with that byte, so such a block has no header, as an empty one has none.
-pub(crate) fn without_empty_blocks(image: &[u8]) -> Vec<u8> {
-    let mut copy = image.to_vec();
-    for block in copy.chunks_mut(BLOCK).filter(|block| is_erased(block)) {
-        block[0] = 0;
-    }
-    copy
-}
-
-#[cfg(test)]
-mod tests {
-    use super::*;
-    use alloc::vec;
-
-    /// The erase of each block is seen, and nothing but the first bytes of empty blocks is another.
-    #[test]
-    fn copies_without_empty_blocks() {
-        let mut image = vec![0xff; 3 * BLOCK];
-        image[2 * BLOCK - 1] = 7;
-        let copy = without_empty_blocks(&image);
-        let others: Vec<usize> = (0..image.len()).filter(|at| image[*at] != copy[*at]).collect();
-        assert_eq!(others, [0, 2 * BLOCK]);
-        for block in 0..3 {
-            let (erase, mut erased) = (Step::Erase { block }, copy.clone());
-            erase.apply(&mut erased);
-            assert_eq!(Step::between(&copy, &erased), Some(erase));
-        }
-    }
 }

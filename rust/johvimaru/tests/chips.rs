@@ -173,7 +173,7 @@ fn a_mount_that_is_cut() {
     panic!("a mount has an end");
 }
 
-/// The bytes that make the erases of empty blocks seen come neither onto the mirror nor onto the chip.
+/// All that this mount does is to erase empty blocks, three of them.
 #[test]
 fn a_mount_that_fails_or_is_refused_leaves_the_mirror_as_it_was() {
     let image = rich().mirror().to_vec();

@@ -2,8 +2,9 @@
 #![cfg(all(feature = "cut", feature = "std"))]
 
 use johvimaru::{
-    raw, Cut, CutChip, CutError, Driver, Failure, File, FileChip, Form, MemoryChip, Misuse, Noise,
-    Offset, Outcome, Payload, Refusal, Refused, Step, Store, BLOCK, NOISE, PAGE,
+    raw, Bus, BusChip, BusError, Cut, CutChip, CutError, Cycle, Cycles, Driver, Failure, File,
+    FileChip, Form, Mark, MemoryChip, Misuse, ModelBus, Noise, Offset, Outcome, Payload, Refusal,
+    Refused, Step, Store, BLOCK, NOISE, PAGE,
 };
 use std::collections::BTreeSet;
 use std::fmt::Debug;
@@ -97,6 +98,32 @@ fn holders(image: &[u8], file: &Path) -> Vec<(String, String)> {
     ]
 }
 
+/// What belongs to a bus, over which bytes of a page have gone.
+fn on_a_bus(image: &[u8]) -> Vec<(String, String)> {
+    let page = [KEY_BYTE; PAGE];
+    let cycles = || Cycles::program(127, &page).unwrap();
+    let mut bus = ModelBus::new(image.to_vec());
+    let mut registers = raw::Registers::reset();
+    for cycle in cycles().take(200) {
+        bus.send(cycle).unwrap();
+        let (mark, byte) = (cycle.mark as u32, cycle.byte);
+        assert_eq!(raw::model_send(&mut image.to_vec(), &mut registers, mark, byte), raw::DONE);
+    }
+    assert!(has_run(&format!("{:?}", registers.page), KEY_BYTE), "the page register has keys");
+    vec![
+        shown(bus.clone()),
+        shown(BusChip::new(bus, 8)),
+        shown(registers),
+        shown(cycles()),
+        shown(Mark::Data),
+        shown(Cycle::data(KEY_BYTE)),
+        shown(Cycle::command(0xff)),
+        shown(BusError::Bus(Refusal::ImageSize)),
+        // Several of them, as they would be shown after each other.
+        ("Cycle".into(), format!("{:?}", cycles().skip(7).take(50).collect::<Vec<_>>())),
+    ]
+}
+
 /// What is small, and tells of an image.
 fn small(image: &[u8]) -> Vec<(String, String)> {
     let store = written();
@@ -145,7 +172,7 @@ fn no_public_type_shows_keys_or_payloads() {
     let image = written().into_image();
     assert!(has_run(&format!("{image:?}"), KEY_BYTE), "the keys are on the image");
     fs::write(&file, &image).unwrap();
-    let all = [holders(&image, &file), small(&image)].concat();
+    let all = [holders(&image, &file), on_a_bus(&image), small(&image)].concat();
     fs::remove_file(&file).unwrap();
     for (name, text) in &all {
         assert!(!has_run(text, KEY_BYTE), "a key in {name}: {text}");
@@ -174,6 +201,9 @@ fn counts_and_numbers_are_shown() {
     assert_eq!(format!("{:?}", raw::Record::blank()), blank);
     let step = Step::Program { page: 3, bytes: Box::new([0; PAGE]) };
     assert_eq!(format!("{step:?}"), "Program { page: 3, .. }");
+    assert_eq!(format!("{:?}", step.cycles().unwrap()), "Cycles { page: 3, left: 265, .. }");
+    let cycles = [Cycle::command(0xff), Cycle::address(0x0a), Cycle::data(7)];
+    assert_eq!(format!("{cycles:?}"), "[Command(ffh), Address(0ah), Data]");
     assert_eq!(format!("{:?}", noise()), "Noise");
     for (bytes, shown) in [(&b"P"[..], "Payload(1 byte)"), (&[0; 224], "Payload(224 bytes)")] {
         assert_eq!(format!("{:?}", Payload::new(bytes).unwrap()), shown);

@@ -1,6 +1,6 @@
 //! What errors say, and which error has led to which.
 
-use johvimaru::{CutError, Failure, Misuse, Refusal};
+use johvimaru::{BusError, CutError, Failure, Misuse, Refusal};
 use std::error::Error;
 use std::iter;
 
@@ -19,6 +19,17 @@ fn a_chips_error_is_the_source_and_is_said_once() {
     let off = Failure::Chip(CutError::<Misuse>::PowerCut);
     assert_eq!(chain(&off), ["the chip failed", "the power is off"]);
     assert!(off.source().is_some_and(|source| source.is::<CutError<Misuse>>()));
+}
+
+#[test]
+fn a_buses_error_is_told_from_a_failed_status() {
+    let bus = Failure::Chip(BusError::Bus(Refusal::ImageSize));
+    let size = "the image is not 8 to 256 full blocks of 4,096 bytes";
+    assert_eq!(chain(&bus), ["the chip failed", "the bus failed", size]);
+    let failed = BusError::<Refusal>::Failed;
+    assert_eq!(chain(&failed), ["the chip's status is failed"]);
+    let outside = BusError::<Refusal>::Outside;
+    assert_eq!(chain(&outside), ["the chip has no such page or block"]);
 }
 
 #[test]

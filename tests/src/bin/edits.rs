@@ -40,12 +40,17 @@ struct Program {
     reached: &'static [&'static str],
 }
 
-/// The quicker one first: an edit is run with each that reaches its crate, until one does something else.
-static PROGRAMS: [Program; 2] = [
+/// An edit is run with each that reaches its crate, until one does something else.
+static PROGRAMS: [Program; 3] = [
     Program {
         path: "tests/edits/pages.txt",
         name: "tried_pages",
         reached: &["harness", "image", "page", "cipher", "base"],
+    },
+    Program {
+        path: "tests/edits/bus.txt",
+        name: "tried_bus",
+        reached: &["chip", "image", "page", "cipher", "base"],
     },
     Program {
         path: "tests/edits/calls.txt",

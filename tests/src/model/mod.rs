@@ -5,7 +5,8 @@
 //!
 //! - [`files`] and [`keys`]: the file plan, and where a key position is.
 //! - [`pages`]: page forms, headers, entries and letters.
-//! - [`image`]: the flash image, its two steps and a power cut; [`chip`]: a chip with unsettled blocks.
+//! - [`image`]: the flash image, its two steps and a power cut; [`chip`]: a chip with unsettled blocks;
+//!   [`bus`]: the chip's side of its bus, and the driver's bytes.
 //! - [`blocks`]: key blocks, commit blocks and data blocks.
 //! - [`record`]: the working record and its fit.
 //! - [`calls`]: the eight calls; [`store`]: an image with its
@@ -17,6 +18,7 @@
 pub mod aes;
 pub mod blocks;
 pub mod book;
+pub mod bus;
 pub mod calls;
 pub mod chip;
 pub mod copies;

@@ -55,8 +55,14 @@ impl Shape {
             Topic::Handover => (&[], 0, &["--keep", "--report"], &["--json", "--force"]),
             Topic::Map => (&[], 0, &["--svg", "--before", "--after"], &[]),
             Topic::Diff => (&["OLD", "NEW"], 2, &[], &["--json"]),
+            Topic::BusTrace => (&["CALL"], 1, &[], &[]),
         };
         Shape { topic, words, needed, values, flags }
+    }
+
+    /// Whether it is a call with steps: the power can be cut in each of them.
+    pub(super) fn has_steps(&self) -> bool {
+        self.values.contains(&"--cut")
     }
 }
 

@@ -1,12 +1,16 @@
 //! A gather, and what is said of it.
 
-use super::{told, Device};
+use super::told;
 use crate::image_file::{counted, is_empty, numbers_in_words};
 use crate::Problem;
-use johvimaru::{Record, Refusal, BLOCK, PAGES_IN_BLOCK};
+use johvimaru::{Chip, CutChip, Driver, Record, Refusal, BLOCK, PAGES_IN_BLOCK};
+use std::fmt::Display;
 
 /// Gathers a block, or where none is named the thinnest that there is room for.
-pub fn make(device: &mut Device, block: Option<usize>) -> Result<(), Problem> {
+pub fn make<C: Chip<Error: Display>>(
+    device: &mut Driver<CutChip<C>>,
+    block: Option<usize>,
+) -> Result<(), Problem> {
     let thin = device.record().map_or(Vec::new(), Record::thin_blocks);
     match (block, &thin[..]) {
         (Some(block), _) => one(device, block),
@@ -32,7 +36,10 @@ pub fn make(device: &mut Device, block: Option<usize>) -> Result<(), Problem> {
 }
 
 /// Gathers this block. A refusal says why, and what to do.
-fn one(device: &mut Device, block: usize) -> Result<(), Problem> {
+fn one<C: Chip<Error: Display>>(
+    device: &mut Driver<CutChip<C>>,
+    block: usize,
+) -> Result<(), Problem> {
     let refused = match device.gather(block).map_err(told) {
         Err(Problem::Refused(refusal)) => refusal,
         result => return result,
@@ -50,7 +57,7 @@ fn one(device: &mut Device, block: usize) -> Result<(), Problem> {
 }
 
 /// Why there is nothing to gather in a block, and what can be gathered.
-fn nothing_there(device: &Device, block: usize) -> String {
+fn nothing_there<C>(device: &Driver<C>, block: usize) -> String {
     let blocks = device.mirror().len() / BLOCK;
     let (keys, commit) = device.record().map_or(([usize::MAX; 2], usize::MAX), |record| {
         (record.key_blocks(), record.commit_block())

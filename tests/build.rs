@@ -1,5 +1,5 @@
-//! Links the static library `harness`, which `rt staticlib` writes, and the floor in C of `c/`. The
-//! crate `johvimaru` links `recorder`.
+//! Links the static library `harness`, which tools/static-libraries.sh has built, and the floor in C of `c/`.
+//! The crate `johvimaru` links `recorder`.
 
 use std::path::{Path, PathBuf};
 use std::process::Command;
@@ -37,7 +37,9 @@ fn harness() {
     println!("cargo::rerun-if-changed={}", archive.display());
     println!("cargo::rustc-link-lib=static=harness");
     if !archive.exists() {
-        println!("cargo::error=target/staticlib/libharness.a is missing: run `rt staticlib harness` at the top of the repository");
+        println!(
+            "cargo::error=target/staticlib/libharness.a is missing: run tools/static-libraries.sh"
+        );
     }
 }
 
@@ -64,7 +66,7 @@ impl Compiler {
             return Some(Compiler { name: name.into(), words });
         }
         let guide = PathBuf::from(say("rt", &["doc"])?);
-        let name = guide.parent()?.parent()?.join("on/x86_64/toolchain/bin/clang");
+        let name = guide.parent()?.join("toolchain/bin/clang");
         let own = say("cc", &["-print-file-name=include"])?;
         let system = format!("/usr/include/{}", say("cc", &["-print-multiarch"])?);
         Some(Compiler { name, words: ["-isystem".into(), own, "-isystem".into(), system].into() })

@@ -10,7 +10,7 @@
 //! path from the top of the repository, by the bytes of these paths. In a shell, there:
 //!
 //! ```text
-//! { grep -E '^(base|cipher|page|image|chip|store|recorder):' crates.txt
+//! { grep -E '^(base|cipher|page|image|chip|store|recorder)[ :]' crates.txt
 //!   find crates/{base,cipher,page,image,chip,store,recorder}/{src,specs,proofs} -type f |
 //!     LC_ALL=C sort | xargs sha256sum; } | sha256sum
 //! ```
@@ -101,7 +101,7 @@ fn used(crates: &str) -> Vec<&str> {
 
 /// The name that a line of crates.txt begins with.
 fn name_of(line: &str) -> &str {
-    line.split(':').next().unwrap_or_default()
+    line.split([' ', ':']).next().unwrap_or_default()
 }
 
 /// Adds the files below a folder, if it is there, by their paths from the top.

@@ -28,7 +28,7 @@ sources() { "$work/describe" crates.txt "$version" | grep '^sources '; }
 
 if [ $# -eq 0 ]; then
     before=$(sources)
-    rt staticlib recorder
+    tools/static-libraries.sh recorder
     if [ "$(sources)" != "$before" ]; then
         say "the sources were changed while rt built the library: nothing is kept, run it again" >&2
         exit 1

@@ -16,9 +16,13 @@ mod archive;
 use archive::{take, Sources, ARCHIVE, TEXT};
 
 const FOLDER: &str = "JOHVIMARU_LIB_DIR";
-/// The folder of the kept archive, and the one that `rt` writes to.
+/// The folder of the kept archive, and that of the one that `rt` has built here.
 const KEPT: &str = "lib/x86_64";
 const BUILT: &str = "target/staticlib";
+/// The folder in which `rt` builds the library, the words for it, and where the archive then is.
+const CRATE: &str = "crates/recorder";
+const WORDS: [&str; 3] = ["lib", "--cpu", "x86-64"];
+const MADE: &str = "crates/recorder/out/librecorder.a";
 /// The crates in the order in which `rt` proves them, and how many seconds each takes on two cores.
 const CRATES: [(&str, u32); 7] = [
     ("base", 2),
@@ -101,6 +105,7 @@ fn built(top: &Path, sources: &Sources, why: &str) -> Result<Vec<u8>, String> {
     let _lock = lock(&folder).map_err(|error| format!("{why}, and {BUILT}: {error}"))?;
     take(&folder, sources).or_else(|_| {
         build(top, why)?;
+        put(top, &folder)?;
         describe(top, &folder, sources)?;
         take(&folder, sources)
     })
@@ -117,13 +122,12 @@ fn lock(folder: &Path) -> io::Result<File> {
 /// Has the library built at the top of the repository, and shows what `rt` says.
 fn build(top: &Path, why: &str) -> Result<(), String> {
     let minutes = (CRATES.iter().map(|(_, seconds)| seconds).sum::<u32>() + 30) / 60;
-    let (first, seconds) = CRATES[0];
-    let how_long = format!("some {minutes} minutes on two cores; first {first}, some {seconds} s");
+    let how_long = format!("some {minutes} minutes on two cores");
     let start = format!("johvimaru: {why}: rt proves and builds it anew, {how_long}");
     match run_rt(top, &start) {
         Ok((true, _)) => Ok(()),
         Ok((false, last)) => {
-            Err(format!("{why}, and `rt staticlib recorder` failed; it said last: {last}"))
+            Err(format!("{why}, and `rt lib` in {CRATE} failed; it said last: {last}"))
         }
         Err(error) if error.kind() == io::ErrorKind::NotFound => Err(format!(
             "{why}, and the program `rt`, which builds it anew, is not here: install the Rattle \
@@ -134,12 +138,12 @@ fn build(top: &Path, why: &str) -> Result<(), String> {
     }
 }
 
-/// Runs `rt staticlib recorder`, and shows this line and its own ones. Tells whether it ended well, and what
+/// Runs `rt lib` for the library, and shows this line and its own ones. Tells whether it ended well, and what
 /// it said last.
 fn run_rt(top: &Path, start: &str) -> io::Result<(bool, String)> {
     let (lines, end) = io::pipe()?;
     let mut command = Command::new("rt");
-    command.args(["staticlib", "recorder"]).current_dir(top).stdin(Stdio::null());
+    command.args(WORDS).current_dir(top.join(CRATE)).stdin(Stdio::null());
     command.stdout(end.try_clone()?).stderr(end);
     let mut rt = command.spawn()?;
     // The command has the pipe's end, without which the lines would not end.
@@ -150,7 +154,7 @@ fn run_rt(top: &Path, start: &str) -> io::Result<(bool, String)> {
     for line in BufReader::new(lines).split(b'\n') {
         let line = String::from_utf8_lossy(&line?).into_owned();
         if line.starts_with("rt: ") {
-            say(&mut shown, &after(&line));
+            say(&mut shown, &timed(&line));
         }
         if !line.trim().is_empty() {
             last = line;
@@ -159,7 +163,14 @@ fn run_rt(top: &Path, start: &str) -> io::Result<(bool, String)> {
     Ok((rt.wait()?.success(), last))
 }
 
-/// Writes the text beside the archive that `rt` has just built.
+/// Puts the archive that `rt` has just built into a folder.
+fn put(top: &Path, folder: &Path) -> Result<(), String> {
+    fs::copy(top.join(MADE), folder.join(ARCHIVE))
+        .map(|_| ())
+        .map_err(|error| format!("{}: {error}", top.join(MADE).display()))
+}
+
+/// Writes the text beside that archive.
 fn describe(top: &Path, folder: &Path, sources: &Sources) -> Result<(), String> {
     if Sources::of(top)?.hash != sources.hash {
         return Err("the sources were changed while `rt` built the library: build again".into());
@@ -199,12 +210,12 @@ fn say(shown: &mut Option<File>, line: &str) {
     }
 }
 
-/// A line of `rt`, and what comes next where it says that a crate is proved.
-fn after(line: &str) -> String {
-    let name = line.strip_prefix("rt: ").and_then(|line| line.split_once(" proved"));
-    let at = name.and_then(|(name, _)| CRATES.iter().position(|(other, _)| *other == name));
-    match at.and_then(|at| CRATES.get(at + 1)) {
-        Some((next, seconds)) => format!("{line}; next {next}, some {seconds} s"),
+/// A line of `rt`, and how long the crate takes with which it says that it begins.
+fn timed(line: &str) -> String {
+    let name = line.strip_prefix("rt: chose --jobs ").and_then(|rest| rest.split_once(" for "));
+    let at = name.and_then(|(_, name)| CRATES.iter().find(|(other, _)| *other == name));
+    match at {
+        Some((_, seconds)) => format!("{line}, some {seconds} s"),
         None => line.to_string(),
     }
 }

@@ -13,6 +13,9 @@
 //! - [`sources`]: the functions of the sources in Rattle, and which calls which.
 //! - [`dividing`]: the writer of columns as it was when it divided, with its divisions counted.
 //! - [`edits`]: wrong programs, and what the prover says of them.
+//! - [`prover`]: checks of the crates, over what an earlier check left.
+//! - [`unproved`]: programs in Rattle, compiled and run with no proof.
+//! - [`kit`]: the toolchain.
 //! - [`rng`]: a generator of test inputs that gives the same ones in every run.
 //! - [`guarded`]: buffers that show a write outside the part that was lent.
 //! - [`hex`]: bytes to and from hexadecimal text.
@@ -33,7 +36,9 @@ pub mod floor;
 pub mod guarded;
 pub mod hex;
 pub mod kept;
+pub mod kit;
 pub mod model;
+pub mod prover;
 pub mod random_lists;
 pub mod rng;
 pub mod settings;
@@ -42,3 +47,4 @@ pub mod side_by_side;
 pub mod sources;
 pub mod store_lists;
 pub mod timing;
+pub mod unproved;

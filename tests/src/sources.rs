@@ -232,6 +232,13 @@ fn after_braces(words: &[String], open: usize) -> usize {
     panic!("a brace is not closed");
 }
 
+/// The place after the clause that begins at a place: it may have a star and a name before its braces.
+fn after_clause(words: &[String], clause: usize) -> usize {
+    let is_star = words[clause + 1] == "*";
+    let is_named = is_name(&words[clause + 1 + usize::from(is_star)]);
+    after_braces(words, clause + 1 + usize::from(is_star) + usize::from(is_named))
+}
+
 /// Whether a word is a name, and no number.
 fn is_name(word: &str) -> bool {
     word.starts_with(|c: char| c.is_alphabetic() || c == '_')
@@ -276,21 +283,35 @@ impl Module {
     /// Takes a use in, and gives the place after it.
     fn parse_use(&mut self, words: &[String], at: usize) -> usize {
         let end = end_of_use(words, at);
-        let path: Vec<&str> = words[at + 1..end - 1].iter().map(String::as_str).collect();
-        let (path, name) = match path.as_slice() {
-            [path @ .., "as", name] => (path, *name),
-            path => (path, *path.last().expect("a use names something")),
-        };
-        let path = self.resolve(&path.concat());
-        self.uses.insert(name.to_string(), path);
+        self.take_use("", &words[at + 1..end - 1]);
         end
+    }
+
+    /// Takes in what a use names below a path: one thing, or in braces several.
+    fn take_use(&mut self, above: &str, words: &[String]) {
+        if let Some(open) = words.iter().position(|word| word == "{") {
+            let above = above.to_string() + &words[..open].concat();
+            parts(&words[open + 1..words.len() - 1])
+                .into_iter()
+                .for_each(|part| self.take_use(&above, part));
+            return;
+        }
+        let (path, name) = match words {
+            [path @ .., word, name] if word == "as" => (path.concat(), Some(name.as_str())),
+            [path] if path == "self" => (String::new(), None),
+            path => (path.concat(), None),
+        };
+        let path = above.to_string() + &path;
+        let path = path.trim_end_matches("::");
+        let name = name.or(path.rsplit("::").next()).unwrap_or(path).to_string();
+        self.uses.insert(name, self.resolve(path));
     }
 
     /// Takes a function in, and gives the place after it.
     fn parse_function(&mut self, words: &[String], at: usize, owner: Option<&String>) -> usize {
         let mut next = find(words, at, &["{", CLAUSES[0], CLAUSES[1]]);
         while CLAUSES.contains(&words[next].as_str()) {
-            next = after_braces(words, next + 1);
+            next = after_clause(words, next);
         }
         let end = after_braces(words, next);
         let name = format!("{}::{}", owner.unwrap_or(&self.name), words[at + 1]);
@@ -359,6 +380,16 @@ fn end_of_path(words: &[String], at: usize) -> usize {
     end
 }
 
+/// What commas outside of braces part.
+fn parts(words: &[String]) -> Vec<&[String]> {
+    let mut depth = 0;
+    let is_end = |word: &String| {
+        depth += i32::from(word == "{") - i32::from(word == "}");
+        word == "," && depth == 0
+    };
+    words.split(is_end).filter(|part| !part.is_empty()).collect()
+}
+
 /// The first place from one on that has one of these words.
 fn find(words: &[String], from: usize, those: &[&str]) -> usize {
     let is_there = |at: &usize| those.contains(&words[*at].as_str());
@@ -393,14 +424,14 @@ mod tests {
 
     #[test]
     fn calls_are_found_under_the_names_of_their_modules() {
-        let page = "use crate::words;\nuse crate::Frame;\nuse crate::words::three as drei;\n\
-            impl Frame { pub fn of(self) -> u32 ensures { old / new } { 1 } }\n\
+        let page = "use crate::{Frame, words::{self, three as drei}};\n\
+            impl Frame { pub fn of(self) -> u32 ensures* { old / new } { 1 } }\n\
             fn local<'a>(x: &'a [u8]) -> u32 { words::two(x) + drei(x) }\n\
-            pub fn all(x: &[u8]) -> u32\n    requires { {x} ≡ x % 2 }\n    ensures { 1 }\n\
+            pub fn all(x: &[u8]) -> u32\n    requires { {x} ≡ x % 2 }\n    ensures low { 1 }\n\
             {\n    if (x.len() < 3) { return Frame::of(x); }\n    local(&x[1..local(x)])\n}\n";
         let words =
             "pub fn two(x: &[u8]) -> u32 { 2 }\npub fn three(x: &[u8]) -> u32 { other(3) }\n";
-        let main = "use page::columns;\nghost use lib.fn.{a};\n#[no_mangle]\n\
+        let main = "use page::columns;\nghost use Rattle.lib.fn.{a};\n#[unsafe(no_mangle)]\n\
             pub extern \"C\" fn out(f: Frame) -> u32 { columns::all(f) + f.of() }\n";
         let texts = [("page::columns", page), ("page::words", words), ("recorder", main)];
         let sources = Sources::of_texts(&texts);

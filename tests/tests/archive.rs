@@ -15,16 +15,16 @@ mod archive;
 
 use archive::{Sources, ARCHIVE, TEXT};
 
-/// The start of a script that stands for `rt`: it notes that it was called, and knows `rt version`.
+/// The start of a script that stands for `rt`: it notes that it was called and where, and knows `rt version`.
 const RT: &str = "#!/bin/sh\n\
     PATH=/usr/bin:/bin\n\
-    echo \"$*\" >>\"${0%/*}/called\"\n\
+    echo \"${PWD##*/}: $*\" >>\"${0%/*}/called\"\n\
     [ \"$1\" = version ] && echo 'test 1' && exit\n";
 /// Its rest where it builds an archive of what it finds in one source.
-const BUILDS: &str = "echo 'rt: base proved (1 s)' >&2\n\
-    mkdir -p target/staticlib\n\
-    cp crates/base/proofs/Deep/Laws.antt target/staticlib/librecorder.a\n\
-    echo 'rt: target/staticlib/librecorder.a is there'\n";
+const BUILDS: &str = "echo 'rt: chose --jobs 2 for cipher' >&2\n\
+    mkdir -p out\n\
+    cp ../base/proofs/Deep/Laws.antt out/librecorder.a\n\
+    echo 'rt: the archive is there'\n";
 const FAILS: &str = "echo 'rt: FAILED: base' >&2\nexit 1\n";
 
 /// The sources of the library in the small repositories.
@@ -73,7 +73,7 @@ impl Repository {
         let top = std::env::temp_dir().join(folder);
         let _ = fs::remove_dir_all(&top);
         let repository = Repository { top };
-        let crates = "base:\nstore: base\nguarantee: store base\nrecorder: store\n";
+        let crates = "base:\nstore: base\nguarantee: store base\nrecorder staticlib: store\n";
         repository.put("crates.txt", crates);
         for path in SOURCES.into_iter().chain([OTHER]) {
             repository.put(path, path);
@@ -120,7 +120,7 @@ impl Repository {
     /// How many times `rt` was called to build the library.
     fn times_built(&self) -> usize {
         let called = fs::read_to_string(self.path("programs/called")).unwrap_or_default();
-        called.lines().filter(|line| *line == "staticlib recorder").count()
+        called.lines().filter(|line| line.starts_with("recorder: lib ")).count()
     }
 
     fn sources(&self) -> Sources {
@@ -196,7 +196,10 @@ fn a_changed_source_makes_the_kept_archive_stale() {
     fs::remove_file(repository.path(SOURCES[2])).expect("it is there");
     assert_error(repository.linked(), &words);
     repository.put(SOURCES[2], SOURCES[2]);
-    repository.put("crates.txt", "base:\nstore:\nguarantee: store base\nrecorder: store base\n");
+    repository.put(
+        "crates.txt",
+        "base:\nstore:\nguarantee: store base\nrecorder staticlib: store base\n",
+    );
     assert_error(repository.linked(), &words);
 }
 
@@ -251,7 +254,7 @@ fn what_rt_built_is_taken_while_the_sources_are_the_same() {
 fn what_rt_says_is_shown_line_by_line() {
     let repository = Repository::new("shown");
     repository.put(SOURCES[0], "changed");
-    let wait = "while [ ! -e go ]; do sleep 0.02; done\n";
+    let wait = "while [ ! -e ../../go ]; do sleep 0.02; done\n";
     repository.put_rt(&BUILDS.replace("mkdir", &format!("echo 'a note' >&2\n{wait}mkdir")));
     let mut command = repository.command();
     let mut run = command.stdout(Stdio::null()).stderr(Stdio::piped()).spawn().expect("it runs");
@@ -262,14 +265,16 @@ fn what_rt_says_is_shown_line_by_line() {
         line
     };
     let first = line();
-    assert!(first.contains("other sources") && first.contains("some 5 minutes"), "{first}");
-    assert!(first.ends_with("; first base, some 2 s\n"), "{first}");
-    assert_eq!(line(), "rt: base proved (1 s); next cipher, some 30 s\n");
+    assert!(
+        first.contains("other sources") && first.ends_with("some 5 minutes on two cores\n"),
+        "{first}"
+    );
+    assert_eq!(line(), "rt: chose --jobs 2 for cipher, some 30 s\n");
     // It waits until here.
     repository.put("go", "");
     let mut rest = String::new();
     lines.read_to_string(&mut rest).expect("it is text");
-    assert_eq!(rest, "rt: target/staticlib/librecorder.a is there\n");
+    assert_eq!(rest, "rt: the archive is there\n");
     assert!(run.wait().expect("it ends").success());
 }
 
@@ -280,8 +285,8 @@ fn a_failure_of_rt_is_told() {
     repository.put_rt(FAILS);
     assert_error(repository.linked(), &["other sources", "it said last: rt: FAILED: base"]);
     repository.put_rt("exit 0\n");
-    assert_error(repository.linked(), &["target/staticlib/librecorder.a: No such file"]);
-    repository.put_rt(&format!("{BUILDS}echo >crates/store/src/lib.rt\n"));
+    assert_error(repository.linked(), &["crates/recorder/out/librecorder.a: No such file"]);
+    repository.put_rt(&format!("{BUILDS}echo >../store/src/lib.rt\n"));
     assert_error(repository.linked(), &["the sources were changed while"]);
 }
 
@@ -343,8 +348,11 @@ fn cargo_notices_a_changed_source() {
 #[test]
 fn the_kept_archive_must_be_what_rt_builds() {
     let repository = Repository::new("compared");
-    let tools = ["tools/keep-archive.sh", "tools/describe_archive.rs", "tools/archive.rs"];
-    repository.copy(&tools);
+    let tools = ["keep-archive.sh", "static-libraries.sh", "describe_archive.rs", "archive.rs"];
+    let tools = tools.map(|name| format!("tools/{name}"));
+    repository.copy(&tools.each_ref().map(String::as_str));
+    let executable = fs::Permissions::from_mode(0o755);
+    fs::set_permissions(repository.path(&tools[1]), executable).expect("it is there");
     repository.copy(&["rust/sha256.rs"]);
     repository.put_rt(BUILDS);
     let keep = |words: &[&str]| {

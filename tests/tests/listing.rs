@@ -37,11 +37,11 @@ fn case(write: fn(usize, usize, u64) -> Call) -> Vec<u8> {
 
 /// What the program prints for this input.
 fn printed(input: &[u8]) -> String {
-    let mut program = Command::new(repository().join("target/bin/listing"))
+    let mut program = Command::new(repository().join("crates/listing/out/listing"))
         .stdin(Stdio::piped())
         .stdout(Stdio::piped())
         .spawn()
-        .expect("`rt check listing` has made the program");
+        .expect("`rt ci`, or `rt run` in crates/listing, has made the program");
     // The program leaves what it does not read, so that the pipe may close early.
     let _ = program.stdin.take().expect("it is piped").write_all(input);
     let output = program.wait_with_output().expect("the program ends");

@@ -180,10 +180,10 @@ fn a_division_in_a_callee_is_seen() {
 #[test]
 fn signs_outside_of_bodies_are_no_divisions() {
     let comment = "// n / 10\npub fn put4(n: u32) -> u32 { n // and n % 10\n}\n";
-    let contract = "pub fn put4(n: u32) -> u32\n    requires { ⌜ n / 10 < 10 ⌝ }\n    \
-        requires { ⌜ n % 2 ≡ 0 ⌝ }\n    ensures { λ r. ⌜ r ≡ n / 10 ⌝ }\n{\n    n\n}\n";
+    let contract = "pub fn put4(n: u32) -> u32\n    requires low { n / 10 < 10 }\n    \
+        requires even { n % 2 ≡ 0 }\n    ensures* { ⌜ result ≡ n / 10 ⌝ }\n{\n    n\n}\n";
     let quotes = "pub fn put4(n: u32) -> u32 { both(b'/', '%', b\"/ \\\" %\") }\nfn both() {}\n";
-    let constant = "ghost use Nat.{_/_, _%_};\nconst TEN: u32 = 100 / 10;\n\
+    let constant = "ghost use Rattle.std.specs.Prelude.{◌/◌, ◌%◌};\nconst TEN: u32 = 100 / 10;\n\
         pub fn put4(n: u32) -> u32 { n }\n";
     for text in [comment, contract, constant] {
         assert_eq!(complaints_of(text, &[ROOT]), [""; 0], "{text}");
@@ -212,7 +212,7 @@ fn a_call_must_be_of_a_function_that_is_there() {
 const BEFORE: &str = "
 // Four columns of any number, as one word: of a longer one its last four digits.
 fn spelt_low(n: u32) -> u32
-    ensures { λ r. ⌜ wordBytes 4 r ≡ spell 4 n ⌝ }
+    ensures { word_bytes 4 result ≡ spell 4 n }
 {
     let high = n / 100 % 100;
     let low = n % 100;
@@ -221,8 +221,8 @@ fn spelt_low(n: u32) -> u32
 
 // Writes n into the four columns of dst from at on.
 pub(crate) fn put4(dst: &mut [u8], at: usize, n: u32)
-    requires { ⌜ at + 4 ≤ length (now dst) ⌝ }
-    ensures { λ _. ⌜ new dst ≡ splice (old dst) at (spell 4 n) ⌝ }
+    requires { at + 4 ≤ length dst.old }
+    ensures { dst.new ≡ splice dst.old at (spell 4 n) }
 {
     spelt_low(n);
 }

@@ -1,1 +1,3 @@
+#![tactic(auto)]
+
 // No code: definitions and laws on lists and numbers that several crates share.

@@ -1,4 +1,6 @@
 // The flash chip of document 02, #109: its side of the bus as a model, and the driver that sends it the steps of the flash.
+#![tactic(auto)]
+
 pub mod bus;
 pub mod driver;
 pub mod numbers;

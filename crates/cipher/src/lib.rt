@@ -1,4 +1,6 @@
 // AES-128 (FIPS 197) and its counter mode from counter 0 (SP 800-38A, 6.5).
+#![tactic(auto)]
+
 ghost use Rattle.std.specs.Prelude.{◌≡◌};
 ghost use Rattle.cipher.specs.Cipher.{cipher};
 ghost use Rattle.cipher.specs.KeyExpansion.{key_expansion};

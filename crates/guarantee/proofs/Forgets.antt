@@ -21,7 +21,7 @@ use Rattle.store.specs.Mount.{removes}
 use Rattle.store.specs.Wipe.{wipe_of}
 use Rattle.store.specs.declared.Reply.{Reply}
 use Rattle.store.specs.declared.Reply.TheVariants.{Done, PowerCut}
-use Rattle.guarantee.specs.Call.{commit, wipe, gather, Event, replied}
+use Rattle.guarantee.specs.Call.{commit, wipe, Event, replied}
 use Rattle.guarantee.specs.Book.{Book, Holding, is_at_position, held_among, book_removed, wipe_commit_at, entered}
 use Rattle.guarantee.specs.Origin.{Origin, key_byte}
 use Rattle.guarantee.specs.Machine.{Machine, step, outcome_at, left_at}

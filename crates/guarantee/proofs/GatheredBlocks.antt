@@ -1,6 +1,6 @@
 -- What mounts empty, and keep empty: each block that they are to erase; among these a block that a gather has emptied of live pages, with no commit between,
 -- where the last commit covers its headers. That a commit or wipe empties it is said in DeadErased.
-use Prim.Native.Nat.{ℕ, ◌-◌, ◌<◌, ◌≤◌}
+use Prim.Native.Nat.{ℕ, ◌<◌, ◌≤◌}
 use native.Mathlib.Omega.{arith}
 use native.Mathlib.Decide.{dec_lt}
 use mathlib.Core.Path.{◌≡◌, sym, ap, subst, ◌∙◌}

@@ -79,6 +79,7 @@ purged_clean c p b (read file offset output) t = absurd t
 purged_clean c p b (cut_off file offset) t = absurd t
 purged_clean c p b (commit noise) t = committed_clean c 0 p b
 purged_clean c p b (wipe noise file offset) t = committed_clean c wipe_commit_at p (book_removed file offset b)
+purged_clean c p b (gather block) t = absurd t
 
 -- without a payload no position is one's
 bare_held : (b : Book) → Bare b → (p : ℕ) → held_among (λ x. true) b p ≡ false
@@ -109,6 +110,7 @@ purged_empty img r neat (wipe noise file offset) t d =
     let e = wipe_outcome img r noise file offset d in
     subst (BareAfter img) (sym e)
     (stages_empty noise img (removed_first img r file offset) (first_neatly img r noise neat file offset) (subst (λ (o : Outcome). AllLegal img o.steps) e (wipe-legal img r noise file offset)))
+purged_empty img r neat (gather block) t d = absurd t
 
 -- behind the last block there is nothing
 outside_empty : (img : List ℕ) (b : ℕ) → size_right img ≡ true → blocks img ≤ b → block_empty img b ≡ true
@@ -136,6 +138,7 @@ purge-ended x = go x.event.call x.purging (succeeded m x.event x.done).1 (on_unc
     go (cut_off file offset) t d far = absurd t
     go (commit noise) t d far = commit-ended m noise settled x.on d x.event.n x.event.k far
     go (wipe noise file offset) t d far = wipe-ended m noise file offset settled x.on d x.event.n x.event.k far
+    go (gather block) t d far = absurd t
 
 -- ---- a handover
 module _ (x : Handover) where

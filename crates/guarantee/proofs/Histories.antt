@@ -122,6 +122,7 @@ mounting_book m e p = go e.call p
     go (cut_off file offset) t = absurd t
     go (commit noise) t = absurd t
     go (wipe noise file offset) t = absurd t
+    go (gather block) t = absurd t
 
 pub remounted_book : (m : Machine) (ms : List Event) → Each Mounting ms → (end_of m ms).book ≡ m.book
 remounted_book m [] p = refl

@@ -19,7 +19,7 @@ use Rattle.page.specs.Entry.{free_letter, used_letter, deleted_letter}
 use Rattle.store.specs.Mount.{removes, mounted}
 use Rattle.store.specs.declared.Reply.TheVariants.{Done}
 use Rattle.store.proofs.Fits.{fits_is, used_live}
-use Rattle.guarantee.specs.Call.{Call, mount, write, read, cut_off, commit, wipe, Event, is_mount, lent_right, Fate, replied, made_whole}
+use Rattle.guarantee.specs.Call.{Call, mount, write, read, cut_off, commit, wipe, gather, Event, is_mount, lent_right, Fate, replied, made_whole}
 use Rattle.guarantee.specs.Book.{Book, Holding, is_at_position, held_among, book_removed, book_renewed, book_freed, only_if, keys_done, commit_done, removal_done, book_committed, wipe_commit_at, entered}
 use Rattle.guarantee.specs.Origin.{key_byte}
 use Rattle.guarantee.specs.Machine.{Machine, step, fate_of, outcome_at, left_at}
@@ -49,6 +49,7 @@ purged-mark c p below b (read file offset output) t = absurd t
 purged-mark c p below b (cut_off file offset) t = absurd t
 purged-mark c p below b (commit noise) t = committed_mark c 0 p below b
 purged-mark c p below b (wipe noise file offset) t = committed_mark c wipe_commit_at p below (book_removed file offset b)
+purged-mark c p below b (gather block) t = absurd t
 
 -- a position that is u is a payload's
 pub used_held : (m : Machine) → Settled m → (p : ℕ) → p < positions → m.book.mark p ≡ used_letter → held_among (λ x. true) m.book p ≡ true
@@ -66,6 +67,7 @@ purging-lent (read file offset output) t = tt
 purging-lent (cut_off file offset) t = tt
 purging-lent (commit noise) t = tt
 purging-lent (wipe noise file offset) t = tt
+purging-lent (gather block) t = absurd t
 
 module _ (x : Purge) where
   abbrev after : Machine
@@ -171,6 +173,7 @@ module _ (x : ℕ) (v : Holding) where
   purged_there c (cut_off file offset) t below b h = absurd t
   purged_there c (commit noise) t below b h = committed_there c 0 (replied Done) b h
   purged_there c (wipe noise file offset) t below b h = wiped_there c noise file offset (replied Done) below b h
+  purged_there c (gather block) t below b h = absurd t
 
 -- a wipe that is done leaves nothing of the file from the offset on
 pub wiped_none : (m : Machine) (e : Event) (noise : List ℕ) (file offset : ℕ) → e.call ≡ wipe noise file offset → (left_at m e).reply ≡ Done → (x : ℕ) → removes file offset x ≡ true

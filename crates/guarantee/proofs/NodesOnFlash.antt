@@ -37,7 +37,7 @@ use Rattle.store.specs.Find.{new_page, found_at}
 use Rattle.store.specs.Gather.{place_on, live_pages, copy_to, copy_step, copy_steps, gather_of}
 use Rattle.store.specs.declared.Reply.TheVariants.{Done}
 use Rattle.store.proofs.Fits.{fits_is}
-use Rattle.store.proofs.Gathers.{LiveIn, Copying, live-place, header, copy_is, payload-length, header_range, page-same, copying_next, gather_copying}
+use Rattle.store.proofs.Gathers.{LiveIn, Copying, live-place, copy_is, payload-length, header_range, page-same, copying_next, gather_copying}
 use Rattle.store.proofs.LegalSteps.{legal_inside}
 use Rattle.store.proofs.Legals.{format_legal}
 use Rattle.store.proofs.Outcomes.{read_stepless, gather_outcome, gather-refused}

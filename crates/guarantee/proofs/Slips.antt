@@ -20,7 +20,7 @@ use Rattle.store.specs.Write.{file_right, offset_right, place_at}
 use Rattle.store.specs.Read.{read_of, read_length}
 use Rattle.store.specs.declared.Reply.TheVariants.{Done}
 use Rattle.store.proofs.Verdicts.{verdict-done}
-use Rattle.guarantee.specs.Call.{Given, write_given, mount, write, wipe, gather, Event, lent_right}
+use Rattle.guarantee.specs.Call.{Given, write_given, mount, write, wipe, Event, lent_right}
 use Rattle.guarantee.specs.Book.{Book, Holding, lowest_marked, book_spent, book_removed, entered}
 use Rattle.guarantee.specs.Origin.{cipher}
 use Rattle.guarantee.specs.Machine.{Machine, step}

@@ -1,4 +1,6 @@
 // C entry points into the inner layers, for tests and benchmarks. They are no part of the product.
+#![tactic(auto)]
+
 pub mod chips;
 pub mod ciphers;
 pub mod pages;

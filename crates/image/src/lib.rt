@@ -1,4 +1,6 @@
 // The flash image: its pages and blocks, the two steps of the flash, and power cuts.
+#![tactic(auto)]
+
 pub mod blocks;
 pub mod keys;
 pub mod look;

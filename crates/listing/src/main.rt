@@ -1,12 +1,16 @@
 // The listing program: reads an image, mounts it, and prints its nodes by place and the counts of letters.
+#![tactic(auto)]
+
 mod text;
 
-ghost use Rattle.std.specs.Prelude.{◌≡◌, ◌≤◌, length, take};
+ghost use Rattle.std.specs.Prelude.{◌≡◌, ◌≤◌, length, take, IfOk, OnOk, IfSome};
+ghost use Rattle.std.specs.Io.KnownBytes.{Appends};
 ghost use Rattle.listing.specs.Listing.{listing_of, listed, text_size};
 
-use libc::{STDIN_FILENO, STDOUT_FILENO};
 use page::keys::POSITIONS;
 use page::plan::PLACES;
+use std::io;
+use std::io::{Read, Write};
 use store::{mount, replies};
 
 // The most bytes that are taken as an image.
@@ -45,11 +49,35 @@ fn list(input: &mut [u8], out: &mut [u8]) -> usize
     list_image(input, out)
 }
 
-// Reads one byte more than that at most, so that longer input is seen.
-fn main() {
+// Reads until the buffer is full or the input ends, and gives how many bytes it put at the front.
+fn read_full<R: Read>(reader: &mut R, buf: &mut [u8]) -> io::Result<usize>
+    ensures within { IfOk result (λ n. n ≤ length buf.new) }
+    ensures bytes { IfOk result (λ n. IfSome (R.remaining reader.old)
+        (λ input. take n buf.new ≡ take (length buf.new) input)) }
+{
+    let mut done: usize = 0;
+    while done < buf.len() {
+        let n = reader.read(&mut buf[done..])?;
+        if n == 0 {
+            break;
+        }
+        done += n;
+    }
+    Ok(done)
+}
+
+// Reads one byte more than an image has at most, so that longer input is seen, and writes the listing.
+fn list_input<R: Read, W: Write>(reader: &mut R, writer: &mut W) -> io::Result<()>
+    ensures { OnOk result (IfSome (R.remaining reader.old)
+        (λ input. Appends (W.contents writer.old) (W.contents writer.new) (listed input))) }
+{
     let mut input = [0u8; LONGEST + 1];
-    let n = io::read_full(STDIN_FILENO, &mut input);
+    let n = read_full(reader, &mut input)?;
     let mut out = [0u8; TEXT];
     let r = list(&mut input[..n], &mut out);
-    io::write_all(STDOUT_FILENO, &out[..r]);
+    writer.write_all(&out[..r])
+}
+
+fn main(rt: HostRuntime) -> io::Result<()> {
+    list_input(&mut rt.stdin(), &mut rt.stdout())
 }

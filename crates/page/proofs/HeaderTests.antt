@@ -1,33 +1,29 @@
 -- Tests of headers and pages against fields that they must have: by comparing bytes.
-use Prim.Native.Nat.{ℕ, ◌+◌, ◌^◌, ◌<◌, ◌≤◌}
+use Prim.Native.Nat.{ℕ, ◌≤◌}
 use native.Mathlib.Omega.{arith}
 use mathlib.Core.Path.{◌≡◌, refl, sym, ap, ◌∙◌}
-use mathlib.Core.Bool.{Bool, true, false, cond, ◌&&◌}
-use mathlib.Core.List.{List, [], ◌∷◌, ◌++◌, append_assoc}
-use lib.ListN.{length, get_or, length-append}
-use lib.Dec.{eqb, leb}
-use borrow.Author.Tests.{eqb-true, eq-eqb, leb-true, le-leb}
+use mathlib.Core.Bool.{Bool, true, false, ◌&&◌}
+use mathlib.Core.List.{List, ◌∷◌, ◌++◌, append_assoc}
+use lib.ListN.{length, length-append}
+use lib.Dec.{eqb}
+use borrow.Author.Tests.{eqb-true, eq-eqb}
 use Rattle.base.specs.Part.{part, splice}
 use Rattle.base.specs.Each.{same}
-use Rattle.base.proofs.Choice.{and-true, and_intro, and-passed, true-false, both_ways}
-use Rattle.base.proofs.Parts.{part-part, part_length}
+use Rattle.base.proofs.Choice.{and-true, and-passed, true-false, both_ways}
 use Rattle.base.proofs.Eachs.{same_true, same_refl}
 use Rattle.page.specs.Frame.{header_size, colon_space, closing}
-use Rattle.page.specs.Column.{spell, value_after, number_in, number_then}
-use Rattle.page.specs.Header.{node_letter, last_number, node_frame, in_range, header_bytes, header_of, same_frame, header_with, node_with, with_part, header_like}
+use Rattle.page.specs.Column.{spell}
+use Rattle.page.specs.Header.{in_range, header_bytes, header_of, same_frame, header_with, node_with, with_part}
 use Rattle.page.specs.Page.{page_bytes, page_like}
 use Rattle.page.specs.Form.{is_empty, closed, form_of, whole_with, whole_node}
-use Rattle.page.specs.declared.Number.{Number}
-use Rattle.page.specs.declared.Number.TheVariants.{Is as IsNumber, Misspelt}
 use Rattle.page.specs.declared.Frame.{Frame}
 use Rattle.page.specs.declared.Header.{Header}
 use Rattle.page.specs.declared.Header.TheVariants.{Is, Invalid}
 use Rattle.page.specs.declared.Form.{Form}
 use Rattle.page.specs.declared.Form.TheVariants.{Empty, Whole, Torn, Spoilt}
-use Rattle.page.proofs.Slices.{part_past, splice_middle}
-use Rattle.page.proofs.Column.{value_lt, length-spell}
-use Rattle.page.proofs.Ranges.{NodeRange, node_range}
-use Rattle.page.proofs.HeaderLaws.{Spelt, spelt_header, header_spelt, written_spelt, header_read, header_is, header_range}
+use Rattle.page.proofs.Slices.{splice_middle}
+use Rattle.page.proofs.Column.{length-spell}
+use Rattle.page.proofs.HeaderLaws.{header_read, header_is}
 use Rattle.page.proofs.FormLaws.{form_from, form_from_lem}
 
 -- ---- headers field by field

@@ -7,8 +7,6 @@ use Rattle.page.specs.Frame.{payload_size}
 use Rattle.page.specs.Column.{spell, number_in, number_then}
 use Rattle.page.specs.Plan.{places}
 use Rattle.page.specs.Header.{last_position}
-use Rattle.page.specs.declared.Number.{Number}
-use Rattle.page.specs.declared.Number.TheVariants.{Is as IsNumber, Misspelt as NoNumber}
 use Rattle.page.specs.declared.Entry.{Entry}
 use Rattle.page.specs.declared.Entry.TheVariants.{At, Vacant, Misspelt}
 

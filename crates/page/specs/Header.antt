@@ -5,8 +5,6 @@ use Rattle.base.specs.Each.{same}
 use Rattle.page.specs.Frame.{payload_size, colon_space}
 use Rattle.page.specs.Column.{spell, number_in, number_then}
 use Rattle.page.specs.Plan.{file_plan, last_file, count_of}
-use Rattle.page.specs.declared.Number.{Number}
-use Rattle.page.specs.declared.Number.TheVariants.{Is as IsNumber, Misspelt}
 use Rattle.page.specs.declared.Frame.{Frame}
 use Rattle.page.specs.declared.Header.{Header}
 use Rattle.page.specs.declared.Header.TheVariants.{Is, Invalid}

@@ -1,4 +1,6 @@
 // The pages of the flash: headers, page forms, commit entries and letters, the file plan, key positions.
+#![tactic(auto)]
+
 pub mod bytes;
 pub mod columns;
 pub mod entries;

@@ -1,4 +1,6 @@
 // The store for C: each call over numbers and lent slices, with its reply as a number.
+#![tactic(auto)]
+
 pub mod bus;
 
 ghost use Rattle.std.specs.Prelude.{◌≡◌, [], ◌∷◌};

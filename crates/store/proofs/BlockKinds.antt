@@ -9,7 +9,7 @@ use mathlib.Core.List.{List, [], ◌∷◌}
 use lib.Dec.{eqb, leb}
 use lib.ListN.{length, get_or, drop_of_length-le, length-take, length-drop}
 use lib.Seq.{take-nil}
-use borrow.Author.Tests.{eqb-true, leb-true, eq-eqb, ne_eqb}
+use borrow.Author.Tests.{eqb-true, leb-true, ne_eqb}
 use Rattle.base.specs.Part.{part}
 use Rattle.base.specs.Each.{all_are}
 use Rattle.base.specs.Search.{all_from}
@@ -32,7 +32,7 @@ use Rattle.page.proofs.HeaderLaws.{header_spelt}
 pub use Rattle.page.proofs.HeaderTests.{same_frame_lem, frame_same, whole_with_lem, with_whole}
 use Rattle.image.specs.Size.{block_size, pages_in_block, blocks}
 use Rattle.image.specs.Look.{page_at, form_at, page_empty}
-use Rattle.store.specs.Kind.{page_in, same_frame, whole_with, key_block_whole, commit_block_whole, is_block_letter, kind_of_first, kind_of, headed, is_chosen, is_data, has_events}
+use Rattle.store.specs.Kind.{page_in, whole_with, key_block_whole, commit_block_whole, is_block_letter, kind_of_first, kind_of, headed, is_chosen, is_data, has_events}
 use Rattle.store.specs.Find.{is_open}
 use Rattle.store.specs.declared.Numbers.{Numbers}
 use Rattle.store.specs.declared.Kind.{Kind}

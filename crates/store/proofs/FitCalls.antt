@@ -1,8 +1,7 @@
 -- A call that succeeds leaves a record that fits the image that it leaves, on every image and record that fits: write and cut-off.
 use Prim.Native.Nat.{ℕ, ◌+◌, ◌*◌, ◌/◌, ◌<◌, ◌≤◌}
 use native.Mathlib.Omega.{arith}
-use native.Mathlib.Decide.{ℕ_discrete}
-use mathlib.Core.Path.{◌≡◌, refl, sym, ap, ◌∙◌}
+use mathlib.Core.Path.{◌≡◌, refl, sym, ◌∙◌}
 use mathlib.Core.Bool.{Bool, true, false, cond, ◌&&◌}
 use mathlib.Core.List.{List, [], ◌∷◌}
 use lib.Dec.{eqb}
@@ -13,7 +12,7 @@ use Rattle.page.specs.Entry.{none, free_letter, used_letter, deleted_letter}
 use Rattle.page.specs.Plan.{file_plan, places}
 use Rattle.page.specs.Header.{node_frame, last_number}
 use Rattle.page.specs.Page.{enciphered, node_page, cut_off_page}
-use Rattle.page.specs.declared.Form.TheVariants.{Empty, Whole}
+use Rattle.page.specs.declared.Form.TheVariants.{Whole}
 use Rattle.page.proofs.Plans.{place_at_lem}
 use Rattle.page.proofs.Ranges.{NodeRange, node_range}
 use Rattle.page.proofs.Pages.{enciphered-length, node-length, cut_off-length}
@@ -38,7 +37,6 @@ use Rattle.store.proofs.Finds.{found_is, lowest_free_lem, write-page-is_empty, w
 use Rattle.store.proofs.Fits.{Fit, Named, fits_is, fit-fits}
 use Rattle.store.proofs.Outcomes.{still_full, emptied-as_long, write_outcome, cut_off_outcome}
 use Rattle.store.proofs.Calls.{place_below}
-use Rattle.store.proofs.Removals.{removed-numbers}
 use Rattle.store.proofs.Records.{put, put_page, put_key, page_stays, key_stays}
 use Rattle.store.proofs.Fitting.{Chosen, Counted, fit_over, fit-counted, fit_chosen, released_at, emptied-fit, removed-fit, node-fit}
 

@@ -3,12 +3,12 @@ use Prim.Native.Nat.{ℕ, zero, suc, ◌+◌, ◌-◌, ◌*◌, ◌/◌, ◌%◌
 use native.Mathlib.Omega.{arith}
 use mathlib.Core.Path.{◌≡◌, refl, sym, ap, ◌∙◌}
 use mathlib.Core.Logic.{◌⊎◌, inl, inr}
-use mathlib.Core.Bool.{Bool, true, false, cond, not, ◌&&◌}
+use mathlib.Core.Bool.{Bool, true, false, cond, ◌&&◌}
 use mathlib.Core.List.{List, [], ◌∷◌, ◌++◌}
 use lib.Dec.{eqb}
 use lib.ListN.{length}
 use borrow.Author.Tests.{eq-eqb}
-use Rattle.base.specs.Search.{any_from, which_from}
+use Rattle.base.specs.Search.{which_from}
 use Rattle.base.specs.Each.{Each}
 use Rattle.base.proofs.Choice.{and_intro, true-false}
 use Rattle.base.proofs.Searches.{any_intro}
@@ -18,8 +18,8 @@ use Rattle.page.specs.Plan.{places}
 use Rattle.page.specs.Header.{last_number, keys_frame, commit_frame}
 use Rattle.page.specs.Key.{key_size, keys_in_page, keys_in_block, positions}
 use Rattle.page.specs.Entry.{parts, commit_payload}
-use Rattle.page.specs.Page.{keys_page, commit_page, payload_of}
-use Rattle.page.specs.declared.Form.TheVariants.{Empty, Whole}
+use Rattle.page.specs.Page.{keys_page, commit_page}
+use Rattle.page.specs.declared.Form.TheVariants.{Whole}
 use Rattle.page.proofs.FormLaws.{form_page}
 use Rattle.page.proofs.Pages.{payload_back}
 use Rattle.page.proofs.Commits.{InRange, payload-length, payload-valid}
@@ -33,7 +33,7 @@ use Rattle.image.proofs.Empties.{empty_block_page, page_empty-same, erase_emptie
 use Rattle.image.proofs.Forms.{form_same, form_of-page, empty_form_at}
 use Rattle.image.proofs.Looks.{sized, size_same, block_inside, blocks-same, lowest_empty_lem, lowest_below, lowest_some}
 use Rattle.image.proofs.Plays.{play_all_nil, play_all_cons, play_all-append, play_all-length, block_play_all_other}
-use Rattle.image.proofs.Rows.{row_steps, row_in_no_other, row-page-done, row-page-rest}
+use Rattle.image.proofs.Rows.{row_in_no_other, row-page-done, row-page-rest}
 use Rattle.image.proofs.KeyBlock.{key_block_steps_lem, key_block_inside, key_page-size, keys_from-length, renewed_at_length}
 use Rattle.image.proofs.CommitBlock.{commit_block_steps_lem, commit_block_inside, commit_page-size}
 use Rattle.store.specs.Kind.{page_in, kind_of, headed, has_events, is_chosen, is_data}
@@ -49,7 +49,7 @@ use Rattle.store.specs.declared.Kind.TheVariants.{Keys, Commit, Other}
 use Rattle.store.specs.declared.Numbers.{Numbers}
 use Rattle.store.specs.declared.Reply.TheVariants.{Done}
 use Rattle.store.proofs.Verdicts.{commit_taken_lem, wipe_taken_lem}
-use Rattle.store.proofs.BlockKinds.{kind_agree, kind_unbegun, chosen_is_no_data, keys-kind, commit-kind, page_block, page_in_lem, KeyBlock, CommitBlock}
+use Rattle.store.proofs.BlockKinds.{kind_agree, kind_unbegun, chosen_is_no_data, keys-kind, commit-kind, page_block}
 use Rattle.store.proofs.Fits.{Fit, Vacant, Named, fits_is, fit-fits, fit_inside, is_letter_lem, named_inside, named_position, named_live}
 use Rattle.store.proofs.Outcomes.{Full, still_full, cleaned-as_long, removed-as_long, commit_outcome, wipe_outcome}
 use Rattle.store.proofs.Removals.{removed-numbers}

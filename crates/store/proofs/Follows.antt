@@ -3,12 +3,10 @@ use Prim.Native.Nat.{ℕ, ◌+◌, ◌-◌, ◌*◌, ◌/◌, ◌<◌, ◌≤◌
 use native.Mathlib.Omega.{arith}
 use native.Mathlib.Decide.{ℕ_discrete}
 use mathlib.Core.Path.{◌≡◌, refl, sym, ap, ◌∙◌}
-use mathlib.Core.Bool.{Bool, true, false, cond}
+use mathlib.Core.Bool.{true, false}
 use mathlib.Core.List.{List, [], ◌∷◌, ◌++◌}
-use lib.Dec.{eqb}
 use lib.ListN.{length}
-use borrow.Author.Tests.{eq-eqb, ne_eqb}
-use Rattle.base.specs.Search.{first_from}
+use borrow.Author.Tests.{ne_eqb}
 use Rattle.base.specs.Each.{Each, all_are}
 use Rattle.base.proofs.Choice.{true-false}
 use Rattle.base.proofs.Searches.{first_agree}
@@ -19,7 +17,7 @@ use Rattle.page.specs.Entry.{parts}
 use Rattle.page.specs.Form.{is_empty}
 use Rattle.page.specs.Header.{header_bytes}
 use Rattle.page.specs.Page.{page_bytes, keys_page, commit_page}
-use Rattle.image.specs.Size.{block_size, pages_in_block, blocks}
+use Rattle.image.specs.Size.{pages_in_block, blocks}
 use Rattle.image.specs.Look.{block_at, page_at, page_empty, block_empty, lowest_empty}
 use Rattle.image.specs.Step.{Step, erase, Inside, whole, play_all}
 use Rattle.image.specs.Power.{Device, device, run}
@@ -34,7 +32,7 @@ use Rattle.image.proofs.Rows.{row_steps, row_in_no_other, row-page-done}
 use Rattle.image.proofs.KeyBlock.{key_block_steps_lem, key_block_inside, key_page-size, renewed_at_length}
 use Rattle.image.proofs.CommitBlock.{commit_block_steps_lem, commit_block_inside, commit_page-size}
 use Rattle.store.specs.Kind.{is_chosen}
-use Rattle.store.specs.Record.{Record, with_numbers, is_dead}
+use Rattle.store.specs.Record.{with_numbers, is_dead}
 use Rattle.store.specs.Format.{noise_size}
 use Rattle.store.specs.Write.{keys_block}
 use Rattle.store.specs.Commit.{Stage, onward, replace_keys, replace_commit, with_keys, with_commit, next_epoch, keys_replaced, commit_replaced, dead_erased, commit_stages}

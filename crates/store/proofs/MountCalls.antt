@@ -19,7 +19,7 @@ use Rattle.image.specs.Power.{device, power_for, run}
 use Rattle.image.specs.declared.Power.{Power}
 use Rattle.image.proofs.Looks.{sized}
 use Rattle.store.specs.Reply.{verdict, number_of, is_done}
-use Rattle.store.specs.Kind.{kind_of, covered_by, headed}
+use Rattle.store.specs.Kind.{kind_of, covered_by}
 use Rattle.store.specs.Record.{record_of, is_dead, keys_apart}
 use Rattle.store.specs.Outcome.{left, most_steps}
 use Rattle.store.specs.Find.{is_found, found_at}

@@ -1,5 +1,5 @@
 -- What the code of commit and wipe needs where a call is taken, and that it leaves what the call's definition says.
-use Prim.Native.Nat.{ℕ, ◌+◌, ◌*◌, ◌/◌, ◌<◌, ◌≤◌}
+use Prim.Native.Nat.{ℕ, ◌+◌, ◌/◌, ◌≤◌}
 use native.Mathlib.Omega.{arith}
 use native.Mathlib.Decide.{ℕ_discrete}
 use mathlib.Core.Path.{◌≡◌, refl, sym, ap, ◌∙◌}
@@ -9,8 +9,7 @@ use lib.ListN.{length}
 use Rattle.base.proofs.Choice.{true-false}
 use Rattle.base.proofs.Searches.{first_agree}
 use Rattle.page.specs.Key.{positions}
-use Rattle.page.specs.Header.{last_number}
-use Rattle.image.specs.Size.{pages_in_block, blocks, size_right}
+use Rattle.image.specs.Size.{pages_in_block, blocks}
 use Rattle.image.specs.Look.{block_empty, lowest_empty, empty_blocks}
 use Rattle.image.specs.Power.{Device, device, power_for, run}
 use Rattle.image.specs.declared.Power.{Power}
@@ -35,7 +34,7 @@ use Rattle.store.proofs.Verdicts.{commit-reply, commit_taken_lem, commit_done_le
 use Rattle.store.proofs.BlockKinds.{kind_unbegun}
 use Rattle.store.proofs.Fits.{Fit, fits_is, fit_inside}
 use Rattle.store.proofs.Outcomes.{leaves, commit_outcome, commit-refused, wipe_outcome, wipe-refused, stages_map, stages_letters, still_full, cleaned-as_long, removed-as_long, first_as_long}
-use Rattle.store.proofs.Counts.{replaced, dead_few, commit-steps, wipe-steps, removed_first_count}
+use Rattle.store.proofs.Counts.{replaced, dead_few, commit-steps, wipe-steps}
 use Rattle.store.proofs.Cuts.{run-left, taken_few}
 use Rattle.store.proofs.Calls.{refused-left}
 use Rattle.store.proofs.Removals.{removed-numbers}

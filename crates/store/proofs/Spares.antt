@@ -11,10 +11,10 @@ use borrow.Author.Tests.{eq-eqb, ne_eqb, eqb-false, not-true}
 use Rattle.base.specs.Search.{first_from}
 use Rattle.base.proofs.Choice.{and-true, true-false, or_left}
 use Rattle.base.proofs.Searches.{first_holds, first_least, first_bounds, first_agree}
-use Rattle.image.specs.Size.{block_size, blocks, size_right, right_length}
+use Rattle.image.specs.Size.{block_size, blocks, size_right}
 use Rattle.image.specs.Look.{block_at, block_empty}
 use Rattle.image.specs.Step.{erase}
-use Rattle.image.specs.Power.{Device, device, act, run}
+use Rattle.image.specs.Power.{device, act, run}
 use Rattle.image.specs.Block.{renewed_key, key_block_steps, commit_block_steps}
 use Rattle.image.specs.declared.Power.{Power}
 use Rattle.image.proofs.Empties.{block_empty-same}

@@ -29,7 +29,7 @@ use Rattle.store.specs.Read.{read_tests, read_of}
 use Rattle.store.specs.CutOff.{cut_off_tests, cut_off_of}
 use Rattle.store.specs.Commit.{commit_tests, commit_of}
 use Rattle.store.specs.Wipe.{wipe_tests, wipe_of}
-use Rattle.store.specs.Gather.{live_pages, room_for_all, gather_tests, gather_of}
+use Rattle.store.specs.Gather.{live_pages, gather_tests, gather_of}
 use Rattle.store.specs.Taken.{Buffers, Ready, Planned, FormatTaken, MountTaken, Filling, WriteTaken, ReadTaken, CutOffTaken, CommitTaken, WipeTaken, GatherTaken}
 use Rattle.store.specs.declared.Reply.{Reply}
 use Rattle.store.specs.declared.Reply.TheVariants.{Done, ImageSize, BufferLength, NoiseLength, NoSuchFile, OffsetOutside, PayloadLength, RecordUnfit, NothingThere, NoFreeKey, NoRoom, NumbersSpent, NoKeyBlock, NoCommit, EntryUnfit, NothingToGather, PowerCut}

@@ -1,9 +1,9 @@
 -- Document 01, "Calls and their refusals": the stages of Commit and Wipe on a flash whose power may fail on the way.
 -- Each takes the block that it would take with power, so that the record does not depend on the cut; proofs/Follows ties them to the stages of specs/Commit.
-use Rattle.std.specs.Prelude.{ℕ, ◌-◌, ◌<◌, ◌≡◌, Bool, true, not, ◌&&◌, ◌||◌, List, [], ◌∷◌, ◌++◌, map, eqb, ltb, length, get_or}
+use Rattle.std.specs.Prelude.{ℕ, ◌-◌, ◌<◌, ◌≡◌, Bool, true, not, ◌&&◌, ◌||◌, List, [], ◌∷◌, ◌++◌, map, ltb, length, get_or}
 use Rattle.base.specs.Search.{first_from, any_from, which_from}
 use Rattle.page.specs.Plan.{places}
-use Rattle.image.specs.Size.{pages_in_block, most_blocks, blocks, size_right}
+use Rattle.image.specs.Size.{most_blocks, blocks, size_right}
 use Rattle.image.specs.Look.{block_at, block_empty}
 use Rattle.image.specs.Step.{Step, erase}
 use Rattle.image.specs.Power.{Device, device, power_for, run}

@@ -1,4 +1,6 @@
 // The store: block kinds, the working record and its fit, and the calls of documents 01 and 02.
+#![tactic(auto)]
+
 pub mod commit;
 pub mod cut_off;
 mod find;

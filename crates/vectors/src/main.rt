@@ -1,7 +1,9 @@
 // The published examples of FIPS 197 and SP 800-38A, written as they come out of the cipher. The file stdout has the
 // published values.
+#![tactic(auto)]
+
 use cipher::RoundKeys;
-use libc::STDOUT_FILENO;
+use std::io;
 
 const BLOCK: usize = 16;
 
@@ -30,8 +32,8 @@ const PLAIN_4: [u8; 16] = *b"\xf6\x9f\x24\x45\xdf\x4f\x9b\x17\xad\x2b\x41\x7b\xe
 // SP 800-38A, F.5: the first counter block.
 const COUNTER: [u8; 16] = *b"\xf0\xf1\xf2\xf3\xf4\xf5\xf6\xf7\xf8\xf9\xfa\xfb\xfc\xfd\xfe\xff";
 
-fn write(text: &[u8]) {
-    io::write_all(STDOUT_FILENO, text);
+fn write(rt: &impl Print, text: &[u8]) -> io::Result<()> {
+    rt.write_all(text)
 }
 
 // The hexadecimal digit of n modulo 16.
@@ -41,38 +43,32 @@ fn digit(n: u8) -> u8 {
 }
 
 // Writes bytes in hexadecimal, and ends the line.
-fn show(bytes: &[u8]) {
-    let mut i: usize = 0;
-    while i < bytes.len() {
-        let b = bytes[i];
-        write(&[digit(b / 16), digit(b)]);
-        i += 1;
+fn show(rt: &impl Print, bytes: &[u8]) -> io::Result<()> {
+    for b in bytes {
+        write(rt, &[digit(*b / 16), digit(*b)])?;
     }
-    write(b"\n");
+    write(rt, b"\n")
 }
 
 // Writes the words of round keys, one to a line.
-fn show_words(w: [u8; 176]) {
-    let mut i: usize = 0;
-    while i < WORDS {
+fn show_words(rt: &impl Print, w: [u8; 176]) -> io::Result<()> {
+    for i in 0..WORDS {
         let at = 4 * i;
         let end = at + 4;
-        show(&w[at..end]);
-        i += 1;
+        show(rt, &w[at..end])?;
     }
+    Ok(())
 }
 
 // Enciphers a block and writes the result.
-fn show_block(keys: RoundKeys, block: [u8; 16]) {
+fn show_block(rt: &impl Print, keys: RoundKeys, block: [u8; 16]) -> io::Result<()> {
     let output = cipher::encrypt(keys, block);
-    show(&output);
+    show(rt, &output)
 }
 
 // The counter block after this one: plus 1, modulo 2^128.
 fn next(mut counter: [u8; 16]) -> [u8; 16] {
-    let mut i: usize = BLOCK;
-    while 0 < i {
-        i -= 1;
+    for i in (0..BLOCK).rev() {
         if counter[i] < 255 {
             counter[i] += 1;
             return counter;
@@ -83,54 +79,57 @@ fn next(mut counter: [u8; 16]) -> [u8; 16] {
 }
 
 // Enciphers a block in counter mode with this counter block, and writes the result.
-fn show_counter_block(keys: RoundKeys, counter: [u8; 16], plain: [u8; 16]) {
+fn show_counter_block(
+    rt: &impl Print,
+    keys: RoundKeys,
+    counter: [u8; 16],
+    plain: [u8; 16],
+) -> io::Result<()> {
     let mut output = cipher::encrypt(keys, counter);
-    let mut i: usize = 0;
-    while i < BLOCK {
+    for i in 0..BLOCK {
         output[i] = output[i] ^ plain[i];
-        i += 1;
     }
-    show(&output);
+    show(rt, &output)
 }
 
-fn show_fips_197() {
-    write(b"FIPS 197, A.1, key expansion\n");
+fn show_fips_197(rt: &impl Print) -> io::Result<()> {
+    write(rt, b"FIPS 197, A.1, key expansion\n")?;
     let keys = cipher::expand(KEY);
     let words = keys.bytes;
-    show_words(words);
-    write(b"FIPS 197, B, cipher\n");
-    show_block(keys, INPUT_B);
-    write(b"FIPS 197, C.1, cipher\n");
-    show_block(cipher::expand(KEY_C1), PLAIN_C1);
+    show_words(rt, words)?;
+    write(rt, b"FIPS 197, B, cipher\n")?;
+    show_block(rt, keys, INPUT_B)?;
+    write(rt, b"FIPS 197, C.1, cipher\n")?;
+    show_block(rt, cipher::expand(KEY_C1), PLAIN_C1)
 }
 
-fn show_sp_800_38a() {
+fn show_sp_800_38a(rt: &impl Print) -> io::Result<()> {
     let keys = cipher::expand(KEY);
-    write(b"SP 800-38A, F.1.1, ECB-AES128\n");
-    show_block(keys, PLAIN_1);
-    show_block(keys, PLAIN_2);
-    show_block(keys, PLAIN_3);
-    show_block(keys, PLAIN_4);
-    write(b"SP 800-38A, F.5.1, CTR-AES128\n");
+    write(rt, b"SP 800-38A, F.1.1, ECB-AES128\n")?;
+    show_block(rt, keys, PLAIN_1)?;
+    show_block(rt, keys, PLAIN_2)?;
+    show_block(rt, keys, PLAIN_3)?;
+    show_block(rt, keys, PLAIN_4)?;
+    write(rt, b"SP 800-38A, F.5.1, CTR-AES128\n")?;
     let second = next(COUNTER);
     let third = next(second);
-    show_counter_block(keys, COUNTER, PLAIN_1);
-    show_counter_block(keys, second, PLAIN_2);
-    show_counter_block(keys, third, PLAIN_3);
-    show_counter_block(keys, next(third), PLAIN_4);
+    show_counter_block(rt, keys, COUNTER, PLAIN_1)?;
+    show_counter_block(rt, keys, second, PLAIN_2)?;
+    show_counter_block(rt, keys, third, PLAIN_3)?;
+    show_counter_block(rt, keys, next(third), PLAIN_4)
 }
 
 // The counter mode from counter 0, on two blocks and a half of zeros: its key stream. No standard has this vector; the
 // stored values are those of another implementation.
-fn show_key_stream() {
-    write(b"counter mode from counter 0, key stream of 40 bytes\n");
+fn show_key_stream(rt: &impl Print) -> io::Result<()> {
+    write(rt, b"counter mode from counter 0, key stream of 40 bytes\n")?;
     let mut text = [0u8; 40];
     cipher::apply_stream(cipher::expand(KEY), &mut text);
-    show(&text);
+    show(rt, &text)
 }
 
-fn main() {
-    show_fips_197();
-    show_sp_800_38a();
-    show_key_stream();
+fn main(rt: HostRuntime) -> io::Result<()> {
+    show_fips_197(&rt)?;
+    show_sp_800_38a(&rt)?;
+    show_key_stream(&rt)
 }

@@ -362,7 +362,7 @@ fn each_call_mounts_first() {
 
 /// What the proved program prints for an image.
 fn listing_program(image: &[u8]) -> String {
-    let program = Path::new(env!("CARGO_MANIFEST_DIR")).join("../../target/bin/listing");
+    let program = Path::new(env!("CARGO_MANIFEST_DIR")).join("../../crates/listing/out/listing");
     let mut child = Command::new(program)
         .stdin(Stdio::piped())
         .stdout(Stdio::piped())

@@ -71,8 +71,8 @@
 //!
 //! The build takes `librecorder.a` from the folder that the variable `JOHVIMARU_LIB_DIR` names. Where none is
 //! named it is the proved archive that the repository keeps, if it was built from the very sources at hand;
-//! else `rt staticlib recorder` proves and builds it, in some minutes, and without the program `rt` the build
-//! ends and says so. Cargo looks for changed sources by their times. The library is for x86-64 with ELF
+//! else `rt lib` in crates/recorder proves and builds it, in some minutes, and without the program `rt` the
+//! build ends and says so. Cargo looks for changed sources by their times. The library is for x86-64 with ELF
 //! objects, uses SSE registers, and needs `memcpy` and `memset` and nothing else; for a target without an
 //! operating system name its folder by the variable.
 

@@ -1,33 +1,35 @@
-//! Tries wrong programs: each edit of `crates/*/refused` is made on a copy of the repository, and the
-//! prover must then refuse the crate, at the place that the edit names and because a fact fails there.
+//! Tries wrong programs: each edit of `crates/*/refused` and `crates/*/must-fail` is made on a copy of the
+//! repository, and the prover must then refuse the crate, at the place that the edit names and because a fact
+//! fails there.
 //!
-//! An edit is written as those of `must-fail`, which `rt ci` tries from nothing, with one line more:
-//! `refused:` and the function, or the file of proofs, that must no longer be proved. Here an edit is
-//! checked over what the proof of its crate left (`rt dev`), so that many can be tried. Edits that each
-//! change the body of one function, no two that of the same one, are checked together: a function's proof
-//! sees of the others their contracts alone. One that does not count then, or whose function calls one that
-//! another of them spoils, is checked alone; all are where a fact fails at a place that none of them names.
+//! An edit of either folder has a line `refused:` with the function, or the file of proofs, that must no longer be
+//! proved; `rt ci` tries those of `must-fail` too, and passes over that line. Here an edit is checked over what
+//! the proof of its crate left (`rt check`), so that many can be tried. Edits that each change the body of one
+//! function, no two that of the same one, are checked together: a function's proof sees of the others their
+//! contracts alone. So are those of the contract of a function that no other calls. One that does not count then
+//! is checked alone; where a fact fails at a place that none of them names, each half of them is tried by itself.
 //!
 //! A proof can also be refused because it no longer fits the code, which a right program shows as well
-//! as a wrong one. So an edit of code counts only if a program of `tests/edits`, run with it (`rt try`),
+//! as a wrong one. So an edit of code counts only if a program of `tests/edits`, run with it and no proof,
 //! also does something else, and no edit counts where the prover's words are of the proof's shape. The
-//! edits of `crates/*/refused/controls` are right programs: of each the tool must say that it is not a
-//! fact.
+//! edits of `refused/controls` are right programs: of each the tool must say that it is not a fact.
 //!
-//! - `edits [CRATE..]`, at the top of the repository, once every crate is proved; `CRATE/NAME` is one
-//!   edit. What the prover said of each is left in `target/edits`.
-//! - `edits --logs [CRATE..]` holds the edits of `crates/*/must-fail` to the same, by what `rt must-fail`
-//!   or `rt ci` left of each in `target/must-fail`.
+//! The prover names what is known after a test by the test's words. Where an edit of a test is refused because the
+//! proof of the function has the name of before, the names of today are put into the proof, test for test, and
+//! the edit is checked once more.
 //!
-//! As many run at a time as the machine has processors, or `RT_JOBS`.
+//! `edits [CRATE..]`, at the top of the repository; `CRATE/NAME` is one edit. What the prover said of each is left
+//! in `target/edits`. As many run at a time as the machine has processors, or `RT_JOBS`.
 
-use johvimaru_tests::edits::{Calls, Edit, Made, Verdict};
+use johvimaru_tests::edits::{Calls, Edit, Made, Tests, Verdict};
+use johvimaru_tests::prover::Prover;
+use johvimaru_tests::unproved::{Library, Ran, Runner};
+use std::cmp::Reverse;
 use std::collections::HashMap;
 use std::fs;
 use std::io;
 use std::path::{Path, PathBuf};
 use std::process::{Command, ExitCode};
-use std::slice;
 use std::sync::Mutex;
 use std::thread;
 use std::time::{Duration, Instant};
@@ -38,45 +40,62 @@ struct Program {
     /// The name of its own crate, and the crates that it reaches.
     name: &'static str,
     reached: &'static [&'static str],
+    /// Those of them whose edits it is run with.
+    tells: &'static [&'static str],
 }
 
-/// An edit is run with each that reaches its crate, until one does something else.
+/// An edit is run with each that tells of its crate, until one does something else.
 static PROGRAMS: [Program; 3] = [
     Program {
         path: "tests/edits/pages.txt",
         name: "tried_pages",
-        reached: &["harness", "image", "page", "cipher", "base"],
+        reached: &["harness", "chip", "image", "page", "cipher", "base"],
+        tells: &["harness", "image", "page", "cipher", "base"],
     },
     Program {
         path: "tests/edits/bus.txt",
         name: "tried_bus",
         reached: &["chip", "image", "page", "cipher", "base"],
+        tells: &["chip", "image", "page", "cipher", "base"],
     },
     Program {
         path: "tests/edits/calls.txt",
         name: "tried_calls",
-        reached: &["recorder", "store", "image", "page", "cipher", "base"],
+        reached: &["recorder", "chip", "store", "image", "page", "cipher", "base"],
+        tells: &["recorder", "store", "image", "page", "cipher", "base"],
     },
 ];
 
-/// The folder of the edits that are checked here, and how many of them are checked together at most.
-const REFUSED: &str = "refused";
-const MOST_TOGETHER: usize = 8;
+/// The folders of a crate that have wrong programs, and the one that has right ones.
+const WRONG: [&str; 2] = ["refused", "must-fail"];
+const RIGHT: &str = "refused/controls";
 
-/// Where a check leaves what the next one takes over, and the crate that is the quickest to check.
-const CHECKED: &str = "target/inc";
-const QUICKEST: &str = "base";
+/// How many edits are checked together at most.
+const MOST_TOGETHER: usize = 32;
+
+/// The folders of a crate that a check reads, and the one in which `rt check` leaves what the next one takes over.
+const READ: [&str; 3] = ["src", "specs", "proofs"];
+const LEFT: &str = "out/incremental";
+
+/// The ending of what a check has proved: it writes such a file anew under its name, so that two folders can have
+/// the same one.
+const PROVED: &str = "oantt";
 
 impl Program {
-    fn reaches(&self, name: &str) -> bool {
-        self.reached.contains(&name)
+    fn tells_of(&self, name: &str) -> bool {
+        self.tells.contains(&name)
+    }
+
+    /// Its root file, below a copy of the repository.
+    fn root(&self, copy: &Path) -> PathBuf {
+        copy.join("programs").join(self.name).join("src/main.rt")
     }
 }
 
-/// What is said of a program over the crates without an edit.
+/// What a program over the crates does without an edit.
 struct Usual {
     program: &'static Program,
-    said: String,
+    ran: Ran,
 }
 
 /// What is tried: an edit of a crate.
@@ -85,21 +104,24 @@ struct Trial {
     edit: Edit,
     /// Whether it is a right program.
     right: bool,
-    /// Whether it may be checked together with others.
+    /// Whether it may be checked together with others, and whether its function has a proof of its own.
     joins: bool,
+    has_proof: bool,
 }
 
 impl Trial {
-    /// The trials of a crate in such a folder, or the one that is named with it.
-    fn read(repository: &Path, word: &str, folder: &str) -> Result<Vec<Trial>, String> {
+    /// The trials of a crate, or the one that is named with it.
+    fn read(repository: &Path, word: &str) -> Result<Vec<Trial>, String> {
         let (name, one) = word.split_once('/').unwrap_or((word, ""));
         let home = repository.join("crates").join(name);
+        let calls = Calls::read(&home)?;
         let mut trials = Vec::new();
-        for (folder, right) in [(format!("{folder}/controls"), true), (folder.to_string(), false)] {
-            for path in edits_in(&home.join(&folder))? {
+        for (folder, right) in [(RIGHT, true)].into_iter().chain(WRONG.map(|one| (one, false))) {
+            for path in edits_in(&home.join(folder))? {
                 let edit = Edit::read(&path)?;
-                let joins = folder == REFUSED && edit.is_in_body(&home);
-                trials.push(Trial { name: name.to_string(), edit, right, joins });
+                let joins = !right && edit.is_apart(&home, &calls);
+                let has_proof = edit.has_proof(&home);
+                trials.push(Trial { name: name.to_string(), edit, right, joins, has_proof });
             }
         }
         trials.retain(|trial| one.is_empty() || trial.edit.name == one);
@@ -117,7 +139,9 @@ impl Trial {
             (Verdict::Refused(why), false) => format!("refused at {}: {why}", edit.place),
             (Verdict::NotAFact(why), true) => format!("not a fact, as it must be: {why}"),
             (Verdict::Refused(why), true) => format!("COUNTED, though it is right: {why}"),
-            (Verdict::NotAFact(why) | Verdict::Useless(why), _) => format!("NOT A FACT: {why}"),
+            (Verdict::NotAFact(why) | Verdict::Useless(why) | Verdict::Renamed(why), _) => {
+                format!("NOT A FACT: {why}")
+            }
             (Verdict::Proved, _) => format!("NOT REFUSED at {}", edit.place),
             (Verdict::Unchecked, _) => "NOT CHECKED".to_string(),
         };
@@ -147,65 +171,89 @@ fn shortened(text: &str) -> String {
     }
 }
 
+/// A trial, and under which names its function's proof has its tests and is to have them.
+#[derive(Clone)]
+struct Try<'a> {
+    trial: &'a Trial,
+    names: Option<(Tests, Tests)>,
+}
+
+/// What all benches have in common.
+struct Common<'a> {
+    repository: &'a Path,
+    prover: Prover,
+    /// Where the folders stand that a check of each crate left.
+    kept: PathBuf,
+    /// The names of the tests of functions without an edit, by the places of the functions.
+    tests: Mutex<HashMap<String, Tests>>,
+}
+
 /// Where edits are made: a copy of the repository.
 struct Bench<'a> {
-    repository: &'a Path,
+    common: &'a Common<'a>,
     copy: PathBuf,
-    logs: bool,
+    runner: Runner,
 }
 
 impl Bench<'_> {
-    /// A copy of what a check reads of the repository: the crates, and what is proved of them.
-    fn new(repository: &Path, number: usize, logs: bool) -> Result<Bench<'_>, String> {
-        let copy = std::env::temp_dir().join(format!("edits-{}-{number}", std::process::id()));
-        let bench = Bench { repository, copy, logs };
+    /// A copy of what a check reads of the repository.
+    fn new<'a>(common: &'a Common, folder: &Path, number: usize) -> Result<Bench<'a>, String> {
+        let copy = folder.join(number.to_string());
+        let runner = Runner::new(&copy.join("run"))?;
+        let bench = Bench { common, copy, runner };
         bench.fill().map_err(|error| format!("{}: {error}", bench.copy.display()))?;
         Ok(bench)
     }
 
     fn fill(&self) -> io::Result<()> {
-        let Bench { repository, copy, logs } = self;
-        copy_folder(&repository.join("crates"), &copy.join("crates"))?;
-        let proved: &[&str] =
-            if *logs { &[] } else { &["target/rlib", "target/stamp", "target/log"] };
-        for folder in proved {
-            copy_folder(&repository.join(folder), &copy.join(folder))?;
+        for entry in fs::read_dir(self.common.repository.join("crates"))? {
+            let entry = entry?;
+            for part in READ.map(|part| entry.path().join(part)).iter().filter(|one| one.is_dir()) {
+                let to = self.home(&entry.file_name().to_string_lossy());
+                copy_folder(part, &to.join(part.file_name().unwrap_or_default()))?;
+            }
         }
-        let lines = fs::read_to_string(repository.join("crates.txt"))?;
-        let reached = |one: &Program| format!("{}: {} io libc\n", one.name, one.reached.join(" "));
-        fs::write(copy.join("crates.txt"), lines + &PROGRAMS.each_ref().map(reached).concat())?;
-        for Program { path, name, .. } in &PROGRAMS {
-            let program = copy.join("crates").join(name).join("src");
-            fs::create_dir_all(&program)?;
-            fs::copy(repository.join(path), program.join("main.rt"))?;
+        for program in &PROGRAMS {
+            let root = program.root(&self.copy);
+            fs::create_dir_all(root.parent().unwrap_or(&self.copy))?;
+            fs::copy(self.common.repository.join(program.path), root)?;
         }
         Ok(())
     }
 
-    /// Runs a program over the crates as they are. Gives what is said of it at -O3, its output too.
-    fn run(&self, program: &Program) -> Result<String, String> {
-        let said = self.rt(&["try", program.name])?.1;
-        let from = said.find("the native program at -O3");
-        let from = from.ok_or(format!("{} is not run:\n{said}", program.path))?;
-        let to = said[from..].find("the native program with").map_or(said.len(), |at| from + at);
-        Ok(said[from..to].to_string())
+    /// The folder of a crate.
+    fn home(&self, name: &str) -> PathBuf {
+        self.copy.join("crates").join(name)
+    }
+
+    /// The folder of what a check here finds and leaves.
+    fn left(&self) -> PathBuf {
+        self.copy.join("left")
+    }
+
+    /// Runs a program over the crates as they are.
+    fn run(&self, program: &Program) -> Result<Ran, String> {
+        let root = |name: &&'static str| self.home(name).join("src/lib.rt");
+        let libraries: Vec<Library> =
+            program.reached.iter().map(|name| (*name, root(name))).collect();
+        self.runner.run(program.name, &program.root(&self.copy), &libraries)
     }
 
     /// Runs a program over the crates without an edit.
     fn run_usual(&self, program: &'static Program) -> Result<Usual, String> {
-        let said = self.run(program)?;
-        match said.contains("found \"") {
-            true => Ok(Usual { program, said }),
-            false => Err(format!("{} does not run:\n{said}", program.path)),
+        let ran = self.run(program)?;
+        match ran.status == Some(0) && !ran.wrote.is_empty() {
+            true => Ok(Usual { program, ran }),
+            false => Err(format!("{} does not run: {ran:?}", program.path)),
         }
     }
 
-    /// Whether a program that reaches the crate does something else than without the edit that was made;
-    /// nothing where none reaches it.
+    /// Whether a program that tells of the crate does something else than without the edit that was made;
+    /// nothing where none tells of it.
     fn differs(&self, name: &str, usual: &[Usual]) -> Result<Option<bool>, String> {
         let mut differs = None;
-        for Usual { program, said } in usual.iter().filter(|one| one.program.reaches(name)) {
-            differs = Some(self.run(program)? != *said);
+        for Usual { program, ran } in usual.iter().filter(|one| one.program.tells_of(name)) {
+            differs = Some(self.run(program)? != *ran);
             if differs == Some(true) {
                 break;
             }
@@ -213,84 +261,117 @@ impl Bench<'_> {
         Ok(differs)
     }
 
-    /// Calls rt. Gives whether it is content, and what it prints.
-    fn rt(&self, words: &[&str]) -> Result<(bool, String), String> {
-        let mut rt = Command::new("rt");
-        rt.args(words).current_dir(&self.copy).env("RT_CUT", "0");
-        let output = rt.output().map_err(|error| format!("rt cannot be run: {error}"))?;
-        let printed = [output.stdout, output.stderr].concat();
-        Ok((output.status.success(), String::from_utf8_lossy(&printed).into_owned()))
-    }
-
-    /// The folder, by the name of the prover's build, in which a check leaves what the next one takes
-    /// over.
-    fn folder_of_checks(&self) -> Result<PathBuf, String> {
-        let account = self.rt(&["dev", QUICKEST])?.1;
-        let left = fs::read_dir(self.copy.join(CHECKED).join(QUICKEST));
-        let folder = left.ok().and_then(|mut entries| entries.next()?.ok());
-        folder
-            .map(|entry| entry.file_name().into())
-            .ok_or(format!("nothing was checked\n{account}"))
-    }
-
-    /// Checks a crate as it stands, from what its proof left in its library, and keeps what the check
-    /// leaves.
-    fn check_whole(&self, name: &str, folder: &Path, kept: &Path) -> Result<(), String> {
+    /// Has `rt check` prove a crate of the repository as it stands, and keeps what it leaves.
+    fn check_whole(&self, name: &str) -> Result<(), String> {
         let start = Instant::now();
-        let proof = self.copy.join(format!("target/rlib/{name}.rlib/toolchain/checked"));
-        if proof.is_dir() {
-            let to = self.copy.join(CHECKED).join(name).join(folder);
-            copy_folder(&proof, &to).map_err(|error| format!("{}: {error}", to.display()))?;
-        }
-        let (proved, account) = self.rt(&["dev", name])?;
-        if !proved {
+        let home = self.common.repository.join("crates").join(name);
+        let output = Command::new("rt").arg("check").current_dir(&home).output();
+        let output = output.map_err(|error| format!("rt cannot be run: {error}"))?;
+        if !output.status.success() {
+            let account = [output.stdout, output.stderr].concat();
+            let account = String::from_utf8_lossy(&account);
             return Err(format!("{name}: not proved as it stands\n{account}"));
         }
         println!("edits: {name}, as it stands ({} s): proved", start.elapsed().as_secs());
-        self.hand_on(&self.copy.join(CHECKED), kept, name)
-    }
-
-    /// Copies what a check of a crate left from one folder into another, in place of what was there.
-    fn hand_on(&self, from: &Path, to: &Path, name: &str) -> Result<(), String> {
-        let (from, to) = (from.join(name), to.join(name));
-        let remove = if to.exists() { fs::remove_dir_all(&to) } else { Ok(()) };
-        remove
-            .and_then(|()| copy_folder(&from, &to))
-            .map_err(|error| format!("{}: {error}", to.display()))
+        let to = self.common.kept.join(name);
+        link_folder(&home.join(LEFT), &to).map_err(|error| format!("{}: {error}", to.display()))
     }
 
     /// Tries the edits of a group over what the check of their crate left, and says what came out of each.
-    /// Gives how many are tried, and how many of them came out otherwise than they must. An edit that does
-    /// not count in the group, or that the group hides, is checked again alone.
-    fn try_group(
-        &self,
-        group: &[Trial],
-        kept: &Path,
-        usual: &[Usual],
-    ) -> Result<(usize, usize), String> {
+    /// Gives how many are tried, and how many of them came out otherwise than they must.
+    fn try_group(&self, group: &[Trial], usual: &[Usual]) -> Result<(usize, usize), String> {
         let start = Instant::now();
-        let together = match group {
-            [_] => None,
-            _ => self.account(group, kept).ok(),
-        };
-        let edits: Vec<&Edit> = group.iter().map(|trial| &trial.edit).collect();
-        let together = together.filter(|account| !Edit::fails_elsewhere(&edits, account));
-        let shared = start.elapsed() / group.len() as u32;
+        let tries: Vec<Try> = group.iter().map(|trial| Try { trial, names: None }).collect();
+        let mut verdicts = self.verdicts(&tries)?;
+        let is_renamed = |at: &usize| matches!(verdicts[*at], Verdict::Renamed(_));
+        let renamed: Vec<usize> = (0..group.len()).filter(is_renamed).collect();
+        if !renamed.is_empty() {
+            let again = self.named(renamed.iter().map(|&at| &group[at]).collect())?;
+            for (at, verdict) in renamed.into_iter().zip(self.verdicts(&again)?) {
+                verdicts[at] = verdict;
+            }
+        }
+        let check = start.elapsed() / group.len() as u32;
         let mut wrong = 0;
-        for trial in group {
+        for (trial, verdict) in group.iter().zip(verdicts) {
             let start = Instant::now();
-            let whole = together.as_deref().filter(|account| !trial.edit.is_hidden(account));
-            let verdict = whole.map(|account| trial.edit.judge(account));
-            let verdict = match verdict.filter(Verdict::counts_if_run) {
-                Some(verdict) => verdict,
-                None => trial.edit.judge(&self.account(slice::from_ref(trial), kept)?),
-            };
-            let check = start.elapsed();
             let verdict = self.run_with(trial, verdict, usual)?;
-            let right = trial.report(&verdict, shared + check, start.elapsed() - check);
-            wrong += usize::from(!right);
+            wrong += usize::from(!trial.report(&verdict, check, start.elapsed()));
         }
         Ok((group.len(), wrong))
+    }
+
+    /// What the prover shows of edits of one crate, all of them made. One that does not count then is checked again
+    /// alone. Where what is said of all together is of no use, each half of them is tried by itself.
+    fn verdicts(&self, tries: &[Try]) -> Result<Vec<Verdict>, String> {
+        let account = self.account(tries);
+        let edits: Vec<&Edit> = tries.iter().map(|one| &one.trial.edit).collect();
+        let account = match tries {
+            [_] => Some(account?),
+            _ => account.ok().filter(|account| Edit::are_told(&edits, account)),
+        };
+        let Some(account) = account else {
+            let (first, second) = tries.split_at(tries.len() / 2);
+            return Ok([self.verdicts(first)?, self.verdicts(second)?].concat());
+        };
+        let verdict = |one: &Try| {
+            let edit = &one.trial.edit;
+            let verdict = edit.judge(&account);
+            let is_settled = match verdict {
+                Verdict::Renamed(_) => one.names.is_none(),
+                _ => verdict.counts_if_run(),
+            };
+            match tries.len() == 1 || is_settled {
+                true => Ok(verdict),
+                false => Ok(edit.judge(&self.account(&[one.clone()])?)),
+            }
+        };
+        tries.iter().map(verdict).collect()
+    }
+
+    /// Trials whose edits give tests of their functions other names, with the names of before and of then.
+    fn named<'a>(&self, trials: Vec<&'a Trial>) -> Result<Vec<Try<'a>>, String> {
+        let tries: Vec<Try> = trials.iter().map(|trial| Try { trial, names: None }).collect();
+        let known = |place: &String| -> Result<Option<Tests>, String> {
+            let tests = self.common.tests.lock().map_err(|error| error.to_string())?;
+            Ok(tests.get(place).cloned())
+        };
+        let mut missing = Vec::new();
+        for one in &tries {
+            if known(&one.trial.edit.place)?.is_none() {
+                missing.push(one.clone());
+            }
+        }
+        let found = self.tests(&missing, &[])?;
+        let mut tests = self.common.tests.lock().map_err(|error| error.to_string())?;
+        tests.extend(missing.iter().map(|one| one.trial.edit.place.clone()).zip(found));
+        drop(tests);
+        let mut named = Vec::new();
+        for (one, new) in tries.iter().zip(self.tests(&tries, &tries)?) {
+            let old = known(&one.trial.edit.place)?.unwrap_or_default();
+            named.push(Try { trial: one.trial, names: Some((old, new)) });
+        }
+        Ok(named)
+    }
+
+    /// The names of the tests of the functions of some trials of one crate, with these edits made.
+    fn tests(&self, of: &[Try], made: &[Try]) -> Result<Vec<Tests>, String> {
+        let Some(Try { trial: Trial { name, .. }, .. }) = of.first() else { return Ok(Vec::new()) };
+        let modules = self.copy.join("modules");
+        remove(&modules)?;
+        let functions = of.iter().filter_map(|one| one.trial.edit.function());
+        let words = functions.clone().flat_map(|function| ["--start", function]);
+        let to = format!("--generated={}", modules.display());
+        let words: Vec<String> = words.chain([to.as_str()]).map(str::to_string).collect();
+        let said = self.with_edits(made, |_| self.check(name, &words))?;
+        let of_function = |function: &str| {
+            let path = format!("Rattle-{name}-proofs/{}/Lts.antt", function.replace("::", "/"));
+            let path = modules.join(path);
+            let text = fs::read_to_string(&path);
+            let fault = |error| format!("{}: {error}\n{said}", path.display());
+            text.map(|text| Tests::of_steps(&text)).map_err(fault)
+        };
+        functions.map(of_function).collect()
     }
 
     /// The verdict once the programs were run with the edit alone, where it asks for that.
@@ -300,25 +381,26 @@ impl Bench<'_> {
         verdict: Verdict,
         usual: &[Usual],
     ) -> Result<Verdict, String> {
-        if !verdict.counts_if_run() {
-            return Ok(verdict);
+        let mut differs = None;
+        if verdict.counts_if_run() {
+            differs = self.with_edits(&[Try { trial, names: None }], |made| match made {
+                [made] if made.code => self.differs(&trial.name, usual),
+                _ => Ok(None),
+            })?;
         }
-        let differs = self.with_edits(slice::from_ref(trial), |made| match made {
-            [made] if made.code => self.differs(&trial.name, usual),
-            _ => Ok(None),
-        })?;
         Ok(verdict.with_run(differs))
     }
 
     /// Makes edits of one crate, does something with them, and undoes them.
     fn with_edits<R>(
         &self,
-        trials: &[Trial],
+        tries: &[Try],
         does: impl FnOnce(&[Made]) -> Result<R, String>,
     ) -> Result<R, String> {
         let mut all: Vec<Made> = Vec::new();
-        let result = trials.iter().try_for_each(|Trial { name, edit, .. }| {
-            let made = edit.make(&self.copy.join("crates").join(name));
+        let result = tries.iter().try_for_each(|Try { trial, names }| {
+            let Trial { name, edit, .. } = trial;
+            let made = edit.make(&self.home(name), names.as_ref());
             all.push(made.map_err(|why| format!("{name}/{}: {why}", edit.name))?);
             Ok(())
         });
@@ -327,44 +409,86 @@ impl Bench<'_> {
         result
     }
 
-    /// What the prover says of edits of one crate, all of them made, or what rt left of the one edit.
-    fn account(&self, trials: &[Trial], kept: &Path) -> Result<String, String> {
-        let left = self.repository.join("target");
-        let name = &trials[0].name;
-        if self.logs {
-            let path = left.join("must-fail").join(name).join(&trials[0].edit.name).join(".log");
-            return fs::read_to_string(&path)
-                .map_err(|error| format!("{}: {error}", path.display()));
-        }
-        self.hand_on(kept, &self.copy.join(CHECKED), name)?;
-        let account = self.with_edits(trials, |_| Ok(self.rt(&["dev", name])?.1))?;
-        let folder = left.join("edits").join(name);
+    /// Checks a crate over what was kept of it, with more words for the prover. Gives what the prover says.
+    fn check(&self, name: &str, words: &[String]) -> Result<String, String> {
+        let Common { prover, kept, .. } = self.common;
+        let left = self.left();
+        remove(&left)?;
+        link_folder(&kept.join(name), &left)
+            .map_err(|error| format!("{}: {error}", left.display()))?;
+        prover.check(name, &self.home(name), &left, words)
+    }
+
+    /// What the prover says of edits of one crate, all of them made.
+    fn account(&self, tries: &[Try]) -> Result<String, String> {
+        let name = &tries[0].trial.name;
+        let account = self.with_edits(tries, |_| self.check(name, &[]))?;
+        let folder = self.common.repository.join("target/edits").join(name);
         let write =
-            |one: &Trial| fs::write(folder.join(format!("{}.log", one.edit.name)), &account);
+            |one: &Try| fs::write(folder.join(format!("{}.log", one.trial.edit.name)), &account);
         fs::create_dir_all(&folder)
-            .and_then(|()| trials.iter().try_for_each(write))
+            .and_then(|()| tries.iter().try_for_each(write))
             .map_err(|error| format!("{}: {error}", folder.display()))?;
         Ok(account)
     }
 }
 
-impl Drop for Bench<'_> {
+/// A folder among the temporary files, which goes with this.
+struct Room(PathBuf);
+
+impl Room {
+    /// An empty one. What an earlier run that was ended left in its place goes.
+    fn new() -> Result<Room, String> {
+        let room = std::env::temp_dir().join(format!("edits-{}", std::process::id()));
+        remove(&room)?;
+        fs::create_dir_all(&room).map_err(|error| format!("{}: {error}", room.display()))?;
+        Ok(Room(room))
+    }
+}
+
+impl Drop for Room {
     fn drop(&mut self) {
-        if let Err(error) = fs::remove_dir_all(&self.copy) {
-            eprintln!("edits: {}: {error}", self.copy.display());
+        if let Err(why) = remove(&self.0) {
+            eprintln!("edits: {why}");
         }
     }
 }
 
+/// Removes a folder, if it is there.
+fn remove(folder: &Path) -> Result<(), String> {
+    let removed = if folder.exists() { fs::remove_dir_all(folder) } else { Ok(()) };
+    removed.map_err(|error| format!("{}: {error}", folder.display()))
+}
+
 /// Copies a folder with all in it.
 fn copy_folder(from: &Path, to: &Path) -> io::Result<()> {
+    each_file(from, to, &|from, to| fs::copy(from, to).map(|_| ()))
+}
+
+/// Makes a folder of what a check left in another, with the same files of what is proved where it can be.
+fn link_folder(from: &Path, to: &Path) -> io::Result<()> {
+    each_file(from, to, &|from, to| {
+        let is_proved = from.extension().is_some_and(|extension| extension == PROVED);
+        match is_proved && fs::hard_link(from, to).is_ok() {
+            true => Ok(()),
+            false => fs::copy(from, to).map(|_| ()),
+        }
+    })
+}
+
+/// Makes a folder and those below it as another has them, each file by what is given.
+fn each_file(
+    from: &Path,
+    to: &Path,
+    makes: &dyn Fn(&Path, &Path) -> io::Result<()>,
+) -> io::Result<()> {
     fs::create_dir_all(to)?;
     for entry in fs::read_dir(from)? {
         let entry = entry?;
         let to = to.join(entry.file_name());
         match entry.file_type()?.is_dir() {
-            true => copy_folder(&entry.path(), &to)?,
-            false => fs::copy(entry.path(), to).map(|_| ())?,
+            true => each_file(&entry.path(), &to, makes)?,
+            false => makes(&entry.path(), &to)?,
         }
     }
     Ok(())
@@ -394,12 +518,15 @@ fn share<T: Send, R: Send>(
     })
 }
 
-/// The names of the crates with such a folder, those with the most edits first.
-fn crates_with(repository: &Path, folder: &str) -> Result<Vec<String>, String> {
+/// The names of the crates with edits, those with the most of them first.
+fn crates_with_edits(repository: &Path) -> Result<Vec<String>, String> {
     let crates = fs::read_dir(repository.join("crates")).map_err(|error| error.to_string())?;
     let mut counted = Vec::new();
     for path in crates.filter_map(Result::ok).map(|entry| entry.path()) {
-        let count = edits_in(&path.join(folder))?.len();
+        let mut count = 0;
+        for folder in WRONG {
+            count += edits_in(&path.join(folder))?.len();
+        }
         let name = path.file_name().unwrap_or_default().to_string_lossy().into_owned();
         counted.push((count, name));
     }
@@ -408,23 +535,34 @@ fn crates_with(repository: &Path, folder: &str) -> Result<Vec<String>, String> {
     Ok(counted.into_iter().rev().map(|(_, name)| name).collect())
 }
 
-/// The trials in groups whose edits are checked together: wrong programs of one crate that each change the
-/// body of one function, and no two of a group that of the same one or of one that calls the other. All
-/// others are alone.
+/// The trials in groups whose edits are checked together, the largest first: wrong programs of one crate that
+/// no other function's proof sees, and no two of a group of the same function, or of one without a proof of its
+/// own that calls the other. All others are alone. Those that fit the fewest others are put into groups first, so
+/// that there are few.
 fn grouped(trials: Vec<Trial>, calls: &HashMap<String, Calls>) -> Vec<Vec<Trial>> {
-    let mut groups: Vec<Vec<Trial>> = Vec::new();
-    for trial in trials {
-        let place = &trial.edit.place;
-        let fits = |one: &Trial| {
-            let apart = one.edit.place != *place && !calls[&one.name].join(&one.edit.place, place);
-            one.joins && one.name == trial.name && apart
+    let fit = |one: &Trial, other: &Trial| {
+        let (place, others) = (&one.edit.place, &other.edit.place);
+        let join = one.joins && other.joins && one.name == other.name && place != others;
+        let calls = |one: &Trial, other: &Trial| {
+            !one.has_proof && calls[&one.name].calls(&one.edit.place, &other.edit.place)
         };
-        let takes = |group: &Vec<Trial>| group.len() < MOST_TOGETHER && group.iter().all(fits);
-        match groups.iter_mut().find(|group| trial.joins && takes(group)) {
+        join && !calls(one, other) && !calls(other, one) && one.edit.is_clear_of(&other.edit)
+    };
+    let fitting = |one: &Trial| trials.iter().filter(|other| fit(one, other)).count();
+    let counts: Vec<usize> = trials.iter().map(fitting).collect();
+    let mut counted: Vec<(usize, Trial)> = counts.into_iter().zip(trials).collect();
+    counted.sort_by_key(|(count, _)| *count);
+    let mut groups: Vec<Vec<Trial>> = Vec::new();
+    for (_, trial) in counted {
+        let takes = |group: &&mut Vec<Trial>| {
+            group.len() < MOST_TOGETHER && group.iter().all(|one| fit(one, &trial))
+        };
+        match groups.iter_mut().find(takes) {
             Some(group) => group.push(trial),
             None => groups.push(vec![trial]),
         }
     }
+    groups.sort_by_key(|group| Reverse(group.len()));
     groups
 }
 
@@ -436,15 +574,14 @@ fn jobs() -> usize {
 
 /// Tries the edits of the crates that are named, or of all. Gives how many there are, and how many of
 /// them came out otherwise than they must.
-fn run(logs: bool, mut words: Vec<String>) -> Result<(usize, usize), String> {
+fn run(mut words: Vec<String>) -> Result<(usize, usize), String> {
     let repository = std::env::current_dir().map_err(|error| error.to_string())?;
-    let folder = if logs { "must-fail" } else { REFUSED };
     if words.is_empty() {
-        words = crates_with(&repository, folder)?;
+        words = crates_with_edits(&repository)?;
     }
     let mut trials = Vec::new();
     for word in &words {
-        trials.extend(Trial::read(&repository, word, folder)?);
+        trials.extend(Trial::read(&repository, word)?);
     }
     let mut names: Vec<String> = trials.iter().map(|trial| trial.name.clone()).collect();
     names.dedup();
@@ -452,28 +589,29 @@ fn run(logs: bool, mut words: Vec<String>) -> Result<(usize, usize), String> {
     for name in &names {
         calls.insert(name.clone(), Calls::read(&repository.join("crates").join(name))?);
     }
-    let benches: Vec<Bench> = (0..jobs())
-        .map(|number| Bench::new(&repository, number, logs))
-        .collect::<Result<_, _>>()?;
-    let programs = PROGRAMS.iter().filter(|one| names.iter().any(|name| one.reaches(name)));
+    let room = Room::new()?;
+    let common = Common {
+        repository: &repository,
+        prover: Prover::of(&repository)?,
+        kept: room.0.join("kept"),
+        tests: Mutex::default(),
+    };
+    let benches: Vec<Bench> =
+        (0..jobs()).map(|number| Bench::new(&common, &room.0, number)).collect::<Result<_, _>>()?;
+    let programs = PROGRAMS.iter().filter(|one| names.iter().any(|name| one.tells_of(name)));
     let usual = programs.map(|one| benches[0].run_usual(one)).collect::<Result<Vec<Usual>, _>>()?;
-    let kept = benches[0].copy.join("kept");
-    if !logs {
-        let folder = benches[0].folder_of_checks()?;
-        share(&benches, names, |bench, name| bench.check_whole(&name, &folder, &kept))?;
-    }
-    let groups = grouped(trials, &calls);
-    let tried = share(&benches, groups, |bench, group| bench.try_group(&group, &kept, &usual))?;
+    share(&benches, names, |bench, name| bench.check_whole(&name))?;
+    let (count, groups) = (trials.len(), grouped(trials, &calls));
+    println!("edits: {count} in {} checks", groups.len());
+    let tried = share(&benches, groups, |bench, group| bench.try_group(&group, &usual))?;
     Ok(tried.iter().fold((0, 0), |all, one| (all.0 + one.0, all.1 + one.1)))
 }
 
 fn main() -> ExitCode {
-    let (options, words): (Vec<String>, Vec<String>) =
-        std::env::args().skip(1).partition(|word| word.starts_with("--"));
-    let tried = match options.iter().map(String::as_str).collect::<Vec<&str>>()[..] {
-        [] => run(false, words),
-        ["--logs"] => run(true, words),
-        _ => Err("usage: edits [--logs] [CRATE..]".to_string()),
+    let words: Vec<String> = std::env::args().skip(1).collect();
+    let tried = match words.iter().any(|word| word.starts_with('-')) {
+        true => Err("usage: edits [CRATE..]".to_string()),
+        false => run(words),
     };
     match tried {
         Ok((count, 0)) => {

@@ -1,0 +1,14 @@
+-- `mix_row_1` reads four bytes of an entry of the round table, from byte 3 on.
+use mathlib.Core.Path.{◌∙◌}
+use native.Mathlib.Omega.{arith}
+use Rattle.cipher.specs.Words.{byte1}
+use Rattle.cipher.proofs.RoundLaws.{round_table-length, round_row_1}
+use Rattle.cipher.proofs.rounds.mix_row_1.Goals as goal
+
+pub table_word-requires : goal.table_word-requires
+table_word-requires c =
+    record { table_value = c.requires; at_in_bounds = omega (arith, round_table-length c.requires) }
+
+pub returns : goal.returns
+returns c =
+    c.table_word.ensures ∙ round_row_1 c.requires (byte1 c.args.x) (omega arith)

@@ -1,0 +1,17 @@
+-- `headers::is_header_like` compares all but the part with the first header.
+use Rattle.page.proofs.HeaderParts.{like_decides}
+use Rattle.page.proofs.headers.is_header_like.Goals as goal
+
+pub returns : goal.returns
+returns c =
+    let f = c.requires.first_value in
+    rw (
+      c.same8.ensures,
+      c.same4.ensures,
+      c.is_word4.ensures,
+      c.spelt4.ensures,
+      c.same8-2.ensures,
+      c.same4-2.ensures,
+      c.same2.ensures,
+    )
+    (like_decides c.args.src.now c.args.first.now c.args.part f.0 c.requires.first_len.1 c.requires.first_len.0 f.1 f.2)

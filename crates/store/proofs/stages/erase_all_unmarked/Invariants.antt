@@ -1,0 +1,16 @@
+-- From one unmarked data block to the next: those before b are erased, and the others stand as they stood.
+use Prim.Native.Nat.{◌-◌}
+use mathlib.Core.Bool.{◌&&◌}
+use lib.Dec.{eqb}
+use lib.ListN.{get_or}
+use Rattle.image.specs.Size.{blocks}
+use Rattle.store.specs.Kind.{is_data}
+use Rattle.store.proofs.Erasures.{Erasing}
+use Rattle.store.proofs.stages.erase_all_unmarked.Given as goal
+
+abbrev pub invariant-loop-b : goal.invariant-loop-b
+invariant-loop-b l =
+    Erasing (λ a. eqb (get_or l.marked a 0) 0 && is_data l.initial.image l.numbers a) (blocks l.initial.image) l.initial.image l.initial.q l.image l.q l.b
+
+abbrev pub decreases-loop-b : goal.decreases-loop-b
+decreases-loop-b l = l.n - l.b

@@ -1,0 +1,16 @@
+-- A block without a live page is one that is not marked.
+use mathlib.Core.Path.{ap, ◌∙◌}
+use Rattle.image.specs.Power.{device, run}
+use Rattle.image.proofs.Looks.{sized}
+use Rattle.store.proofs.Unused.{unmarked_unused}
+use Rattle.store.proofs.stages.erase_unused.Goals as goal
+
+pub erase_all_unmarked-requires : goal.erase_all_unmarked-requires
+erase_all_unmarked-requires c =
+    ((sized c.args.image.now c.requires.0).most, c.mark_live.ensures.0)
+
+pub returns : goal.returns
+returns c =
+    let a = c.args in
+    c.erase_all_unmarked.ensures
+    ∙ ap (λ steps. run steps (device a.p a.image.now)) (unmarked_unused a.image.now a.map.now c.mark_live.new.marked a.numbers c.requires.0 c.mark_live.ensures.1)

@@ -178,7 +178,11 @@ fn wait(
 fn is_there(path: &Path) -> Result<bool, Problem> {
     match fs::metadata(path) {
         Err(error) if error.kind() == ErrorKind::NotFound => match fs::symlink_metadata(path) {
-            Ok(_) => Err(Problem::System(format!("{} is a link to nothing", name(path)))),
+            Ok(about) if about.is_symlink() => {
+                Err(Problem::System(format!("{} is a link to nothing", name(path))))
+            }
+            // Another command has made it since the first look.
+            Ok(_) => is_there(path),
             Err(_) => Ok(false),
         },
         Err(error) => Err(at(path, error)),
@@ -304,6 +308,31 @@ mod tests {
         ] {
             assert_eq!(is_image_size(length), is, "{length}");
         }
+    }
+
+    /// A file that others make and remove is there or not, and never a problem.
+    #[test]
+    fn a_file_that_comes_and_goes() {
+        let folder = std::env::temp_dir().join(format!("johvimaru-comes-{}", std::process::id()));
+        fs::create_dir_all(&folder).unwrap();
+        let path = folder.join("recorder.img");
+        let (mut some, mut none) = (0, 0);
+        thread::scope(|scope| {
+            let others = scope.spawn(|| {
+                for _ in 0..20_000 {
+                    fs::write(&path, []).unwrap();
+                    fs::remove_file(&path).unwrap();
+                }
+            });
+            while !others.is_finished() {
+                match is_there(&path).unwrap_or_else(|_| panic!("the file is a problem")) {
+                    true => some += 1,
+                    false => none += 1,
+                }
+            }
+        });
+        fs::remove_dir(&folder).unwrap();
+        assert!(some > 0 && none > 0, "{some} times there, {none} times not");
     }
 
     #[test]

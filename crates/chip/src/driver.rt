@@ -1,8 +1,9 @@
 // The driver: the cycles of a step of the flash, one by one, and a run of them against the chip.
-ghost use Rattle.std.specs.Prelude.{◌≡◌, length};
-ghost use Rattle.page.specs.Frame.{page_size};
+ghost use Rattle.std.specs.Prelude.{◌≡◌, ◌<◌, ℕ, List, length};
+ghost use Rattle.chip.specs.declared.Cycle.{Cycle as SentCycle};
 ghost use Rattle.chip.specs.Cycle.{command as command_cycle, address as address_cycle, data_byte};
 ghost use Rattle.chip.specs.Bus.{chip};
+ghost use Rattle.chip.specs.Reply.{number_of};
 ghost use Rattle.chip.specs.Driver.{
   row_cycle,
   program_cycles,
@@ -16,20 +17,13 @@ ghost use Rattle.chip.specs.Driver.{
   drove_erase,
 };
 
-use crate::{Cycle, Mark, Registers, Sent, bus};
+use crate::{Cycle, Error, Mark, Registers, Sent, bus};
 use page::Frame;
 
 // The highest page and block that any image has.
 pub const LAST_PAGE: u32 = 4095;
 
 pub const LAST_BLOCK: u32 = 255;
-
-// What the driver replies.
-const DONE: u32 = 0;
-
-const PAGE_LENGTH: u32 = 6;
-
-const FAILED: u32 = 10;
 
 fn command(byte: u8) -> Cycle
     ensures { result ≡ command_cycle byte }
@@ -117,18 +111,18 @@ pub fn erase_cycle(b: u32, i: usize) -> Cycle
 }
 
 // The reply to a step by the status byte: bit 0 says failed.
-pub fn reply_of(status: u8) -> u32
-    ensures { result ≡ reply_of status }
+pub fn reply_of(status: u8) -> Result<(), Error>
+    ensures { number_of result ≡ reply_of status }
 {
     if status % 2 == 1 {
-        return FAILED;
+        return Err(Error::Failed);
     }
-    DONE
+    Ok(())
 }
 
 // The status byte is read after the last cycle.
 fn ended(r: Registers, image: &[u8]) -> Sent
-    ensures { driven result.reply result.registers image.now ≡ ended_on (chip r image.now) }
+    ensures { driven (number_of result.reply) result.registers image.now ≡ ended_on (chip r image.now) }
 {
     let g = bus::fetch(r, image);
     let registers = g.registers;
@@ -143,69 +137,52 @@ const PROGRAM_CYCLES: usize = 265;
 
 const ERASE_CYCLES: usize = 7;
 
-// Sends the cycles of a program until the chip refuses one, then reads the status.
-fn send_program(r: Registers, image: &mut [u8], g: u32, page: &[u8]) -> Sent
-    requires { length page.now ≡ page_size }
-    ensures { driven result.reply result.registers image.new ≡ drove (program_cycles g page.now) r image.old }
+// Sends so many cycles until the chip refuses one, then reads the status.
+fn send<C: Fn(usize) -> Cycle>(r: Registers, image: &mut [u8], count: usize, cycle: C) -> Sent
+    requires { C.IsAlwaysCallable cycle }
+    ensures { (cycles : List SentCycle) → 0 < count → length cycles ≡ count
+        → ((i : ℕ) (sent : SentCycle) → i < count → C.post cycle i sent → sent ≡ cycle_at cycles i)
+        → driven (number_of result.reply) result.registers image.new ≡ drove cycles r image.old }
 {
     let mut q = r;
-    let mut i = 0;
-    while i < PROGRAM_CYCLES {
-        let s = bus::step(q, image, program_cycle(g, page, i));
-        if s.reply != 0 {
+    for i in 0..count {
+        let s = bus::step(q, image, cycle(i));
+        if s.reply.is_err() {
             return s;
         }
         q = s.registers;
-        i += 1;
-    }
-    ended(q, image)
-}
-
-// The same of an erase.
-fn send_erase(r: Registers, image: &mut [u8], b: u32) -> Sent
-    ensures { driven result.reply result.registers image.new ≡ drove (erase_cycles b) r image.old }
-{
-    let mut q = r;
-    let mut i = 0;
-    while i < ERASE_CYCLES {
-        let s = bus::step(q, image, erase_cycle(b, i));
-        if s.reply != 0 {
-            return s;
-        }
-        q = s.registers;
-        i += 1;
     }
     ended(q, image)
 }
 
 // Programs page g of the chip with 256 bytes.
 pub fn program(r: Registers, image: &mut [u8], g: u32, page: &[u8]) -> Sent
-    ensures { driven result.reply result.registers image.new ≡ drove_program g page.now r image.old }
+    ensures { driven (number_of result.reply) result.registers image.new ≡ drove_program g page.now r image.old }
 {
     if page.len() != Frame::PAGE {
         return Sent {
             registers: r,
-            reply: PAGE_LENGTH,
+            reply: Err(Error::PageLength),
         };
     }
     if LAST_PAGE < g {
         return Sent {
             registers: r,
-            reply: FAILED,
+            reply: Err(Error::Failed),
         };
     }
-    send_program(r, image, g, page)
+    send(r, image, PROGRAM_CYCLES, |i| program_cycle(g, page, i))
 }
 
 // Erases block b of the chip.
 pub fn erase(r: Registers, image: &mut [u8], b: u32) -> Sent
-    ensures { driven result.reply result.registers image.new ≡ drove_erase b r image.old }
+    ensures { driven (number_of result.reply) result.registers image.new ≡ drove_erase b r image.old }
 {
     if LAST_BLOCK < b {
         return Sent {
             registers: r,
-            reply: FAILED,
+            reply: Err(Error::Failed),
         };
     }
-    send_erase(r, image, b)
+    send(r, image, ERASE_CYCLES, |i| erase_cycle(b, i))
 }

@@ -22,7 +22,7 @@ pub struct Cycle {
 }
 
 // What the chip does: nothing, with nothing or the status or a page to read; or a command up to its last byte.
-#[derive(Clone, Copy)]
+#[derive(Clone, Copy, PartialEq, Eq)]
 pub enum State {
     Idle,
     Status,
@@ -44,11 +44,19 @@ pub struct Registers {
     pub failed: bool,
 }
 
+// Why a cycle or a step was not done, with its number: the image has a wrong size, the page a wrong length, the chip failed.
+#[derive(Clone, Copy)]
+pub enum Error {
+    ImageSize = 1,
+    PageLength = 6,
+    Failed = 10,
+}
+
 // The registers after a cycle or a step, and the reply to it.
 #[derive(Clone, Copy)]
 pub struct Sent {
     pub registers: Registers,
-    pub reply: u32,
+    pub reply: Result<(), Error>,
 }
 
 // The registers after a byte was received, the byte, and the reply.
@@ -56,5 +64,5 @@ pub struct Sent {
 pub struct Got {
     pub registers: Registers,
     pub byte: u8,
-    pub reply: u32,
+    pub reply: Result<(), Error>,
 }

@@ -98,12 +98,13 @@ xor_more (a ∷ q) [] j h g = absurd (not-suc-le-zero g)
 xor_more (a ∷ q) (b ∷ k) zero h g = ap (λ (l : List ℕ). (a ⊕ b) ∷ l) (sym (xor_nil q))
 xor_more (a ∷ q) (b ∷ k) (suc j) h g = ap (λ (l : List ℕ). (a ⊕ b) ∷ l) (xor_more q k j (le_of_suc-le-suc h) (le_of_suc-le-suc g))
 
--- no byte past the end of q counts
-pub xor_all : (q k : List ℕ) (j : ℕ) → length q ≤ j → xor_bytes q (take j k) ≡ xor_bytes q k
+-- no byte past the end of q counts, and none stands past that of k
+pub xor_all : (q k : List ℕ) (j : ℕ) → (j < length q → length k ≤ j) → xor_bytes q (take j k) ≡ xor_bytes q k
 xor_all [] k j h = refl
-xor_all (a ∷ q) k zero h = absurd (not-suc-le-zero h)
+xor_all (a ∷ q) [] zero h = refl
 xor_all (a ∷ q) [] (suc j) h = refl
-xor_all (a ∷ q) (b ∷ k) (suc j) h = ap (λ (l : List ℕ). (a ⊕ b) ∷ l) (xor_all q k j (le_of_suc-le-suc h))
+xor_all (a ∷ q) (b ∷ k) zero h = absurd (not-suc-le-zero (h (omega arith)))
+xor_all (a ∷ q) (b ∷ k) (suc j) h = ap (λ (l : List ℕ). (a ⊕ b) ∷ l) (xor_all q k j (λ g. le_of_suc-le-suc (h (omega arith))))
 
 -- more bytes are added from where the first end
 pub xor_append : (q k m : List ℕ) → xor_bytes q (k ++ m) ≡ take (length k) (xor_bytes q k) ++ xor_bytes (drop (length k) (xor_bytes q k)) m

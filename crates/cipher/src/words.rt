@@ -3,6 +3,7 @@ ghost use Rattle.std.specs.Prelude.{◌≡◌};
 ghost use Rattle.cipher.specs.Words.{four, little_endian};
 
 // The word of four bytes.
+// Stays (4): with u32::from_le_bytes the compiler works out more addresses, and a stream takes a fourteenth more instructions.
 pub(crate) fn from_le_bytes(a: u8, b: u8, c: u8, d: u8) -> u32
     ensures { little_endian result ≡ four a b c d }
 {

@@ -22,7 +22,7 @@ pub extern "C" fn harness_chip_program(
     *registers = numbers::five_of(after);
     let held = after.page;
     *page = held;
-    sent.reply
+    numbers::reply_number(sent.reply)
 }
 
 // Erases a block.
@@ -42,5 +42,5 @@ pub extern "C" fn harness_chip_erase(
     *registers = numbers::five_of(after);
     let held = after.page;
     *page = held;
-    sent.reply
+    numbers::reply_number(sent.reply)
 }

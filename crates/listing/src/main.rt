@@ -8,34 +8,27 @@ ghost use Rattle.std.specs.Io.KnownBytes.{Appends};
 ghost use Rattle.listing.specs.Listing.{listing_of, listed, text_size};
 
 use page::keys::POSITIONS;
-use page::plan::PLACES;
+use page::plan::{MAP_SIZE, PLACES};
 use std::io;
 use std::io::{Read, Write};
-use store::{mount, replies};
+use store::{Error, mount};
 
 // The most bytes that are taken as an image.
 const LONGEST: usize = 65_536;
 
-// A map has the pages of all places, then their keys.
-const MAP: usize = 448;
-
 // The longest text: a row of 21 bytes for each place, then the totals.
 const TEXT: usize = 4_723;
-
-// The number of document 01 for an image of wrong size.
-const IMAGE_SIZE: u32 = 1;
 
 // Mounts an image and writes its listing.
 fn list_image(image: &mut [u8], out: &mut [u8]) -> usize
     requires { text_size ≤ length out.old }
     ensures { (result ≤ text_size) × (take result out.new ≡ listing_of image.old) }
 {
-    let mut map = [0u16; MAP];
+    let mut map = [0u16; MAP_SIZE];
     let mut letters = [0u8; POSITIONS];
     let mut scratch = [0u32; PLACES];
     let answer = mount::mount(image, &mut map, &mut letters, &mut scratch);
-    let reply = answer.reply;
-    text::put_text(out, replies::number(reply), &map, &letters)
+    text::put_text(out, answer.reply, &map, &letters)
 }
 
 // Writes the listing of what was read.
@@ -44,7 +37,7 @@ fn list(input: &mut [u8], out: &mut [u8]) -> usize
     ensures { (result ≤ text_size) × (take result out.new ≡ listed input.old) }
 {
     if LONGEST < input.len() {
-        return text::put_refusal(out, IMAGE_SIZE);
+        return text::put_refusal(out, Error::ImageSize);
     }
     list_image(input, out)
 }
@@ -56,6 +49,7 @@ fn read_full<R: Read>(reader: &mut R, buf: &mut [u8]) -> io::Result<usize>
         (λ input. take n buf.new ≡ take (length buf.new) input)) }
 {
     let mut done: usize = 0;
+    // Stays (3): a read says itself how far it came, so no range has the steps.
     while done < buf.len() {
         let n = reader.read(&mut buf[done..])?;
         if n == 0 {

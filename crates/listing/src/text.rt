@@ -1,15 +1,16 @@
 // The text of a listing, written from the front of a buffer. Each function takes the number of bytes written so far,
 // and gives it afterwards.
-ghost use Rattle.std.specs.Prelude.{◌≡◌, cond, ◌++◌, ◌≤◌, ◌<◌, ◌+◌, ◌*◌, length, take, eqb};
+// Stays (6): memory is fixed, and a String would ask for more as it grows.
+ghost use Rattle.std.specs.Prelude.{◌≡◌, ◌++◌, ◌≤◌, ◌<◌, ◌+◌, ◌*◌, length, take};
 ghost use Rattle.page.specs.Column.{spell};
 ghost use Rattle.page.specs.Plan.{last_file, places};
-ghost use Rattle.page.specs.Key.{positions};
-ghost use Rattle.store.specs.Record.{map_size};
+ghost use Rattle.store.specs.Reply.{error_number, number_of};
 ghost use Rattle.listing.specs.Listing.{line_end, file_of, offset_of, row, row_of, rows_from, row_size, total, totals, totals_size, refusal, text_of, text_size};
 
-use page::keys::POSITIONS;
-use page::plan::PLACES;
+use page::keys::Letters;
+use page::plan::{Map, PLACES};
 use page::{columns, entries, plan};
+use store::Error;
 
 const LINE_END: u8 = b'\n';
 
@@ -43,20 +44,6 @@ fn put_row(out: &mut [u8], at: usize, file: u32, offset: u32, page: u16, key: u1
     put_line_end(out, after_key)
 }
 
-// The file of place x.
-fn file_of(x: usize) -> u32
-    ensures { (result ≡ file_of x) × (result ≤ last_file) }
-{
-    let mut file: u32 = 0;
-    while file < plan::LAST_FILE {
-        if x < (plan::start(file) + plan::count(file)) as usize {
-            return file;
-        }
-        file += 1;
-    }
-    file
-}
-
 // The offset of place x in its file.
 fn offset_of(x: usize, file: u32) -> u32
     requires { (x < places) × (file ≡ file_of x) × (file ≤ last_file) }
@@ -66,55 +53,39 @@ fn offset_of(x: usize, file: u32) -> u32
 }
 
 // Writes the row of place x, if it has a node.
-fn put_place(out: &mut [u8], at: usize, map: &[u16], x: usize) -> usize
-    requires { (at + row_size ≤ length out.old) × (length map.now ≡ map_size) × (x < places) }
+fn put_place(out: &mut [u8], at: usize, map: &Map, x: usize) -> usize
+    requires { (at + row_size ≤ length out.old) × (x < places) }
     ensures { (result ≤ at + row_size) × (take result out.new ≡ take at out.old ++ row_of map.now x) }
 {
     if map[x] == entries::NONE {
         return at;
     }
-    let file = file_of(x);
+    let file = plan::file_at(x);
     put_row(out, at, file, offset_of(x, file), map[x], map[PLACES + x])
 }
 
 // Writes the rows of all places.
-fn put_rows(out: &mut [u8], map: &[u16]) -> usize
-    requires { (text_size ≤ length out.old) × (length map.now ≡ map_size) }
+fn put_rows(out: &mut [u8], map: &Map) -> usize
+    requires { text_size ≤ length out.old }
     ensures { (result ≤ row_size * places) × (take result out.new ≡ rows_from map.now places 0) }
 {
     let mut at: usize = 0;
-    let mut x: usize = 0;
-    while x < PLACES {
+    for x in 0..PLACES {
         at = put_place(out, at, map, x);
-        x += 1;
     }
     at
 }
 
-// 1 if the two letters are the same, else 0.
-fn one_if_same(a: u8, b: u8) -> u32
-    ensures { (result ≡ cond (eqb a b) 1 0) × (result ≤ 1) }
-{
-    if a == b { 1 } else { 0 }
-}
-
 // How many positions have letter l.
-fn count(letters: &[u8], l: u8) -> u32
-    requires { length letters.now ≡ positions }
+fn count(letters: &Letters, l: u8) -> u32
     ensures { result ≡ total l letters.now }
 {
-    let mut n: u32 = 0;
-    let mut p: usize = 0;
-    while p < POSITIONS {
-        n += one_if_same(letters[p], l);
-        p += 1;
-    }
-    n
+    letters.iter().filter(|x| **x == l).count() as u32
 }
 
 // Writes the line of totals.
-fn put_totals(out: &mut [u8], at: usize, letters: &[u8]) -> usize
-    requires { (at + totals_size ≤ length out.old) × (length letters.now ≡ positions) }
+fn put_totals(out: &mut [u8], at: usize, letters: &Letters) -> usize
+    requires { at + totals_size ≤ length out.old }
     ensures { (result ≡ at + totals_size) × (take result out.new ≡ take at out.old ++ totals letters.now) }
 {
     let after_used = put_number(out, at, 6, count(letters, entries::USED));
@@ -124,23 +95,24 @@ fn put_totals(out: &mut [u8], at: usize, letters: &[u8]) -> usize
 }
 
 // Writes the line of a refusal.
-pub fn put_refusal(out: &mut [u8], n: u32) -> usize
+pub fn put_refusal(out: &mut [u8], error: Error) -> usize
     requires { text_size ≤ length out.old }
-    ensures { (result ≤ text_size) × (take result out.new ≡ refusal n) }
+    ensures { (result ≤ text_size) × (take result out.new ≡ refusal (error_number error)) }
 {
-    let after_number = put_number(out, 0, 6, n);
+    let after_number = put_number(out, 0, 6, error.number());
     put_line_end(out, after_number)
 }
 
-// Writes the text for the number of mount's reply and the record that mount left.
-pub fn put_text(out: &mut [u8], n: u32, map: &[u16], letters: &[u8]) -> usize
-    requires { (text_size ≤ length out.old) × (length map.now ≡ map_size) × (length letters.now ≡ positions) }
-    ensures { (result ≤ text_size) × (take result out.new ≡ text_of n map.now letters.now) }
+// Writes the text for mount's reply and the record that mount left.
+pub fn put_text(out: &mut [u8], reply: Result<(), Error>, map: &Map, letters: &Letters) -> usize
+    requires { text_size ≤ length out.old }
+    ensures { (result ≤ text_size) × (take result out.new ≡ text_of (number_of reply) map.now letters.now) }
 {
-    if n == 0 {
-        let at = put_rows(out, map);
-        put_totals(out, at, letters)
-    } else {
-        put_refusal(out, n)
+    match reply {
+        Ok(()) => {
+            let at = put_rows(out, map);
+            put_totals(out, at, letters)
+        }
+        Err(error) => put_refusal(out, error),
     }
 }

@@ -8,6 +8,7 @@ use chip::{bus, driver, numbers};
 use page::Frame;
 
 // What the driver's calls reply.
+// Stays (1): C gets these numbers.
 const DONE: u32 = 0;
 
 const PAGE_LENGTH: u32 = 6;
@@ -51,7 +52,7 @@ pub extern "C" fn johvimaru_bus_erase_byte(block: u32, i: usize, cycle: &mut [u8
 pub extern "C" fn johvimaru_bus_reply(status: u8) -> u32
     ensures { result ≡ reply_of status }
 {
-    driver::reply_of(status)
+    numbers::reply_number(driver::reply_of(status))
 }
 
 // A byte sent to the model of the chip.
@@ -69,8 +70,8 @@ pub extern "C" fn johvimaru_model_send(
     let before = numbers::set_of(registers, page);
     let cycle = numbers::cycle_of(mark, byte);
     let sent = bus::step(before, image, cycle);
-    if sent.reply != DONE {
-        return sent.reply;
+    if let Err(error) = sent.reply {
+        return error.number();
     }
     let after = sent.registers;
     *registers = numbers::five_of(after);
@@ -95,5 +96,5 @@ pub extern "C" fn johvimaru_model_receive(
     let after = got.registers;
     registers[2] = after.column;
     *byte = [got.byte];
-    got.reply
+    numbers::reply_number(got.reply)
 }

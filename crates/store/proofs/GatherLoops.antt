@@ -39,9 +39,9 @@ use Rattle.store.specs.Gather.{is_live_page, place_on, live_pages, header_in, co
 use Rattle.store.specs.Targets.{open_page_from, new_page_from, page_after, pages_from, PlacesIn, Begins, targets, copies_to, moved_to, sequences_used}
 use Rattle.store.specs.Taken.{GatherTaken}
 use Rattle.store.specs.declared.Numbers.{Numbers}
-use Rattle.store.specs.declared.Found.{Found}
-use Rattle.store.specs.declared.Found.TheVariants.{At, Nothing}
-use Rattle.store.specs.declared.Reply.TheVariants.{Done, PowerCut}
+use Rattle.std.specs.Prelude.{Option, Some, None, Err}
+use Rattle.store.specs.Reply.{Done}
+use Rattle.store.specs.declared.Error.TheVariants.{PowerCut}
 use Rattle.store.proofs.BlockKinds.{data_outside}
 use Rattle.store.proofs.Fits.{fits_is}
 use Rattle.store.proofs.Renewals.{record_is}
@@ -262,7 +262,7 @@ module _ (img : List ℕ) (r : Record) (block n k : ℕ) (t : GatherTaken img r 
 
   -- all pages are done: what the call leaves
   pub moving_last : (image map : List ℕ) (q : Power) (m : Numbers) (i j : ℕ) → Moving image map q m i j → pages_in_block ≤ i
-      → leaves (cond q.on Done PowerCut) image (record_of map r.letters m) [] ≡ left n k (gather_of img r block) img
+      → leaves (cond q.on Done (Err PowerCut)) image (record_of map r.letters m) [] ≡ left n k (gather_of img r block) img
   moving_last image map q m i j w h =
       let e : i ≡ pages_in_block = omega (arith, w.bound) in
       let s : rest i ≡ [] = rw e rest-none in
@@ -281,28 +281,28 @@ pub record Finding (block : ℕ) (img : List ℕ) (r : Numbers) (n : ℕ) (to : 
   pub bound : j ≤ n
   pub inside : last < pages img
   pub full : length to ≡ pages_in_block
-  pub found : targets block img r n ≡ take j to ++ pages_from (At block) img r (n - j) (page_after (At block) img r last)
+  pub found : targets block img r n ≡ take j to ++ pages_from (Some block) img r (n - j) (page_after (Some block) img r last)
 
 module _ (block : ℕ) (img : List ℕ) (r : Numbers) (n : ℕ) (few : n ≤ pages_in_block) where
-  pub finding_first : (to : List ℕ) (g : ℕ) → length to ≡ pages_in_block → 1 ≤ n → new_page_but (At block) img r ≡ At g → Finding block img r n (set to 0 g) g 1
+  pub finding_first : (to : List ℕ) (g : ℕ) → length to ≡ pages_in_block → 1 ≤ n → new_page_but (Some block) img r ≡ Some g → Finding block img r n (set to 0 g) g 1
   unfolding pages_from
   finding_first to g l h e =
       let m : n ≡ suc (n - 1) = omega arith in
       record {
         some = omega arith;
         bound = h;
-        inside = (new_page-is_empty (At block) img r g e).0;
+        inside = (new_page-is_empty (Some block) img r g e).0;
         full = length-set to 0 g ∙ l;
-        found = rw (e, take-suc-set to 0 g (omega arith)) (ap (λ (a : ℕ). pages_from (At block) img r a (At g)) m);
+        found = rw (e, take-suc-set to 0 g (omega arith)) (ap (λ (a : ℕ). pages_from (Some block) img r a (Some g)) m);
       }
 
   module _ (to : List ℕ) (last j : ℕ) (w : Finding block img r n to last j) (h : j < n) where
-    pub finding_next : (g : ℕ) → g < pages img → page_after (At block) img r last ≡ At g → Finding block img r n (set to j g) g (j + 1)
+    pub finding_next : (g : ℕ) → g < pages img → page_after (Some block) img r last ≡ Some g → Finding block img r n (set to j g) g (j + 1)
     unfolding pages_from
     finding_next g i e =
         let m : n - j ≡ suc (n - (j + 1)) = omega arith in
         let s : j + 1 ≡ suc j = omega arith in
-        let f : targets block img r n ≡ take j to ++ pages_from (At block) img r (suc (n - (j + 1))) (At g) = rw (m, e) at w.found in
+        let f : targets block img r n ≡ take j to ++ pages_from (Some block) img r (suc (n - (j + 1))) (Some g) = rw (m, e) at w.found in
         record {
           some = omega arith;
           bound = omega arith;
@@ -312,7 +312,7 @@ module _ (block : ℕ) (img : List ℕ) (r : Numbers) (n : ℕ) (few : n ≤ pag
         }
 
     -- one is not found
-    pub finding_none : page_after (At block) img r last ≡ Nothing → eqb (length (targets block img r n)) n ≡ false
+    pub finding_none : page_after (Some block) img r last ≡ None → eqb (length (targets block img r n)) n ≡ false
     unfolding pages_from
     finding_none e =
         let m : n - j ≡ suc (n - (j + 1)) = omega arith in
@@ -342,34 +342,34 @@ pub begins_same : (block : ℕ) (img : List ℕ) (r : Numbers) {to : List ℕ} {
 begins_same block img r {to = to} e b = subst (λ (k : ℕ). Begins to (targets block img r k)) e b
 
 -- none is found at all
-pub none_found : (block : ℕ) (img : List ℕ) (r : Numbers) (n : ℕ) → 1 ≤ n → new_page_but (At block) img r ≡ Nothing
+pub none_found : (block : ℕ) (img : List ℕ) (r : Numbers) (n : ℕ) → 1 ≤ n → new_page_but (Some block) img r ≡ None
     → eqb (length (targets block img r n)) n ≡ false
 unfolding pages_from
 none_found block img r zero h e = absurd (omega arith)
 none_found block img r (suc n) h e = rw e (ne_eqb 0 (suc n) (λ q. omega arith))
 
 -- the page after one of the image is one of the image
-pub after_inside : (but : Found) (img : List ℕ) (r : Numbers) (last g : ℕ) → size_right img ≡ true → last < pages img → page_after but img r last ≡ At g
+pub after_inside : (but : Option ℕ) (img : List ℕ) (r : Numbers) (last g : ℕ) → size_right img ≡ true → last < pages img → page_after but img r last ≡ Some g
     → g < pages img
 unfolding new_page_from open_page_from
 after_inside but img r last g size h = go (ltb (last % pages_in_block) (pages_in_block - 1)) refl
   where
-    fresh : fresh_page img ≡ At g → g < pages img
+    fresh : fresh_page img ≡ Some g → g < pages img
     fresh e =
         let f = fresh_page_lem img g e in
         let z = sized img size in
         omega (arith, f.1, lowest_some img (omega (arith, f.0)), z.paged)
 
-    later : (x : Found) → open_page_from but img r (last / pages_in_block + 1) ≡ x → or_else x (fresh_page img) ≡ At g → g < pages img
-    later (At t) e q =
+    later : (x : Option ℕ) → open_page_from but img r (last / pages_in_block + 1) ≡ x → or_else x (fresh_page img) ≡ Some g → g < pages img
+    later (Some t) e q =
         let a = (last / pages_in_block + 1) * pages_in_block in
         let i = first_from (is_open_but but img r) (pages img - a) a in
         let w = by_test (ltb i (pages img)) i t e in
         let s : t ≡ g = cc in
         omega (arith, ltb-true i (pages img) w.0, w.1)
-    later Nothing e q = fresh q
+    later None e q = fresh q
 
-    go : (t : Bool) → ltb (last % pages_in_block) (pages_in_block - 1) ≡ t → cond t (At (last + 1)) (new_page_from but img r (last / pages_in_block + 1)) ≡ At g
+    go : (t : Bool) → ltb (last % pages_in_block) (pages_in_block - 1) ≡ t → cond t (Some (last + 1)) (new_page_from but img r (last / pages_in_block + 1)) ≡ Some g
         → g < pages img
     go true e q =
         let z = sized img size in

@@ -13,43 +13,42 @@ use Rattle.store.specs.Kind.{page_in}
 use Rattle.store.specs.Find.{is_open, is_open_but, new_page_but}
 use Rattle.store.specs.Targets.{is_left_out, open_page_from, new_page_from}
 use Rattle.store.specs.declared.Numbers.{Numbers}
-use Rattle.store.specs.declared.Found.{Found}
-use Rattle.store.specs.declared.Found.TheVariants.{At, Nothing}
+use Rattle.std.specs.Prelude.{Option, Some, None}
 
 -- ---- the search block by block
 module _ (img : List ℕ) (r : Numbers) (b : ℕ) where
   -- the block that is left out has no page for it
-  pub search_left_out : first_from (λ i. is_open_but (At b) img r (page_in b i)) pages_in_block 0 ≡ pages_in_block
+  pub search_left_out : first_from (λ i. is_open_but (Some b) img r (page_in b i)) pages_in_block 0 ≡ pages_in_block
   search_left_out = first_all _ pages_in_block 0 (λ i h k. let q : page_in b i / pages_in_block ≡ b = omega arith in rw (eq-eqb _ _ q))
 
   -- every other has the pages that it has for a write
   pub search_elsewhere : (a : ℕ) → (a ≡ b → ⊥)
-      → first_from (λ i. is_open_but (At b) img r (page_in a i)) pages_in_block 0 ≡ first_from (λ i. is_open img r (page_in a i)) pages_in_block 0
+      → first_from (λ i. is_open_but (Some b) img r (page_in a i)) pages_in_block 0 ≡ first_from (λ i. is_open img r (page_in a i)) pages_in_block 0
   search_elsewhere a n = first_agree _ _ pages_in_block 0 (λ i h k. let q : page_in a i / pages_in_block ≡ a = omega arith in let z = ne_eqb
       (page_in a i / pages_in_block) b (λ e. n (sym q ∙ e)) in rw z)
 
 -- the same where a block is left out or none: where a search ends in block a, counted in it
-abbrev pub search_in : Found → List ℕ → Numbers → ℕ → ℕ
+abbrev pub search_in : Option ℕ → List ℕ → Numbers → ℕ → ℕ
 search_in but img r a = first_from (λ i. is_open_but but img r (page_in a i)) pages_in_block 0
 
-module _ (but : Found) (img : List ℕ) (r : Numbers) (a : ℕ) where
+module _ (but : Option ℕ) (img : List ℕ) (r : Numbers) (a : ℕ) where
   pub search_passes : is_left_out but a ≡ true → search_in but img r a ≡ pages_in_block
   search_passes = go but
     where
-      go : (x : Found) → is_left_out x a ≡ true → search_in x img r a ≡ pages_in_block
-      go (At b) e = let q : b ≡ a = eqb-true b a e in rw q (search_left_out img r a)
-      go Nothing e = absurd (true-false e refl)
+      go : (x : Option ℕ) → is_left_out x a ≡ true → search_in x img r a ≡ pages_in_block
+      go (Some b) e = let q : b ≡ a = eqb-true b a e in rw q (search_left_out img r a)
+      go None e = absurd (true-false e refl)
 
   pub search_in_lem : is_left_out but a ≡ false → search_in but img r a ≡ first_from (λ i. is_open img r (page_in a i)) pages_in_block 0
   search_in_lem = go but
     where
-      go : (x : Found) → is_left_out x a ≡ false → search_in x img r a ≡ first_from (λ i. is_open img r (page_in a i)) pages_in_block 0
-      go (At b) e = search_elsewhere img r b a (λ q. eqb-false b a e (sym q))
-      go Nothing e = refl
+      go : (x : Option ℕ) → is_left_out x a ≡ false → search_in x img r a ≡ first_from (λ i. is_open img r (page_in a i)) pages_in_block 0
+      go (Some b) e = search_elsewhere img r b a (λ q. eqb-false b a e (sym q))
+      go None e = refl
 
   -- the lowest open page from a block on: in it, in a later one, or nowhere
   pub open_here : (i : ℕ) → page_in a pages_in_block ≤ pages img → is_left_out but a ≡ false
-      → i ≡ first_from (λ j. is_open img r (page_in a j)) pages_in_block 0 → i < pages_in_block → open_page_from but img r a ≡ At (page_in a i)
+      → i ≡ first_from (λ j. is_open img r (page_in a j)) pages_in_block 0 → i < pages_in_block → open_page_from but img r a ≡ Some (page_in a i)
   unfolding open_page_from
   open_here i h e f l =
       let q : search_in but img r a ≡ i = search_in_lem e ∙ sym f in
@@ -62,12 +61,12 @@ module _ (but : Found) (img : List ℕ) (r : Numbers) (a : ℕ) where
       let q : (a + 1) * pages_in_block ≡ a * pages_in_block + pages_in_block = omega arith in
       rw (first_past_row (is_open_but but img r) (pages img) (a * pages_in_block) pages_in_block h e, q)
 
-  pub open_none : pages img ≤ a * pages_in_block → open_page_from but img r a ≡ Nothing
+  pub open_none : pages img ≤ a * pages_in_block → open_page_from but img r a ≡ None
   unfolding open_page_from
   open_none h = rw (first_none (is_open_but but img r) (pages img) (a * pages_in_block) h, le-ltb (a * pages_in_block) (pages img) h)
 
 -- from the first block on it is the search for a new page
-pub new_from_start : (but : Found) (img : List ℕ) (r : Numbers) → new_page_from but img r 0 ≡ new_page_but but img r
+pub new_from_start : (but : Option ℕ) (img : List ℕ) (r : Numbers) → new_page_from but img r 0 ≡ new_page_but but img r
 unfolding new_page_from open_page_from new_page_but
 new_from_start but img r = let e : pages img - 0 ≡ pages img = omega arith in rw e
 

@@ -6,10 +6,12 @@ use mathlib.Core.Path.{◌≡◌, refl, sym, ◌∙◌}
 use mathlib.Core.Bool.{Bool, true, false, not, ◌&&◌, ◌||◌}
 use mathlib.Core.List.{List}
 use lib.Dec.{eqb}
-use lib.ListN.{length, get_or, set, replicate}
-use borrow.Author.Tests.{eqb-true}
+use lib.ListN.{length, get_or, set, replicate, take, drop, get_or-eq_default}
+use borrow.Author.Tests.{eqb-true, eqb-false, not-true, not-false}
+use Rattle.base.specs.Part.{part}
 use Rattle.base.specs.Search.{all_from}
 use Rattle.base.proofs.Choice.{and-true, and_intro, both_ways, true-false}
+use Rattle.base.proofs.Parts.{part_length, part_at}
 use Rattle.base.proofs.Searches.{below_suc, all_holds, all_intro}
 use Rattle.page.specs.Plan.{file_plan, last_file, places, count_of, start_of}
 use Rattle.page.specs.Key.{positions}
@@ -39,6 +41,13 @@ module _ (map : List ℕ) (x : ℕ) (size : length map ≡ map_size) (inside : x
   node-read img y r v e n =
       let w : vacant_at map x ≡ false = sym vacant-read ∙ v in
       rw (w, get_d_there map x none 0 (omega arith), get_d_there map (places + x) none 0 (omega arith)) (sym (rw e at n))
+
+-- the places of a run, or their keys, as code that takes them out of the map reads them
+pub run-read : (map : List ℕ) (a n i : ℕ) → i < length (take n (drop a map)) → a + n ≤ length map → get_or (take n (drop a map)) i 0 ≡ get_or map (a + i) none
+unfolding part
+run-read map a n i h k =
+    let l : length (take n (drop a map)) ≡ n = part_length map a n k in
+    part_at map a n i 0 (omega arith) ∙ get_d_there map (a + i) 0 none (omega arith)
 
 pub vacant-place : (img map : List ℕ) (x : ℕ) → vacant_at map x ≡ true → place_fits img map x ≡ true
 unfolding place_fits
@@ -70,6 +79,21 @@ module _ (img map named : List ℕ) (x : ℕ) (inside : x < places) (tested : Te
       last_fails : (a : Bool) {b : Bool} → b ≡ false → a && b ≡ false
       last_fails true e = e
       last_fails false e = refl
+
+  -- by the test that the position is not marked with 1
+  pub tested_unnamed : (next : List ℕ) → place_fits img map x ≡ true → not (eqb (get_or named (key_of map x) 0) 1) ≡ true → next ≡ set named (key_of map x) 1
+      → Tested img map next (x + 1)
+  tested_unnamed next e t s = tested_node next e (unnamed (dec_lt (key_of map x) positions)) s
+    where
+      other : get_or named (key_of map x) 0 ≡ 1 → ⊥
+      other = eqb-false _ _ (not-true _ t)
+
+      unnamed : Dec (key_of map x < positions) → get_or named (key_of map x) 0 ≡ 0
+      unnamed (yes h) = omega (arith, other, tested.tallied.few (key_of map x) h)
+      unnamed (no h) = get_or-eq_default named 0 (omega (arith, tested.tallied.size))
+
+  pub tested_named : not (eqb (get_or named (key_of map x) 0) 1) ≡ false → places_fit img map ≡ false
+  tested_named t = let one = eqb-true _ _ (not-false _ t) in tested_twice (λ z. omega arith)
 
 -- a place that does not fit
 pub unfit_place : (img map : List ℕ) (x : ℕ) → x < places → place_fits img map x ≡ false → places_fit img map ≡ false

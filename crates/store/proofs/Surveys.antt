@@ -1,24 +1,23 @@
 -- One pass over the blocks, block by block: the first state, each step, and what it found at the end.
-use Prim.Native.Nat.{ℕ, zero, suc, ◌+◌, ◌-◌, ◌*◌, ◌≤◌, max}
+use Prim.Native.Nat.{ℕ, suc, ◌+◌, ◌*◌, max}
 use native.Mathlib.Omega.{arith}
 use native.Mathlib.Nat.{zero-add}
 use native.Mathlib.Numerals.{add-one}
 use mathlib.Core.Path.{◌≡◌, refl, sym, ap, ◌∙◌}
-use mathlib.Core.Bool.{Bool, true, false, cond}
+use mathlib.Core.Bool.{false, cond}
 use mathlib.Core.List.{List}
 use lib.ListN.{get_or}
 use lib.Dec.{ltb}
 use borrow.Author.Tests.{le-ltb}
-use Rattle.base.specs.Search.{first_from, highest_from}
+use Rattle.base.specs.Search.{highest_from}
 use Rattle.base.proofs.Choice.{cond-ap}
-use Rattle.base.proofs.Searches.{first_bounds, highest_join}
+use Rattle.base.proofs.Searches.{highest_join}
 use Rattle.page.specs.Frame.{page_size}
-use Rattle.image.specs.Size.{block_size, pages_in_block, blocks}
+use Rattle.image.specs.Size.{block_size, pages_in_block}
 use Rattle.store.specs.Kind.{is_block_letter, kind_of, keys_epoch, commit_epoch, covered_by}
 use Rattle.store.specs.Mount.{rank_of, foremost, covered_in, epoch_of}
-use Rattle.store.specs.Survey.{best_of, covered_at, survey_of, no_best, better_by, no_survey, survey_next, is_lettered, next_lettered}
-use Rattle.store.specs.declared.Found.{Found}
-use Rattle.store.specs.declared.Found.TheVariants.{At}
+use Rattle.store.specs.Survey.{best_of, covered_at, survey_of, no_best, better_by, no_survey, survey_next, is_lettered}
+use Rattle.std.specs.Prelude.{Option, Some}
 use Rattle.store.specs.declared.Kind.TheVariants.{Other}
 use Rattle.store.specs.declared.survey.Best.{Best}
 use Rattle.store.specs.declared.survey.Survey.{Survey}
@@ -36,9 +35,9 @@ best_none rank = rw (foremost-none rank)
 
 best_next : (rank : ℕ → ℕ) (n : ℕ) → better_by (best_of rank n) n (rank n) ≡ best_of rank (suc n)
 best_next rank n =
-    sym (ap best (foremost_next rank n) ∙ cond-ap best (ltb (rank_of rank (foremost rank n)) (rank n)) (At n) (foremost rank n))
+    sym (ap best (foremost_next rank n) ∙ cond-ap best (ltb (rank_of rank (foremost rank n)) (rank n)) (Some n) (foremost rank n))
   where
-    best : Found → Best
+    best : Option ℕ → Best
     best x = record { at = x; epoch = rank_of rank x }
 
 covered_next : (img : List ℕ) (b : ℕ) → let f = foremost (λ a. commit_epoch (kind_of img a)) b in
@@ -46,7 +45,7 @@ covered_next : (img : List ℕ) (b : ℕ) → let f = foremost (λ a. commit_epo
 unfolding covered_in
 covered_next img b =
     let f = foremost (λ a. commit_epoch (kind_of img a)) b in
-    sym (ap (covered_at img) (foremost_next (λ a. commit_epoch (kind_of img a)) b) ∙ cond-ap (covered_at img) (ltb (rank_of (λ a. commit_epoch (kind_of img a)) f) (commit_epoch (kind_of img b))) (At b) f)
+    sym (ap (covered_at img) (foremost_next (λ a. commit_epoch (kind_of img a)) b) ∙ cond-ap (covered_at img) (ltb (rank_of (λ a. commit_epoch (kind_of img a)) f) (commit_epoch (kind_of img b))) (Some b) f)
 
 pub survey_none : (img : List ℕ) → no_survey ≡ survey_of img 0
 unfolding survey_of highest_from
@@ -78,25 +77,6 @@ other_stays s b =
     rw (le-ltb s.commit.epoch 0 (omega arith), le-ltb s.keys0.epoch 0 (omega arith), le-ltb s.keys1.epoch 0 (omega arith))
     (same_parts refl refl refl refl (omega arith))
 
-survey_idle : (img : List ℕ) (b : ℕ) → is_lettered img b ≡ false → survey_of img (b + 1) ≡ survey_of img b
+pub survey_idle : (img : List ℕ) (b : ℕ) → is_lettered img b ≡ false → survey_of img (b + 1) ≡ survey_of img b
 survey_idle img b e =
     sym (survey_next_lem img b) ∙ ap (survey_next (survey_of img b) b) (unlettered_other img b e) ∙ other_stays (survey_of img b) b
-
-survey_first : (img : List ℕ) (n i : ℕ) → survey_of img (first_from (is_lettered img) n i) ≡ survey_of img i
-unfolding first_from
-survey_first img zero i = refl
-survey_first img (suc n) i = go (is_lettered img i) refl (survey_first img n (suc i))
-  where
-    go : (t : Bool) → is_lettered img i ≡ t → survey_of img (first_from (is_lettered img) n (suc i)) ≡ survey_of img (suc i)
-        → survey_of img (cond t i (first_from (is_lettered img) n (suc i))) ≡ survey_of img i
-    go true e r = refl
-    go false e r = r ∙ rw add-one at (survey_idle img i e)
-
--- so a pass may go from one block that begins so to the next
-pub survey_leap : (img : List ℕ) (i : ℕ) → survey_of img i ≡ survey_of img (next_lettered img i)
-unfolding next_lettered
-survey_leap img i = sym (survey_first img (blocks img - i) i)
-
-pub next_lettered_most : (img : List ℕ) (i : ℕ) → i ≤ blocks img → (i ≤ next_lettered img i) × (next_lettered img i ≤ blocks img)
-unfolding next_lettered
-next_lettered_most img i h = let f = first_bounds (is_lettered img) (blocks img - i) i in (f.0, omega (arith, f.1))

@@ -9,7 +9,7 @@
 --   above_of      a page of a block whose whole or torn N or D header is above a sequence
 --   Passed       what some pages in a row make of it
 --   Replayed     what the whole pass leaves
-use Rattle.std.specs.Prelude.{ℕ, ◌*◌, ◌-◌, ◌<◌, ◌/◌, max, ◌≡◌, Bool, true, cond, ◌&&◌, List, length, get_or, eqb, leb, ltb}
+use Rattle.std.specs.Prelude.{ℕ, ◌*◌, ◌-◌, ◌<◌, ◌/◌, max, ◌≡◌, Bool, true, false, cond, ◌&&◌, ◌||◌, List, get_or, eqb, leb, ltb}
 use Rattle.base.specs.Part.{part}
 use Rattle.base.specs.Search.{any_from, highest_from}
 use Rattle.base.specs.Fold.{fold_from, list_from}
@@ -30,10 +30,10 @@ pub record Pass : Type 0 where
   pub map : List ℕ
   pub letters : List ℕ
   pub scratch : List ℕ
-  pub events : List ℕ
+  pub events : List Bool
   pub highest : ℕ
 
-abbrev pub pass : List ℕ → List ℕ → List ℕ → List ℕ → ℕ → Pass
+abbrev pub pass : List ℕ → List ℕ → List ℕ → List Bool → ℕ → Pass
 pass map letters scratch events highest =
     record { map = map; letters = letters; scratch = scratch; events = events; highest = highest }
 
@@ -70,10 +70,9 @@ range_right (Whole f) = in_range f
 range_right (Torn f) = in_range f
 range_right Spoilt = true
 
--- a table that says of each block of an image, by 1 or 0, whether it is empty
-pub record EmptyTable (img table : List ℕ) : Type 0 where
-  pub size : length table ≡ most_blocks
-  pub told : (b : ℕ) → b < blocks img → get_or table b 0 ≡ cond (block_empty img b) 1 0
+-- a table that says of each block of an image whether it is empty
+pub record EmptyTable (img : List ℕ) (table : List Bool) : Type 0 where
+  pub told : (b : ℕ) → b < blocks img → get_or table b false ≡ block_empty img b
 
 -- page g is a whole or torn N or D page of block b, above sequence s
 abbrev pub above_of : List ℕ → ℕ → ℕ → ℕ → Bool
@@ -83,7 +82,7 @@ above_of img s b g = eqb (g / pages_in_block) b && ltb s (sequence_of (form_at i
 pub record Passed (img : List ℕ) (s n g : ℕ) (t t' : Pass) : Type 0 where
   pub place : EachPlace (λ x. fold_from (λ i. decide_by s x i (form_at img i)) n g) t.map t.scratch t'.map t'.scratch
   pub letter : EachLetter (λ p l. cond (any_from (λ i. spends s p (form_at img i)) n g) deleted_letter l) t.letters t'.letters
-  pub event : (b : ℕ) → b < most_blocks → get_or t'.events b 0 ≡ cond (any_from (above_of img s b) n g) 1 (get_or t.events b 0)
+  pub event : (b : ℕ) → b < most_blocks → get_or t'.events b false ≡ any_from (above_of img s b) n g || get_or t.events b false
   pub highest : t'.highest ≡ max t.highest (highest_from (λ i. sequence_of (form_at img i)) n g)
 
 -- what the pass leaves, with the commit in block c: map and scratch, the letters but for the keys that live nodes name, the blocks with events above the
@@ -92,5 +91,5 @@ pub record Replayed (img : List ℕ) (c : ℕ) (t : Pass) : Type 0 where
   pub map : t.map ≡ mount_map img c
   pub scratch : t.scratch ≡ mount_scratch img c
   pub letters : t.letters ≡ list_from (unused_letter img c) positions 0
-  pub events : (b : ℕ) → b < blocks img → get_or t.events b 0 ≡ cond (has_above img (covered_in img c) b) 1 0
+  pub events : (b : ℕ) → b < blocks img → get_or t.events b false ≡ has_above img (covered_in img c) b
   pub highest : t.highest ≡ highest_from (λ g. sequence_of (form_at img g)) (pages img) 0

@@ -1,43 +1,45 @@
 -- Document 02, #102: where the copies of a gather go, as code finds it. All are found on the image before the first copy, each from the one before it.
-use Rattle.std.specs.Prelude.{ℕ, zero, suc, ◌+◌, ◌*◌, ◌-◌, ◌/◌, ◌%◌, ◌<◌, ◌≡◌, Bool, false, cond, List, [], ◌∷◌, eqb, ltb, length, get_or, set}
-use Rattle.base.specs.Search.{first_from}
+use Rattle.std.specs.Prelude.{ℕ, zero, suc, ◌+◌, ◌*◌, ◌-◌, ◌/◌, ◌%◌, ◌<◌, ◌≡◌, Bool, false, cond, List, [], ◌∷◌, eqb, ltb, length, get_or, set, Option, Some, None, Result, Ok, Err}
+use Rattle.base.specs.Search.{first_from, found}
 use Rattle.image.specs.Size.{pages_in_block, pages}
 use Rattle.image.specs.Step.{Step, program}
 use Rattle.store.specs.Kind.{page_in}
-use Rattle.store.specs.Find.{found, fresh_page, or_else, is_open_but, new_page_but}
+use Rattle.store.specs.Find.{fresh_page, or_else, is_open_but, new_page_but}
 use Rattle.store.specs.Write.{next_sequence}
-use Rattle.store.specs.Gather.{place_on, copy_of}
+use Rattle.store.specs.Reply.{Done, verdict}
+use Rattle.store.specs.Record.{Record}
+use Rattle.store.specs.Gather.{place_on, copy_of, live_pages, gather_tests}
+use Rattle.store.specs.declared.Error.{Error}
 use Rattle.store.specs.declared.Numbers.{Numbers}
-use Rattle.store.specs.declared.Found.{Found}
-use Rattle.store.specs.declared.Found.TheVariants.{At, Nothing}
+use Rattle.store.specs.declared.gather.Moves.{Moves}
 
 -- ---- pages
 -- block b is the one to leave out
-abbrev pub is_left_out : Found → ℕ → Bool
-is_left_out (At a) b = eqb a b
-is_left_out Nothing b = false
+abbrev pub is_left_out : Option ℕ → ℕ → Bool
+is_left_out (Some a) b = eqb a b
+is_left_out None b = false
 
 -- the lowest open page from block b on
-unfoldable pub open_page_from : Found → List ℕ → Numbers → ℕ → Found
+unfoldable pub open_page_from : Option ℕ → List ℕ → Numbers → ℕ → Option ℕ
 open_page_from but img r b = found (pages img) (first_from (is_open_but but img r) (pages img - b * pages_in_block) (b * pages_in_block))
 
 -- else the first page of an empty block
-unfoldable pub new_page_from : Found → List ℕ → Numbers → ℕ → Found
+unfoldable pub new_page_from : Option ℕ → List ℕ → Numbers → ℕ → Option ℕ
 new_page_from but img r b = or_else (open_page_from but img r b) (fresh_page img)
 
 -- the page after g: the next of its block, else one of a later block
-abbrev pub page_after : Found → List ℕ → Numbers → ℕ → Found
-page_after but img r g = cond (ltb (g % pages_in_block) (pages_in_block - 1)) (At (g + 1)) (new_page_from but img r (g / pages_in_block + 1))
+abbrev pub page_after : Option ℕ → List ℕ → Numbers → ℕ → Option ℕ
+page_after but img r g = cond (ltb (g % pages_in_block) (pages_in_block - 1)) (Some (g + 1)) (new_page_from but img r (g / pages_in_block + 1))
 
 -- n pages in turn, the first of which is given; fewer where one is not found
-unfoldable pub pages_from : Found → List ℕ → Numbers → ℕ → Found → List ℕ
+unfoldable pub pages_from : Option ℕ → List ℕ → Numbers → ℕ → Option ℕ → List ℕ
 pages_from but img r zero x = []
-pages_from but img r (suc n) (At g) = g ∷ pages_from but img r n (page_after but img r g)
-pages_from but img r (suc n) Nothing = []
+pages_from but img r (suc n) (Some g) = g ∷ pages_from but img r n (page_after but img r g)
+pages_from but img r (suc n) None = []
 
 -- those of n copies out of a block
 abbrev pub targets : ℕ → List ℕ → Numbers → ℕ → List ℕ
-targets block img r n = pages_from (At block) img r n (new_page_but (At block) img r)
+targets block img r n = pages_from (Some block) img r n (new_page_but (Some block) img r)
 
 -- ---- copies of some pages to as many others
 abbrev pub copies_to : List ℕ → List ℕ → List ℕ → ℕ → List Step
@@ -66,3 +68,10 @@ pub record PlacesIn (map : List ℕ) (block : ℕ) (at : List ℕ) : Type 0 wher
 pub record Begins (table xs : List ℕ) : Type 0 where
   pub full : length table ≡ pages_in_block
   pub each : (j : ℕ) → j < length xs → get_or table j 0 ≡ get_or xs j 0
+
+-- ---- what the tests of a gather hand on: where all are passed, for each page of the block its place, and the pages of the copies
+abbrev pub Tried : List ℕ → Record → ℕ → Result Moves Error → Type 0
+Tried img r block (Ok m) =
+    (verdict (gather_tests img r block) ≡ Done)
+    × PlacesIn r.map block m.at × Begins m.to (targets block img r.numbers (length (live_pages r.map block)))
+Tried img r block (Err error) = verdict (gather_tests img r block) ≡ Err error

@@ -7,45 +7,25 @@ ghost use Rattle.store.specs.Mount.{size_tests, block_tests, mount_leaves};
 ghost use Rattle.store.specs.Survey.{survey_of, survey_numbers, Surveyed};
 ghost use Rattle.store.specs.Taken.{MountChosen};
 
-use crate::rebuild::Rebuilt;
+use crate::kinds::MOST_BLOCKS;
+use crate::replay::Scratch;
 use crate::survey::Survey;
-use crate::{Answer, ENOUGH, Numbers, Reply, rebuild, replies, survey, sweep, tests};
+use crate::{Answer, ENOUGH, Error, Numbers, rebuild, replies, survey, sweep};
 use image::{Power, look};
-use page::plan::PLACES;
-
-// An image has at most 256 blocks.
-const MOST_BLOCKS: usize = 256;
-
-// The tests of the image's size and of the buffers' lengths, in order.
-fn refuse_sizes(image: &[u8], map: &[u16], letters: &[u8], scratch: &[u32]) -> Reply
-    ensures { result ≡ verdict (size_tests image.now map.now letters.now scratch.now) }
-{
-    if !look::size_right(image) {
-        return Reply::ImageSize;
-    }
-    if !tests::buffers_right(map, letters) {
-        return Reply::BufferLength;
-    }
-    if scratch.len() != PLACES {
-        return Reply::BufferLength;
-    }
-    Reply::Done
-}
+use page::keys::{Letters, POSITIONS};
+use page::plan::{MAP_SIZE, Map, PLACES};
 
 // The tests of the blocks that a mount chooses, in order.
-fn refuse_blocks(s: Survey) -> Reply
+fn refuse_blocks(s: Survey) -> Result<(), Error>
     ensures { result ≡ verdict (block_tests s.commit.at s.keys0.at s.keys1.at) }
 {
-    let commit = s.commit;
-    let keys0 = s.keys0;
-    let keys1 = s.keys1;
-    if !survey::is_found(commit) {
-        return Reply::NoCommit;
+    if s.commit.at.is_none() {
+        return Err(Error::NoCommit);
     }
-    if !(survey::is_found(keys0) & survey::is_found(keys1)) {
-        return Reply::NoKeyBlock;
+    if s.keys0.at.is_none() | s.keys1.at.is_none() {
+        return Err(Error::NoKeyBlock);
     }
-    Reply::Done
+    Ok(())
 }
 
 // The numbers of the record, with the highest sequence of the pages.
@@ -53,24 +33,21 @@ fn numbers_of(s: Survey, highest: u32) -> Numbers
     requires { Surveyed s highest }
     ensures { result ≡ survey_numbers s highest }
 {
-    let commit = s.commit;
-    let keys0 = s.keys0;
-    let keys1 = s.keys1;
     Numbers {
-        sequence: survey::larger(s.covered, highest) + 1,
+        sequence: s.covered.max(highest) + 1,
         epoch: s.highest + 1,
-        keys0: survey::found_at(keys0) as u32,
-        keys1: survey::found_at(keys1) as u32,
-        commit: survey::found_at(commit) as u32,
+        keys0: s.keys0.at.unwrap_or(0) as u32,
+        keys1: s.keys1.at.unwrap_or(0) as u32,
+        commit: s.commit.at.unwrap_or(0) as u32,
     }
 }
 
 // Mounts, once the blocks are chosen. The buffers are filled before the first erase.
 fn mount_chosen(
     image: &mut [u8],
-    map: &mut [u16],
-    letters: &mut [u8],
-    scratch: &mut [u32],
+    map: &mut Map,
+    letters: &mut Letters,
+    scratch: &mut Scratch,
     s: Survey,
     n: u64,
     k: usize,
@@ -80,13 +57,12 @@ fn mount_chosen(
     ensures { standing result image.new map.new letters.new scratch.new
         ≡ mount_leaves (left n k) image.old map.old letters.old scratch.old }
 {
-    let mut events = [0u8; MOST_BLOCKS];
-    let mut empties = [0u8; MOST_BLOCKS];
+    let mut events = [false; MOST_BLOCKS];
+    let mut empties = [false; MOST_BLOCKS];
     sweep::find_empty(image, &mut empties);
-    let commit = s.commit;
-    let Rebuilt::Fits(highest) = rebuild::rebuild_record(
+    let Some(highest) = rebuild::rebuild_record(
         image,
-        survey::found_at(commit),
+        s.commit.at.unwrap_or(0),
         s.covered,
         map,
         letters,
@@ -94,10 +70,7 @@ fn mount_chosen(
         &mut events,
         &empties,
     ) else {
-        return Answer {
-            reply: Reply::EntryUnfit,
-            numbers: Numbers::none(),
-        };
+        return replies::refused(Error::EntryUnfit, Numbers::none());
     };
     let numbers = numbers_of(s, highest);
     let power = sweep::erase_swept(
@@ -129,21 +102,22 @@ pub fn mount_cut(
     ensures { standing result image.new map.new letters.new scratch.new
         ≡ mount_leaves (left n k) image.old map.old letters.old scratch.old }
 {
-    let sizes = refuse_sizes(image, map, letters, scratch);
-    if !replies::is_done(sizes) {
-        return Answer {
-            reply: sizes,
-            numbers: Numbers::none(),
-        };
+    if !look::size_right(image) {
+        return replies::refused(Error::ImageSize, Numbers::none());
     }
+    let Some(map) = map.as_mut_array::<MAP_SIZE>() else {
+        return replies::refused(Error::BufferLength, Numbers::none());
+    };
+    let Some(letters) = letters.as_mut_array::<POSITIONS>() else {
+        return replies::refused(Error::BufferLength, Numbers::none());
+    };
+    let Some(scratch) = scratch.as_mut_array::<PLACES>() else {
+        return replies::refused(Error::BufferLength, Numbers::none());
+    };
     let s = survey::survey_blocks(image);
-    let reply = refuse_blocks(s);
-    if !replies::is_done(reply) {
+    if let Err(error) = refuse_blocks(s) {
         rebuild::clear_record(map, letters, scratch);
-        return Answer {
-            reply: reply,
-            numbers: Numbers::none(),
-        };
+        return replies::refused(error, Numbers::none());
     }
     mount_chosen(image, map, letters, scratch, s, n, k)
 }

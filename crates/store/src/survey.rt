@@ -1,17 +1,17 @@
 // What one pass over the blocks finds for a mount: the blocks that it chooses, the covered sequence and the highest epoch.
-ghost use Rattle.std.specs.Prelude.{◌≡◌, ◌%◌, max, length};
+ghost use Rattle.std.specs.Prelude.{◌≡◌, ◌%◌, length};
 ghost use Rattle.image.specs.Size.{block_size, blocks};
-ghost use Rattle.store.specs.Find.{is_found, found_at};
-ghost use Rattle.store.specs.Survey.{no_best, better_by, covered_next, epoch_in, no_survey, survey_next, next_lettered, survey_of};
+ghost use Rattle.store.specs.Survey.{no_best, better_by, covered_next, epoch_in, no_survey, survey_next, survey_of};
 
-use crate::{Found, Kind, kinds};
+use crate::{Kind, kinds};
 use image::look;
 use image::look::PAGES_IN_BLOCK;
 
 // The foremost of the blocks passed: its epoch is highest, on a tie it is the lower one. Where there is none, the epoch is 0.
+// Stays (1): no block has the epoch 0, so that of none is the lowest without a case of its own.
 #[derive(Clone, Copy)]
 pub struct Best {
-    pub at: Found,
+    pub at: Option<usize>,
     pub epoch: u32,
 }
 
@@ -25,46 +25,11 @@ pub struct Survey {
     pub highest: u32,
 }
 
-// The larger of two numbers.
-pub fn larger(a: u32, b: u32) -> u32
-    ensures { result ≡ max a b }
-{
-    if a < b {
-        return b;
-    }
-    a
-}
-
 // Before the first block.
 fn no_best() -> Best
     ensures { result ≡ no_best }
 {
-    Best {
-        at: Found::Nothing,
-        epoch: 0,
-    }
-}
-
-// Whether there is a foremost block.
-pub fn is_found(best: Best) -> bool
-    ensures { result ≡ is_found best.at }
-{
-    let at = best.at;
-    match at {
-        Found::At(_) => true,
-        Found::Nothing => false,
-    }
-}
-
-// The foremost block, 0 where there is none.
-pub fn found_at(best: Best) -> usize
-    ensures { result ≡ found_at best.at }
-{
-    let at = best.at;
-    match at {
-        Found::At(b) => b,
-        Found::Nothing => 0,
-    }
+    Best { at: None, epoch: 0 }
 }
 
 // The foremost with block b of this epoch.
@@ -73,14 +38,15 @@ fn better(best: Best, b: usize, epoch: u32) -> Best
 {
     if best.epoch < epoch {
         return Best {
-            at: Found::At(b),
+            at: Some(b),
             epoch: epoch,
         };
     }
     best
 }
 
-// The sequence that the foremost commit block covers, with one more block of this kind.
+// The sequence that the foremost commit block covers, with one more block of this kind; 0 where there is none.
+// Stays (1): the next sequence is one above the highest of it and those of the pages, and a new volume covers 0.
 fn covered_next(best: Best, covered: u32, kind: Kind) -> u32
     ensures { result ≡ covered_next best covered kind }
 {
@@ -91,13 +57,12 @@ fn covered_next(best: Best, covered: u32, kind: Kind) -> u32
 }
 
 // The epoch of a whole block, 0 where it is none.
+// Stays (1): the next epoch is one above the highest of all blocks, and no epoch is 0 (`within 1 last_number`).
 fn epoch_in(kind: Kind) -> u32
     ensures { result ≡ epoch_in kind }
 {
-    larger(
-        kinds::commit_epoch(kind),
-        larger(kinds::keys_epoch(kind, 0), kinds::keys_epoch(kind, 1)),
-    )
+    let keys = kinds::keys_epoch(kind, 0).max(kinds::keys_epoch(kind, 1));
+    kinds::commit_epoch(kind).max(keys)
 }
 
 // Before the first block.
@@ -125,23 +90,8 @@ fn survey_next(s: Survey, b: usize, kind: Kind) -> Survey
         covered: covered_next(commit, s.covered, kind),
         keys0: better(keys0, b, kinds::keys_epoch(kind, 0)),
         keys1: better(keys1, b, kinds::keys_epoch(kind, 1)),
-        highest: larger(s.highest, epoch_in(kind)),
+        highest: s.highest.max(epoch_in(kind)),
     }
-}
-
-// The first block from from on that begins with K or C, or the number of blocks where there is none.
-fn next_lettered(image: &[u8], from: usize) -> usize
-    ensures { result ≡ next_lettered image.now from }
-{
-    let n = look::blocks(image);
-    let mut b = from;
-    while b < n {
-        if kinds::is_block_letter(look::letter_at(image, b * PAGES_IN_BLOCK)) {
-            return b;
-        }
-        b += 1;
-    }
-    b
 }
 
 // Passes over the blocks that begin with K or C, the only ones that can be whole; the kind of each is worked out once.
@@ -149,12 +99,11 @@ pub fn survey_blocks(image: &[u8]) -> Survey
     requires { length image.now % block_size ≡ 0 }
     ensures { result ≡ survey_of image.now (blocks image.now) }
 {
-    let n = look::blocks(image);
     let mut s = no_survey();
-    let mut b = next_lettered(image, 0);
-    while b < n {
-        s = survey_next(s, b, kinds::kind_of(image, b));
-        b = next_lettered(image, b + 1);
+    for b in 0..look::blocks(image) {
+        if kinds::is_block_letter(look::letter_at(image, b * PAGES_IN_BLOCK)) {
+            s = survey_next(s, b, kinds::kind_of(image, b));
+        }
     }
     s
 }

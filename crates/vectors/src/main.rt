@@ -7,7 +7,7 @@ use std::io;
 
 const BLOCK: usize = 16;
 
-const WORDS: usize = 44;
+const WORD: usize = 4;
 
 // FIPS 197, A.1 and B, and SP 800-38A: the key.
 const KEY: [u8; 16] = *b"\x2b\x7e\x15\x16\x28\xae\xd2\xa6\xab\xf7\x15\x88\x09\xcf\x4f\x3c";
@@ -52,10 +52,8 @@ fn show(rt: &impl Print, bytes: &[u8]) -> io::Result<()> {
 
 // Writes the words of round keys, one to a line.
 fn show_words(rt: &impl Print, w: [u8; 176]) -> io::Result<()> {
-    for i in 0..WORDS {
-        let at = 4 * i;
-        let end = at + 4;
-        show(rt, &w[at..end])?;
+    for word in w.chunks_exact(WORD) {
+        show(rt, word)?;
     }
     Ok(())
 }
@@ -86,8 +84,8 @@ fn show_counter_block(
     plain: [u8; 16],
 ) -> io::Result<()> {
     let mut output = cipher::encrypt(keys, counter);
-    for i in 0..BLOCK {
-        output[i] = output[i] ^ plain[i];
+    for (byte, other) in output.iter_mut().zip(plain) {
+        *byte ^= other;
     }
     show(rt, &output)
 }

@@ -9,5 +9,5 @@ use Rattle.cipher.proofs.expansion.sub_rot_word.Goals as goal
 pub returns : goal.returns
 returns c =
     c.from_le_bytes.ensures
-    ∙ four_eq (s_box-entry c.requires (byte1 c.args.x) (omega arith)) (s_box-entry c.requires (byte2 c.args.x) (omega arith))
-    (s_box-entry c.requires (byte3 c.args.x) (omega arith)) (s_box-entry c.requires (byte0 c.args.x) (omega arith))
+    ∙ four_eq (s_box-entry c.of_s_box-sbox.ensures (byte1 c.args.x) (omega arith)) (s_box-entry c.of_s_box-sbox.ensures (byte2 c.args.x) (omega arith))
+    (s_box-entry c.of_s_box-sbox.ensures (byte3 c.args.x) (omega arith)) (s_box-entry c.of_s_box-sbox.ensures (byte0 c.args.x) (omega arith))

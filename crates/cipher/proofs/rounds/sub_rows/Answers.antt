@@ -9,5 +9,5 @@ use Rattle.cipher.proofs.rounds.sub_rows.Goals as goal
 pub returns : goal.returns
 returns c =
     c.from_le_bytes.ensures
-    ∙ four_eq (s_box-byte c.requires (byte0 c.args.a) (omega arith)) (s_box-byte c.requires (byte1 c.args.b) (omega arith))
-    (s_box-byte c.requires (byte2 c.args.c) (omega arith)) (s_box-byte c.requires (byte3 c.args.d) (omega arith))
+    ∙ four_eq (s_box-byte c.of_rounds-table.ensures (byte0 c.args.a) (omega arith)) (s_box-byte c.of_rounds-table.ensures (byte1 c.args.b) (omega arith))
+    (s_box-byte c.of_rounds-table.ensures (byte2 c.args.c) (omega arith)) (s_box-byte c.of_rounds-table.ensures (byte3 c.args.d) (omega arith))

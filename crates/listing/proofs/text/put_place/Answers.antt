@@ -3,16 +3,24 @@ use native.Mathlib.Omega.{arith}
 use mathlib.Core.Path.{sym}
 use mathlib.Core.List.{append-nil}
 use lib.ListN.{take}
+use borrow.Author.Rules.{rules}
+use Rattle.listing.proofs.Files.{file-found}
 use Rattle.listing.proofs.Rows.{row-none, row-some}
 use Rattle.listing.proofs.text.put_place.Goals as goal
 
 pub returns-then-map-x : goal.returns-then-map-x
 returns-then-map-x c =
     let a = c.args in
-    (omega arith, rw (row-none a.map.now a.x c.requires.1 c.requires.2 c.if-map-x.true) (sym (append-nil (take a.at a.out.now))))
+    (omega arith, rw (row-none a.map.now a.x (search rules) c.requires.1 c.if-map-x.true) (sym (append-nil (take a.at a.out.now))))
+
+pub offset_of-requires : goal.offset_of-requires
+offset_of-requires c =
+    let f = c.file_at-file.ensures in
+    (c.requires.1, file-found c.args.x c.file_at-file.result c.requires.1 f.1 f.2, f.0)
 
 pub returns : goal.returns
 returns c =
     let a = c.args in
-    let e = row-some a.map.now a.x c.requires.1 c.requires.2 (omega (arith, c.type_inv.map a.x)) c.if-map-x.false in
-    (omega arith, rw (e, ← c.offset_of.ensures, ← c.file_of-file.ensures.0) c.put_row.ensures.1)
+    let f = c.file_at-file.ensures in
+    let e = row-some a.map.now a.x (search rules) c.requires.1 (omega (arith, c.fits-map a.x)) c.if-map-x.false in
+    (omega arith, rw (e, ← c.offset_of.ensures, ← file-found a.x c.file_at-file.result c.requires.1 f.1 f.2) c.put_row.ensures.1)

@@ -5,4 +5,4 @@ use Rattle.listing.proofs.text.put_refusal.Goals as goal
 
 pub returns : goal.returns
 unfolding refusal
-returns c = (omega arith, rw (c.put_line_end.ensures.1, c.put_number-after_number.ensures.1))
+returns c = (omega arith, rw (c.put_line_end.ensures.1, c.put_number-after_number.ensures.1, c.number.ensures))

@@ -3,7 +3,7 @@ use Prim.Native.Nat.{◌-◌}
 use native.Mathlib.Omega.{arith}
 use mathlib.Core.Path.{sym, ◌∙◌}
 use lib.Seq.{length-take-le}
-use Rattle.page.proofs.Spellings.{last_of_twelve, past_twelve}
+use Rattle.page.proofs.Spellings.{last_of, past_twelve}
 use borrow.Author.Rules.{rules}
 use Rattle.page.proofs.columns.put.Goals as goal
 
@@ -11,7 +11,7 @@ pub returns-then-w-le12 : goal.returns-then-w-le12
 returns-then-w-le12 c =
     let a = c.args in
     c.copy.ensures
-    ∙ last_of_twelve a.w a.n (12 - (12 - a.w)) _ c.twelve-columns.ensures c.requires.1 (search rules) (search rules)
+    ∙ last_of a.w a.n 12 (12 - (12 - a.w)) _ c.twelve-columns.ensures c.requires.1 (search rules) (search rules)
 
 pub slice_bounds-fill-length : goal.slice_bounds-fill-length
 slice_bounds-fill-length c =

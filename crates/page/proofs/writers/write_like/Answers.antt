@@ -1,4 +1,5 @@
 -- `page::writers::write_like` meets its contract: the three parts are written one after the other, then the page is cut.
+use borrow.Author.Rules.{rules}
 use mathlib.Core.Path.{ap, ◌∙◌}
 use Rattle.page.specs.Page.{cut_page}
 use Rattle.page.proofs.Pages.{like_written}
@@ -10,4 +11,4 @@ returns c =
     c.cut.ensures
     ∙ ap (cut_page a.k)
     (c.close.ensures
-    ∙ rw (c.write_header_like.ensures, c.copy.ensures) (like_written a.header.now a.part a.payload.now c.requires.page_len.1 c.requires.part_bound.1 a.page.now))
+    ∙ rw (c.write_header_like.ensures, c.copy.ensures) (like_written a.header.now a.part a.payload.now (search rules) (search rules) _))

@@ -12,7 +12,7 @@ pub remove-requires : goal.remove-requires
 remove-requires c =
     let a = c.args in
     let t = c.requires.0 in
-    (t.ready.buffers.map_full, t.ready.buffers.letters_full, t.planned, key_below a.image.now (record_of a.map.now a.letters.now a.numbers) t.ready)
+    (t.planned, key_below a.image.now (record_of a.map.now a.letters.now a.numbers) t.ready)
 
 pub returns : goal.returns
 returns c =

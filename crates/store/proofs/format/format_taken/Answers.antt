@@ -1,13 +1,6 @@
 -- The record of an empty volume, and the volume with what power there is.
-use mathlib.Core.Path.{◌∙◌}
 use Rattle.store.proofs.Calls.{format_left}
 use Rattle.store.proofs.format.format_taken.Goals as goal
-
-pub program_volume-power-requires : goal.program_volume-power-requires
-program_volume-power-requires c =
-    let a = c.args in
-    let b = c.requires.buffers in
-    (c.requires.size, c.clear_map.ensures ∙ rw b.map_full, c.fill.ensures ∙ rw b.letters_full, c.requires.noise_full)
 
 pub returns : goal.returns
 returns c =

@@ -1,6 +1,8 @@
--- The loop's invariant: the live pages before page i are copied, to the first j of the pages that were found. The measure is what is left of the block.
+-- The loop's invariant: the live pages before page i are copied, to the first j of the pages that were found.
 use native.Mathlib.Omega.{arith}
+use Prim.Native.Nat.{◌<◌}
 use mathlib.Core.Path.{◌≡◌, ap}
+use Rattle.image.specs.Size.{pages_in_block}
 use Rattle.store.specs.Record.{record_of}
 use Rattle.store.specs.declared.stages.Progress.{Progress}
 use Rattle.store.proofs.GatherLoops.{data_inside, moving_first, moving_past, page-left, move_able, move_done, moving_last}
@@ -17,10 +19,6 @@ loop-i-init c =
       c.requires.places_in.1,
     )
 
-pub bounds-at-i : goal.bounds-at-i
-bounds-at-i c =
-    omega (arith, c.requires.places_in.0.full)
-
 pub overflow_mul-block : goal.overflow_mul-block
 overflow_mul-block c =
     let a = c.args in
@@ -33,25 +31,29 @@ overflow_add-block c =
     let b = data_inside a.image.now (record_of a.map.now a.letters.now a.numbers) a.block c.requires.gather_taken in
     omega (arith, b, c.loop-i.invariant.1.bound)
 
-pub offset_bounds-to-j : goal.offset_bounds-to-j
-offset_bounds-to-j c =
+pub offset_bounds-moves-j : goal.offset_bounds-moves-j
+offset_bounds-moves-j c =
     let a = c.args in
     let l = c.loop-i in
     let r = record_of a.map.now a.letters.now c.begin-p.result.numbers in
     omega (
       arith,
       page-left a.image.now r a.block a.n a.k l.invariant.0 l.image l.map l.p.power l.p.numbers l.i l.j
-          l.invariant.1 c.loop-i-test.true a.at.now a.to.now c.requires.places_in.0 l.invariant.2 c.if-x-lt-PLACES.true,
+          l.invariant.1 (omega (arith, c.requires.places_in.0.full)) a.moves.at a.moves.to c.requires.places_in.0 l.invariant.2 c.if-x-lt-PLACES.true,
       c.requires.places_in.1.full,
     )
 
-pub bounds-to-j : goal.bounds-to-j
-bounds-to-j c =
+pub bounds-moves-j : goal.bounds-moves-j
+bounds-moves-j c =
     let a = c.args in
     let l = c.loop-i in
     let r = record_of a.map.now a.letters.now c.begin-p.result.numbers in
-    page-left a.image.now r a.block a.n a.k l.invariant.0 l.image l.map l.p.power l.p.numbers l.i l.j l.invariant.1
-    c.loop-i-test.true a.at.now a.to.now c.requires.places_in.0 l.invariant.2 c.if-x-lt-PLACES.true
+    omega (
+      arith,
+      page-left a.image.now r a.block a.n a.k l.invariant.0 l.image l.map l.p.power l.p.numbers l.i l.j
+          l.invariant.1 (omega (arith, c.requires.places_in.0.full)) a.moves.at a.moves.to c.requires.places_in.0 l.invariant.2 c.if-x-lt-PLACES.true,
+      c.requires.places_in.1.full,
+    )
 
 pub move_page-p-requires : goal.move_page-p-requires
 move_page-p-requires c =
@@ -59,8 +61,8 @@ move_page-p-requires c =
     let l = c.loop-i in
     let r = record_of a.map.now a.letters.now c.begin-p.result.numbers in
     let m = move_able a.image.now r a.block a.n a.k l.invariant.0 l.image l.map l.p.power l.p.numbers l.i l.j l.invariant.1
-    c.loop-i-test.true a.at.now a.to.now c.requires.places_in.0 l.invariant.2 c.if-x-lt-PLACES.true in
-    record { page_size_in_bounds = m.0; from_value = m.1; to_lt_none = m.2 }
+    (omega (arith, c.requires.places_in.0.full)) a.moves.at a.moves.to c.requires.places_in.0 l.invariant.2 c.if-x-lt-PLACES.true in
+    record { page_size_in_bounds = m.0; from_value = m.1; to_lt_none = (m.2.0, c.if-x-lt-PLACES.true, m.2.2) }
 
 pub overflow_add-j : goal.overflow_add-j
 overflow_add-j c =
@@ -73,20 +75,20 @@ loop-i-preserved c =
     let begun = c.begin-p.result in
     let l = c.loop-i in
     let r = record_of a.map.now a.letters.now begun.numbers in
-    let h = c.loop-i-test.true in
+    let h : l.i < pages_in_block = omega (arith, c.requires.places_in.0.full) in
     let noted = c.requires.places_in.0 in
     elim c.if-x-lt-PLACES.branch [
       | then-x-lt-PLACES w ↦ rw (w.image-is, w.map-is, w.p-is, w.j-is) (
         l.invariant.0,
         move_done a.image.now r a.block a.n a.k l.invariant.0 l.image l.map l.p.power
-            l.p.numbers l.i l.j l.invariant.1 h a.at.now a.to.now noted l.invariant.2 w.if-x-lt-PLACES.true _ _ _ _ w.move_page-p.ensures.0 w.move_page-p.ensures.1
+            l.p.numbers l.i l.j l.invariant.1 h a.moves.at a.moves.to noted l.invariant.2 w.if-x-lt-PLACES.true _ _ _ _ w.move_page-p.ensures.0 w.move_page-p.ensures.1
             w.move_page-p.ensures.2,
         l.invariant.2,
       )
       | else-x-lt-PLACES w ↦ rw (w.image-is, w.map-is, w.p-is, w.j-is) (
         l.invariant.0,
         moving_past a.image.now r a.block a.n a.k l.invariant.0 l.image l.map l.p.power
-            l.p.numbers l.i l.j l.invariant.1 h a.at.now a.to.now noted l.invariant.2 w.if-x-lt-PLACES.false,
+            l.p.numbers l.i l.j l.invariant.1 h a.moves.at a.moves.to noted l.invariant.2 w.if-x-lt-PLACES.false,
         l.invariant.2,
       )
     ]
@@ -98,4 +100,4 @@ returns c =
     let n : c.begin-p.result.numbers ≡ a.numbers = ap (λ (p : Progress). p.numbers) c.begin-p.ensures in
     let r = record_of a.map.now a.letters.now c.begin-p.result.numbers in
     rw (c.answer.ensures, ← n) (moving_last a.image.now r a.block a.n a.k l.invariant.0 l.image l.map l.p.power l.p.numbers
-    l.i l.j l.invariant.1 (omega arith))
+    l.i l.j l.invariant.1 (omega (arith, c.requires.places_in.0.full)))

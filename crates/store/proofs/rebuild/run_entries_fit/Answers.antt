@@ -1,9 +1,9 @@
 -- Vacant places fit; else all fit where those left do.
 use Prim.Native.Nat.{◌+◌, ◌-◌}
 use native.Mathlib.Omega.{arith}
-use mathlib.Core.Path.{◌≡◌, refl, sym, ◌∙◌}
+use mathlib.Core.Path.{◌≡◌, sym, ◌∙◌}
 use lib.Dec.{eqb}
-use borrow.Author.Tests.{eqb-true, not-true, not-false}
+use borrow.Author.Tests.{eqb-true}
 use Rattle.base.specs.Search.{all_from}
 use Rattle.base.proofs.Choice.{and-true}
 use Rattle.base.proofs.Searches.{all_next, all_fails, all_none}
@@ -20,22 +20,19 @@ returns-then-is_vacant_run c =
     let n : a.end - a.from ≡ run_length = omega arith in
     rw n (sym (entries-run a.image.now a.map.now run_length a.from v.1 a.scratch.now))
 
-pub loop-x-init : goal.loop-x-init
-loop-x-init c = (omega arith, omega arith, refl)
-
 pub returns-then-not-entry_fits : goal.returns-then-not-entry_fits
 returns-then-not-entry_fits c =
     let l = c.loop-x in
     let end = c.args.end in
-    sym (l.invariant.2 ∙ all_fails _ end l.x (omega arith) (sym c.entry_fits.ensures ∙ not-true _ c.if-not-entry_fits.true-raw))
+    sym (l.invariant ∙ all_fails _ end l.x (omega arith) (sym c.entry_fits.ensures ∙ c.if-not-entry_fits.true))
 
 pub loop-x-preserved : goal.loop-x-preserved
 loop-x-preserved c =
     let l = c.loop-x in
     let end = c.args.end in
-    (omega arith, omega arith, l.invariant.2 ∙ all_next _ end l.x (omega arith) (sym c.entry_fits.ensures ∙ not-false _ c.if-not-entry_fits.false-raw))
+    l.invariant ∙ all_next _ end l.x (omega arith) (sym c.entry_fits.ensures ∙ c.if-not-entry_fits.false)
 
 pub returns : goal.returns
 returns c =
     let l = c.loop-x in
-    sym (l.invariant.2 ∙ all_none _ c.args.end l.x c.loop-x-test.false)
+    sym (l.invariant ∙ all_none _ c.args.end l.x c.loop-x-test.false)

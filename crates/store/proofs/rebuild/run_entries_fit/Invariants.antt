@@ -1,5 +1,5 @@
 -- Vacant places fit; else all fit where those left do.
-use Prim.Native.Nat.{ℕ, ◌≤◌, ◌-◌}
+use Prim.Native.Nat.{ℕ, ◌-◌}
 use mathlib.Core.Path.{◌≡◌}
 use mathlib.Core.Bool.{Bool, not, ◌||◌}
 use mathlib.Core.List.{List}
@@ -14,7 +14,4 @@ entry_fits image map scratch x = not (eqb (get_or scratch x 0) 0) || place_fits 
 
 abbrev pub invariant-loop-x : goal.invariant-loop-x
 invariant-loop-x l =
-    (l.from ≤ l.x) × (l.x ≤ l.end) × (all_from (entry_fits l.image l.map l.scratch) (l.end - l.from) l.from ≡ all_from (entry_fits l.image l.map l.scratch) (l.end - l.x) l.x)
-
-abbrev pub decreases-loop-x : goal.decreases-loop-x
-decreases-loop-x l = l.end - l.x
+    all_from (entry_fits l.image l.map l.scratch) (l.end - l.from) l.from ≡ all_from (entry_fits l.image l.map l.scratch) (l.end - l.x) l.x

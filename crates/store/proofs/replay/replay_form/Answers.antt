@@ -9,15 +9,15 @@ use Rattle.store.proofs.replay.replay_form.Goals as goal
 pub apply-requires : goal.apply-requires
 apply-requires c =
     let a = c.args in
-    (c.requires.map_len.0, c.requires.map_len.2, (page_most a.image.now a.g c.requires.image_value.0 c.requires.image_value.1).1, rw c.event_form_at-form.ensures (range_right_lem a.image.now a.g))
+    ((page_most a.image.now a.g c.requires.0 c.requires.1).1, rw c.event_form_at-form.ensures (range_right_lem a.image.now a.g))
 
 pub spend-requires : goal.spend-requires
 spend-requires c =
-    (c.requires.map_len.1, rw c.event_form_at-form.ensures (range_right_lem c.args.image.now c.args.g))
+    rw c.event_form_at-form.ensures (range_right_lem c.args.image.now c.args.g)
 
 pub note-requires : goal.note-requires
 note-requires c =
-    (c.requires.map_len.3, (page_most c.args.image.now c.args.g c.requires.image_value.0 c.requires.image_value.1).0)
+    (page_most c.args.image.now c.args.g c.requires.0 c.requires.1).0
 
 pub returns : goal.returns
 returns c =
@@ -27,8 +27,8 @@ returns c =
     let events = c.note in
     let sequence = c.sequence_of-sequence in
     let form = c.event_form_at-form in
-    let most = page_most a.image.now a.g c.requires.image_value.0 c.requires.image_value.1 in
+    let most = page_most a.image.now a.g c.requires.0 c.requires.1 in
     page-passed a.image.now a.covered a.g (pass a.map.now a.letters.now a.scratch.now a.events.now a.highest)
-    (pass places.new.map letters.new.letters places.new.scratch events.new.events c.higher.result)
-    form.result form.ensures (omega (arith, c.requires.map_len.3, most.0)) places.ensures letters.ensures (rw sequence.ensures at events.ensures)
-    (c.higher.ensures ∙ ap (max a.highest) sequence.ensures)
+    (pass places.new.map letters.new.letters places.new.scratch events.new.events c.max.result)
+    form.result form.ensures (omega (arith, most.0)) places.ensures letters.ensures (rw sequence.ensures at events.ensures)
+    (c.max.ensures ∙ ap (max a.highest) sequence.ensures)

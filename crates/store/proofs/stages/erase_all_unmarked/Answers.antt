@@ -1,40 +1,34 @@
--- From one unmarked data block to the next: those before b are erased, and the others stand as they stood.
-use Prim.Native.Nat.{◌-◌, ◌+◌}
+-- The unmarked data blocks before b are erased, and the others stand as they stood.
+use Prim.Native.Nat.{ℕ, ◌<◌}
 use native.Mathlib.Omega.{arith}
-use mathlib.Core.Bool.{◌&&◌}
-use mathlib.Core.Path.{◌≡◌, ◌∙◌}
-use lib.Dec.{eqb}
+use mathlib.Core.Bool.{false, not, ◌&&◌, and-false}
+use mathlib.Core.Path.{sym, ap, ◌∙◌}
+use Rattle.base.proofs.Choice.{and_intro}
 use lib.ListN.{get_or}
-use Rattle.base.proofs.Searches.{first_bounds}
 use Rattle.image.specs.Size.{blocks}
 use Rattle.store.specs.Kind.{is_data}
-use Rattle.store.proofs.Erasures.{erasing_first, erased_later, erasing_next, erasing_last}
-use Rattle.store.proofs.Unused.{unmarked_agree}
+use Rattle.store.proofs.Erasures.{erasing_past, erasing_next, erasing_last}
+use Rattle.store.proofs.Unused.{data_later}
 use Rattle.store.proofs.stages.erase_all_unmarked.Goals as goal
-
-pub loop-b-init : goal.loop-b-init
-loop-b-init c = erasing_first _ _ _ _ _ c.next_unused-b.ensures
-
-pub loop-b-smaller : goal.loop-b-smaller
-loop-b-smaller c =
-    let l = c.loop-b in
-    let a = c.args in
-    let i = c.erase_block-q.new.image in
-    omega (arith, (first_bounds (λ b. eqb (get_or a.marked.now b 0) 0 && is_data i a.numbers b) (blocks i - (l.b + 1)) (l.b + 1)).0)
+use Rattle.store.proofs.stages.erase_all_unmarked.Goals.{then-not-marked-b+then-is_data, else-not-marked-b, else-not-marked-b-via-then-not-marked-b+else-is_data, else-not-marked-b-via-else-not-marked-b}
 
 pub loop-b-preserved : goal.loop-b-preserved
 loop-b-preserved c =
-    let l = c.loop-b in
-    let w = c.erase_block-q in
     let a = c.args in
+    let l = c.loop-b in
     let n = blocks a.image.now in
-    let later = erased_later (λ b. eqb (get_or a.marked.now b 0) 0 && is_data a.image.now a.numbers b) n a.image.now a.p l.image w.new.image l.q w.result l.b l.invariant (omega arith) (omega arith) w.ensures in
-    let same : blocks w.new.image ≡ n = omega (arith, w.auto.image, l.invariant.size) in
-    erasing_next _ n a.image.now a.p l.image w.new.image l.q w.result l.b l.invariant (omega arith) (omega arith) w.ensures _
-    (c.next_unused-b-in-loop-b.ensures ∙ rw same (unmarked_agree w.new.image a.image.now a.marked.now a.numbers (n - (l.b + 1)) (l.b + 1) later))
-
-pub shape_of-image : goal.shape_of-image
-shape_of-image c = c.loop-b.invariant.size
+    let unused = λ (b : ℕ). not (get_or a.marked.now b false) && is_data a.image.now a.numbers b in
+    let h : l.b < n = omega (arith, c.blocks-b-end.ensures) in
+    let same = data_later l.image a.image.now a.numbers l.b l.invariant.later in
+    elim c.if-not-marked-b.branch [
+      | then-not-marked-b+then-is_data w ↦ rw (w.image-is, w.q-is) (erasing_next unused n a.image.now a.p l.image _ l.q _ l.b l.invariant h (omega arith)
+          (and_intro _ _ (ap not w.if-not-marked-b.true) (sym same ∙ sym w.is_data.ensures ∙ w.if-is_data.true)) w.erase_block-q.ensures)
+      | else-not-marked-b w ↦ rw (w.image-is, w.q-is) (erasing_past unused n a.image.now a.p l.image l.q l.b l.invariant h
+          (elim w.else-not-marked-b.branch [
+            | else-not-marked-b-via-then-not-marked-b+else-is_data v ↦ rw (← same, ← v.is_data.ensures, v.if-is_data.false, and-false)
+            | else-not-marked-b-via-else-not-marked-b v ↦ rw v.if-not-marked-b.false
+          ]))
+    ]
 
 pub returns : goal.returns
-returns c = let l = c.loop-b in erasing_last _ _ _ _ l.image l.q l.b l.invariant (omega arith)
+returns c = let l = c.loop-b in erasing_last _ _ _ _ l.image l.q l.b l.invariant (omega (arith, c.blocks-b-end.ensures))

@@ -7,10 +7,10 @@ use Rattle.store.proofs.stages.erase_unused.Goals as goal
 
 pub erase_all_unmarked-requires : goal.erase_all_unmarked-requires
 erase_all_unmarked-requires c =
-    ((sized c.args.image.now c.requires.0).most, c.mark_live.ensures.0)
+    (sized c.args.image.now c.requires).most
 
 pub returns : goal.returns
 returns c =
     let a = c.args in
     c.erase_all_unmarked.ensures
-    ∙ ap (λ steps. run steps (device a.p a.image.now)) (unmarked_unused a.image.now a.map.now c.mark_live.new.marked a.numbers c.requires.0 c.mark_live.ensures.1)
+    ∙ ap (λ steps. run steps (device a.p a.image.now)) (unmarked_unused a.image.now a.map.now c.mark_live.new.marked a.numbers c.requires c.mark_live.ensures)

@@ -1,12 +1,9 @@
 -- The search goes up to the first spare block.
-use Prim.Native.Nat.{◌≤◌, ◌-◌}
+use Prim.Native.Nat.{◌-◌}
 use mathlib.Core.Path.{◌≡◌}
 use Rattle.base.specs.Search.{first_from}
 use Rattle.store.specs.Stages.{is_spare, lowest_spare}
 use Rattle.store.proofs.stages.lowest_spare.Given as goal
 
 abbrev pub invariant-loop-b : goal.invariant-loop-b
-invariant-loop-b l = (l.b ≤ l.n) × (lowest_spare l.image l.first l.numbers ≡ first_from (is_spare l.image l.first l.numbers) (l.n - l.b) l.b)
-
-abbrev pub decreases-loop-b : goal.decreases-loop-b
-decreases-loop-b l = l.n - l.b
+invariant-loop-b l = lowest_spare l.image l.first l.numbers ≡ first_from (is_spare l.image l.first l.numbers) (l.n - l.b) l.b

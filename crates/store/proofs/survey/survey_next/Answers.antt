@@ -10,7 +10,7 @@ returns c =
       c.covered_next.ensures,
       c.better-2.ensures,
       c.better-3.ensures,
-      c.larger.ensures,
+      c.max.ensures,
       c.commit_epoch.ensures,
       c.keys_epoch.ensures,
       c.keys_epoch-2.ensures,

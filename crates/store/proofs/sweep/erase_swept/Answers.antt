@@ -6,7 +6,7 @@ use Rattle.store.proofs.sweep.erase_swept.Goals as goal
 
 pub erase_unmarked-requires : goal.erase_unmarked-requires
 erase_unmarked-requires c =
-    (c.requires.few, c.requires.events_full, c.mark_live.ensures.0)
+    c.requires.few
 
 pub returns : goal.returns
 returns c =
@@ -14,4 +14,4 @@ returns c =
     let live = c.mark_live in
     c.erase_unmarked.ensures
     ∙ ap (λ steps. run steps (device a.p a.image.now))
-    (unmarked_swept a.image.now a.map.now a.events.now live.new.marked a.numbers c.requires live.ensures.1)
+    (unmarked_swept a.image.now a.map.now a.events.now live.new.marked a.numbers c.requires live.ensures)

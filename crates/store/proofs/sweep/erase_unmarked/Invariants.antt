@@ -1,5 +1,4 @@
--- From one such block to the next: those before b are erased.
-use Prim.Native.Nat.{◌-◌}
+-- Those before b are erased.
 use Rattle.image.specs.Size.{blocks}
 use Rattle.store.specs.Rebuild.{is_unmarked}
 use Rattle.store.proofs.Erasures.{Erasing}
@@ -7,6 +6,3 @@ use Rattle.store.proofs.sweep.erase_unmarked.Given as goal
 
 abbrev pub invariant-loop-b : goal.invariant-loop-b
 invariant-loop-b l = Erasing (is_unmarked l.events l.lives l.numbers) (blocks l.initial.image) l.initial.image l.initial.q l.image l.q l.b
-
-abbrev pub decreases-loop-b : goal.decreases-loop-b
-decreases-loop-b l = l.n - l.b

@@ -29,9 +29,8 @@ set_place-requires c =
     let a = c.args in
     let r = record_of a.map.now a.letters.now a.numbers in
     let w = writable a.image.now r a.file a.offset a.payload.now a.p a.g c.requires.write_taken c.requires.p_value.0 c.requires.p_value.1 in
-    let b = c.requires.write_taken.ready.buffers in
     let x = c.place_at.ensures.1 in
-    record { map_len = (b.map_full, b.letters_full, x, key_below a.image.now r c.requires.write_taken.ready c.place_at.result x); g_lt_none = (w.number, w.position) }
+    record { x_lt_places = (x, key_below a.image.now r c.requires.write_taken.ready c.place_at.result x); g_lt_none = (w.number, w.position) }
 
 pub returns : goal.returns
 returns c =

@@ -80,14 +80,9 @@ fn second_of(state: State) -> u8
 fn opened(r: Registers) -> Registers
     ensures { result ≡ opened_set r }
 {
-    let page = r.page;
     Registers {
         state: State::Output,
-        cycles: r.cycles,
-        column: r.column,
-        row: r.row,
-        page,
-        failed: r.failed,
+        ..r
     }
 }
 
@@ -156,34 +151,18 @@ fn commanded(x: u8, r: Registers, image: &mut [u8]) -> Registers
     performed(state, r, image)
 }
 
-// What an address cycle weighs for the column, by how many came before it.
-fn column_weight(cycles: u32) -> u32
-    ensures { (result ≡ column_weight cycles) × (result ≤ 256) }
+// What an address cycle weighs for column and row, by how many came before it: two of the column, then three of the row.
+fn weights(cycles: u32) -> (u32, u32)
+    ensures { (result ≡ (column_weight cycles, row_weight cycles)) × (column_weight cycles ≤ 256) × (row_weight cycles ≤ 65536) }
 {
-    if cycles == 0 {
-        return 1;
+    match cycles {
+        0 => (1, 0),
+        1 => (256, 0),
+        2 => (0, 1),
+        3 => (0, 256),
+        4 => (0, 65536),
+        _ => (0, 0),
     }
-    if cycles == 1 {
-        return 256;
-    }
-    0
-}
-
-// The same for the row.
-// Stays (2): a column ends after two cycles and a row after three, so neither is the other one moved.
-fn row_weight(cycles: u32) -> u32
-    ensures { (result ≡ row_weight cycles) × (result ≤ 65536) }
-{
-    if cycles == 2 {
-        return 1;
-    }
-    if cycles == 3 {
-        return 256;
-    }
-    if cycles == 4 {
-        return 65536;
-    }
-    0
 }
 
 // The registers with one address cycle more.
@@ -191,16 +170,13 @@ fn addressed(x: u8, r: Registers) -> Registers
     requires { (r.cycles < 5) × (r.column < 65536) × (r.row < 65536) }
     ensures { result ≡ addressed_set x r }
 {
-    let state = r.state;
-    let page = r.page;
     let n = x as u32;
+    let (of_column, of_row) = weights(r.cycles);
     Registers {
-        state,
         cycles: r.cycles + 1,
-        column: r.column + n * column_weight(r.cycles),
-        row: r.row + n * row_weight(r.cycles),
-        page,
-        failed: r.failed,
+        column: r.column + n * of_column,
+        row: r.row + n * of_row,
+        ..r
     }
 }
 
@@ -254,12 +230,9 @@ fn loaded(x: u8, r: Registers) -> Registers
     let at = r.column as usize;
     page[at] = x;
     Registers {
-        state,
-        cycles: r.cycles,
         column: r.column + 1,
-        row: r.row,
         page,
-        failed: r.failed,
+        ..r
     }
 }
 
@@ -317,17 +290,11 @@ fn next_byte(r: Registers, image: &[u8]) -> Got
             reply: Ok(()),
         };
     }
-    let state = r.state;
-    let page = r.page;
     let at = r.row as usize * Frame::PAGE + r.column as usize;
     let byte = image[at];
     let registers = Registers {
-        state,
-        cycles: r.cycles,
         column: r.column + 1,
-        row: r.row,
-        page,
-        failed: r.failed,
+        ..r
     };
     Got {
         registers,

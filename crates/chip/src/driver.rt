@@ -1,7 +1,6 @@
 // The driver: the cycles of a step of the flash, one by one, and a run of them against the chip.
 ghost use Rattle.std.specs.Prelude.{◌≡◌, ◌<◌, ℕ, List, length};
 ghost use Rattle.chip.specs.declared.Cycle.{Cycle as SentCycle};
-ghost use Rattle.chip.specs.Cycle.{command as command_cycle, address as address_cycle, data_byte};
 ghost use Rattle.chip.specs.Bus.{chip};
 ghost use Rattle.chip.specs.Reply.{number_of};
 ghost use Rattle.chip.specs.Driver.{
@@ -17,7 +16,7 @@ ghost use Rattle.chip.specs.Driver.{
   drove_erase,
 };
 
-use crate::{Cycle, Error, Mark, Registers, Sent, bus};
+use crate::{Cycle, Error, Registers, Sent, bus};
 use page::Frame;
 
 // The highest page and block that any image has.
@@ -25,89 +24,50 @@ pub const LAST_PAGE: u32 = 4095;
 
 pub const LAST_BLOCK: u32 = 255;
 
-fn command(byte: u8) -> Cycle
-    ensures { result ≡ command_cycle byte }
-{
-    Cycle {
-        mark: Mark::Command,
-        byte,
-    }
-}
-
-fn address(byte: u8) -> Cycle
-    ensures { result ≡ address_cycle byte }
-{
-    Cycle {
-        mark: Mark::Address,
-        byte,
-    }
-}
-
-fn data_byte(byte: u8) -> Cycle
-    ensures { result ≡ data_byte byte }
-{
-    Cycle {
-        mark: Mark::Data,
-        byte,
-    }
-}
-
 // Cycle i of a row: its three bytes, low byte first.
 fn row_cycle(row: u32, i: usize) -> Cycle
     ensures { result ≡ row_cycle row i }
 {
-    if i == 0 {
-        return address((row % 256) as u8);
+    let [low, middle, high, _] = row.to_le_bytes();
+    match i {
+        0 => Cycle::address(low),
+        1 => Cycle::address(middle),
+        _ => Cycle::address(high),
     }
-    if i == 1 {
-        return address((row / 256 % 256) as u8);
-    }
-    address((row / 65536 % 256) as u8)
 }
 
 // Cycle i of the program of page g with these bytes; behind the last, the status again.
 pub fn program_cycle(g: u32, page: &[u8], i: usize) -> Cycle
     ensures { result ≡ cycle_at (program_cycles g page.now) i }
 {
-    if i == 0 {
-        return command(bus::RESET);
-    }
-    if i == 1 {
-        return command(bus::PROGRAM_FIRST);
-    }
-    if i < 4 {
-        return address(0);
-    }
-    if i < 7 {
-        return row_cycle(g, i - 4);
+    match i {
+        0 => return Cycle::command(bus::RESET),
+        1 => return Cycle::command(bus::PROGRAM_FIRST),
+        2 | 3 => return Cycle::address(0),
+        4..=6 => return row_cycle(g, i - 4),
+        _ => {}
     }
     let at = i - 7;
     if at < page.len() {
-        return data_byte(page[at]);
+        return Cycle::data(page[at]);
     }
     if at == page.len() {
-        return command(bus::PROGRAM_SECOND);
+        return Cycle::command(bus::PROGRAM_SECOND);
     }
-    command(bus::READ_STATUS)
+    Cycle::command(bus::READ_STATUS)
 }
 
 // Cycle i of the erase of block b; behind the last, the status again.
 pub fn erase_cycle(b: u32, i: usize) -> Cycle
     ensures { result ≡ cycle_at (erase_cycles b) i }
 {
-    if i == 0 {
-        return command(bus::RESET);
+    match i {
+        0 => Cycle::command(bus::RESET),
+        1 => Cycle::command(bus::ERASE_FIRST),
+        2..=4 => row_cycle(b % 1048576 * 16, i - 2),
+        5 => Cycle::command(bus::ERASE_SECOND),
+        _ => Cycle::command(bus::READ_STATUS),
     }
-    if i == 1 {
-        return command(bus::ERASE_FIRST);
-    }
-    if i < 5 {
-        return row_cycle(b % 1048576 * 16, i - 2);
-    }
-    if i == 5 {
-        return command(bus::ERASE_SECOND);
-    }
-    command(bus::READ_STATUS)
 }
 
 // The reply to a step by the status byte: bit 0 says failed.

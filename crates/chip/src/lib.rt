@@ -1,6 +1,9 @@
 // The flash chip of document 02, #109: its side of the bus as a model, and the driver that sends it the steps of the flash.
 #![tactic(auto)]
 
+ghost use Rattle.std.specs.Prelude.{◌≡◌};
+ghost use Rattle.chip.specs.Cycle.{command, address, data_byte};
+
 pub mod bus;
 pub mod driver;
 pub mod numbers;
@@ -19,6 +22,35 @@ pub enum Mark {
 pub struct Cycle {
     pub mark: Mark,
     pub byte: u8,
+}
+
+impl Cycle {
+    pub(crate) fn command(byte: u8) -> Cycle
+        ensures { result ≡ command byte }
+    {
+        Cycle {
+            mark: Mark::Command,
+            byte,
+        }
+    }
+
+    pub(crate) fn address(byte: u8) -> Cycle
+        ensures { result ≡ address byte }
+    {
+        Cycle {
+            mark: Mark::Address,
+            byte,
+        }
+    }
+
+    pub(crate) fn data(byte: u8) -> Cycle
+        ensures { result ≡ data_byte byte }
+    {
+        Cycle {
+            mark: Mark::Data,
+            byte,
+        }
+    }
 }
 
 // What the chip does: nothing, with nothing or the status or a page to read; or a command up to its last byte.

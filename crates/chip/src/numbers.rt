@@ -10,7 +10,7 @@ ghost use Rattle.chip.specs.Numbers.{
   pair_of,
 };
 
-use crate::{Cycle, Error, Mark, Registers, State};
+use crate::{Cycle, Error, Registers, State};
 
 // How many states there are, and more address cycles than any set has.
 // Stays (1): the C interface takes any five numbers as a set, and any number as a mark; one that is none counts as failed,
@@ -26,22 +26,14 @@ const NO_COMMAND: u8 = 0x01;
 fn state_of(s: u32) -> State
     ensures { result ≡ state_of s }
 {
-    if s == 1 {
-        return State::Status;
+    match s {
+        1 => State::Status,
+        2 => State::Output,
+        3 => State::Read,
+        4 => State::Program,
+        5 => State::Erase,
+        _ => State::Idle,
     }
-    if s == 2 {
-        return State::Output;
-    }
-    if s == 3 {
-        return State::Read;
-    }
-    if s == 4 {
-        return State::Program;
-    }
-    if s == 5 {
-        return State::Erase;
-    }
-    State::Idle
 }
 
 // The address cycles of a set, more than any has where its state or failed is no such number.
@@ -82,27 +74,11 @@ pub fn five_of(r: Registers) -> [u32; 5]
 pub fn cycle_of(mark: u32, byte: u8) -> Cycle
     ensures { result ≡ cycle_of mark byte }
 {
-    if mark == 0 {
-        return Cycle {
-            mark: Mark::Command,
-            byte,
-        };
-    }
-    if mark == 1 {
-        return Cycle {
-            mark: Mark::Address,
-            byte,
-        };
-    }
-    if mark == 2 {
-        return Cycle {
-            mark: Mark::Data,
-            byte,
-        };
-    }
-    Cycle {
-        mark: Mark::Command,
-        byte: NO_COMMAND,
+    match mark {
+        0 => Cycle::command(byte),
+        1 => Cycle::address(byte),
+        2 => Cycle::data(byte),
+        _ => Cycle::command(NO_COMMAND),
     }
 }
 

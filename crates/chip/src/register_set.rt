@@ -43,12 +43,8 @@ pub(crate) fn begun(state: State, cycles: u32) -> Registers
     ensures { result ≡ begun_set state cycles }
 {
     Registers {
-        state,
         cycles,
-        column: 0,
-        row: 0,
-        page: [Frame::ERASED; 256],
-        failed: false,
+        ..resting(state, false)
     }
 }
 
@@ -88,13 +84,11 @@ fn columns_of(state: State) -> u32
 fn limit(cycles: u32) -> u32
     ensures { result ≡ column_limit cycles }
 {
-    if cycles == 0 {
-        return 1;
+    match cycles {
+        0 => 1,
+        1 => 256,
+        _ => 65536,
     }
-    if cycles == 1 {
-        return 256;
-    }
-    65536
 }
 
 // Whether column and row are what so many cycles give, and inside page and image once the address is whole.

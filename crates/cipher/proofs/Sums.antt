@@ -111,3 +111,12 @@ pub xor_append : (q k m : List ℕ) → xor_bytes q (k ++ m) ≡ take (length k)
 xor_append q [] m = ap (λ (l : List ℕ). xor_bytes l m) (sym (xor_nil q))
 xor_append [] (b ∷ k) m = refl
 xor_append (a ∷ q) (b ∷ k) m = ap (λ (l : List ℕ). (a ⊕ b) ∷ l) (xor_append q k m)
+
+-- a sum with the front of a list alone, which is as long as one of the two
+pub xor_front : (n : ℕ) (q k : List ℕ) → n ≤ length q → n ≤ length k → (n < length q → n ≡ length k) → xor_bytes (take n q) k ++ drop n q ≡ xor_bytes q k
+xor_front zero q [] h g f = sym (xor_nil q)
+xor_front zero [] (b ∷ k) h g f = refl
+xor_front zero (a ∷ q) (b ∷ k) h g f = absurd (omega (arith, f (omega arith)))
+xor_front (suc n) [] k h g f = absurd (omega arith)
+xor_front (suc n) (a ∷ q) [] h g f = absurd (omega arith)
+xor_front (suc n) (a ∷ q) (b ∷ k) h g f = ap (λ (l : List ℕ). (a ⊕ b) ∷ l) (xor_front n q k (omega arith) (omega arith) (λ l. omega (arith, f (omega arith))))

@@ -22,11 +22,12 @@ fn sub_rot_word(x: u32) -> u32
     ensures { little_endian result ≡ sub_word (rot_word (little_endian x)) }
 {
     let sbox = tables::of_s_box();
+    let [a, b, c, d] = x.to_le_bytes();
     from_le_bytes(
-        sbox[(x / 0x100 % 0x100) as usize],
-        sbox[(x / 0x10000 % 0x100) as usize],
-        sbox[(x / 0x1000000 % 0x100) as usize],
-        sbox[(x % 0x100) as usize],
+        sbox[b as usize],
+        sbox[c as usize],
+        sbox[d as usize],
+        sbox[a as usize],
     )
 }
 
@@ -45,14 +46,11 @@ fn next_round_key(k: Columns, constant: u8) -> Columns
 }
 
 // Puts a block at the front of q.
-// Stays (3): with copy_from_slice the expansion of a key takes half as many instructions again.
 fn put_block(q: &mut [u8], block: [u8; 16])
     requires { 16 ≤ length q.old }
     ensures { q.new ≡ block ++ drop 16 q.old }
 {
-    for (j, b) in block.iter().enumerate() {
-        q[j] = *b;
-    }
+    *q.first_chunk_mut().unwrap() = block;
 }
 
 // The eleven round keys of a key.

@@ -9,7 +9,7 @@ ghost use Rattle.cipher.specs.State.{state};
 
 use crate::columns::{Columns, add};
 use crate::tables::{self, ENTRY_SIZE};
-use crate::words::from_le_bytes;
+use crate::words::{from_le_bytes, word_at};
 
 // The rounds. All but the last are alike; the last has no MixColumns.
 pub(crate) const ROUNDS: usize = 10;
@@ -23,22 +23,14 @@ pub(crate) struct States {
     pub(crate) second: Columns,
 }
 
-// Four bytes of the round table.
-fn table_word(at: usize) -> u32
-    requires { at + 4 ≤ 2048 }
-    ensures { little_endian result ≡ part round_table at 4 }
-{
-    let table = tables::of_rounds();
-    from_le_bytes(table[at], table[at + 1], table[at + 2], table[at + 3])
-}
-
 // SubBytes and MixColumns of one row of x alone, by the round table.
 pub(crate) fn mix_row<const ROW: usize>(x: u32) -> u32
     requires { ROW < 4 }
     ensures { little_endian result ≡ row ROW (s_box (byte ROW x)) }
 {
     let byte = (x >> (8 * ROW)) % 0x100;
-    table_word(ENTRY_SIZE * (byte as usize) + (4 - ROW))
+    let at = ENTRY_SIZE * (byte as usize) + (4 - ROW);
+    word_at(tables::of_rounds(), at)
 }
 
 // SubBytes and MixColumns of row 0 of a, row 1 of b, row 2 of c and row 3 of d.
@@ -64,15 +56,21 @@ fn sub_rows(a: u32, b: u32, c: u32, d: u32) -> u32
     ensures { little_endian result ≡ four (s_box (byte0 a)) (s_box (byte1 b)) (s_box (byte2 c)) (s_box (byte3 d)) }
 {
     let table = tables::of_rounds();
+    let [a0, _, _, _] = a.to_le_bytes();
+    let [_, b1, _, _] = b.to_le_bytes();
+    let [_, _, c2, _] = c.to_le_bytes();
+    let [_, _, _, d3] = d.to_le_bytes();
     from_le_bytes(
-        table[ENTRY_SIZE * ((a % 0x100) as usize) + 1],
-        table[ENTRY_SIZE * ((b / 0x100 % 0x100) as usize) + 1],
-        table[ENTRY_SIZE * ((c / 0x10000 % 0x100) as usize) + 1],
-        table[ENTRY_SIZE * ((d / 0x1000000 % 0x100) as usize) + 1],
+        table[ENTRY_SIZE * (a0 as usize) + 1],
+        table[ENTRY_SIZE * (b1 as usize) + 1],
+        table[ENTRY_SIZE * (c2 as usize) + 1],
+        table[ENTRY_SIZE * (d3 as usize) + 1],
     )
 }
 
 // SubBytes and ShiftRows.
+// Stays (2): one function over a closure would have to say of each column what the closure gave, which is longer than these
+// lines.
 fn sub_shift(s: Columns) -> Columns
     ensures { state result ≡ shift_rows (sub_bytes (state s)) }
 {
@@ -88,8 +86,7 @@ fn key_word(w: &[u8; 176], i: usize) -> u32
     requires { i < Nb * (Nr + 1) }
     ensures { little_endian result ≡ word w.now i }
 {
-    let at = 4 * i;
-    from_le_bytes(w[at], w[at + 1], w[at + 2], w[at + 3])
+    word_at(w, 4 * i)
 }
 
 // The key of a round.
@@ -121,8 +118,8 @@ fn last_round(w: &[u8; 176], s: Columns) -> Columns
 }
 
 // The encipherments of two blocks whose states after done rounds are start.
-// Stays (2): over an array of one state or two each round is a loop over them, whose laws speak of every state of a list.
-// That is longer than the three lines that stand here once for each state.
+// Stays (2): by one function that is called for each state in turn a stream takes a third more time, though a small
+// read has a tenth fewer instructions. Over an array of states each round is a loop, whose laws speak of every state of a list.
 pub(crate) fn finish_both(w: &[u8; 176], start: States, done: usize) -> States
     requires { done < Nr }
     ensures { ((input : List ℕ) → state start.first ≡ rounds w.now done (add_round_key w.now 0 input)

@@ -22,13 +22,12 @@ fn output_blocks(w: &[u8; 176], cache: Cache, n: u64) -> States
 }
 
 // Adds to q as much of a block as q is long.
-// Stays (3): with zip over iter_mut the proof did not close, since nothing is known of q's bytes once that borrow has ended.
 fn add_block(q: &mut [u8], block: [u8; 16])
     ensures { q.new ≡ xor_bytes q.old block }
 {
     let n = q.len().min(BLOCK);
-    for j in 0..n {
-        q[j] ^= block[j];
+    for (j, x) in q[..n].iter_mut().enumerate() {
+        *x ^= block[j];
     }
 }
 

@@ -1,5 +1,5 @@
 // C entry points into the crate `page`.
-ghost use Rattle.std.specs.Prelude.{◌≡◌, ◌<◌, length, get_or};
+ghost use Rattle.std.specs.Prelude.{◌≡◌, cond, ltb, get_or, Some, None};
 ghost use Rattle.harness.specs.Answer.{answer};
 ghost use Rattle.harness.specs.Page.{fields_in_frame, fields_of, frame_of, byte_range, form_answer, header_answer, entry_answer, write_entry_answer, cut_off_answer, commit_page_answer, commit_valid_reply};
 
@@ -14,11 +14,6 @@ const FIELDS_IN_FRAME: usize = 6;
 
 // An entry names two numbers.
 const FIELDS_IN_ENTRY: usize = 2;
-
-// Bytes are below 256, the numbers of a map below 65,536.
-const BYTE_RANGE: u32 = 256;
-
-const MAP_RANGE: u32 = 65_536;
 
 // A commit has 10 parts.
 const PARTS: u32 = entries::PARTS as u32;
@@ -41,11 +36,6 @@ const VACANT: u32 = 1;
 
 const MISSPELT: u32 = 2;
 
-// The replies of a test.
-const NO: u32 = 0;
-
-const YES: u32 = 1;
-
 // Sets six numbers to the fields of a header.
 fn put_fields(dst: &mut [u32; FIELDS_IN_FRAME], f: Frame)
     ensures { dst.new ≡ fields_of f }
@@ -53,19 +43,19 @@ fn put_fields(dst: &mut [u32; FIELDS_IN_FRAME], f: Frame)
     *dst = [f.kind as u32, f.number, f.unit, f.part, f.key, f.second];
 }
 
-// The header of six fields, of which the first is a byte.
-fn frame_of(fields: &[u32; FIELDS_IN_FRAME]) -> Frame
-    requires { get_or fields.now 0 0 < byte_range }
-    ensures { result ≡ frame_of fields.now }
+// The header of six fields, where the first is a byte.
+fn frame_of(fields: &[u32; FIELDS_IN_FRAME]) -> Option<Frame>
+    ensures { result ≡ cond (ltb (get_or fields.now 0 0) byte_range) (Some (frame_of fields.now)) None }
 {
-    Frame {
-        kind: fields[0] as u8,
+    let kind = u8::try_from(fields[0]).ok()?;
+    Some(Frame {
+        kind,
         number: fields[1],
         unit: fields[2],
         part: fields[3],
         key: fields[4],
         second: fields[5],
-    }
+    })
 }
 
 // The form of a page of 256 bytes: 0 empty, 1 whole, 2 torn, 3 spoilt. The fields of a whole or torn page's header go
@@ -107,10 +97,9 @@ pub extern "C" fn harness_header(fields: &[u32], header: &mut [u8]) -> u32
     let Some(header) = header.as_mut_array::<{ Frame::HEADER }>() else {
         return REFUSED;
     };
-    if BYTE_RANGE <= fields[0] {
+    let Some(f) = frame_of(fields) else {
         return OUT_OF_RANGE;
-    }
-    let f = frame_of(fields);
+    };
     if !headers::in_range(f) {
         return OUT_OF_RANGE;
     }
@@ -146,16 +135,16 @@ pub extern "C" fn harness_entry(entry: &[u8], fields: &mut [u32]) -> u32
 pub extern "C" fn harness_write_entry(page: u32, key: u32, entry: &mut [u8]) -> u32
     ensures { answer result entry.new ≡ write_entry_answer page key entry.old }
 {
-    if MAP_RANGE <= page {
+    let Ok(page) = u16::try_from(page) else {
         return REFUSED;
-    }
-    if MAP_RANGE <= key {
+    };
+    let Ok(key) = u16::try_from(key) else {
         return REFUSED;
-    }
+    };
     let Some(entry) = entry.as_mut_array::<ENTRY_SIZE>() else {
         return REFUSED;
     };
-    entries::write_entry(entry, page as u16, key as u16);
+    entries::write_entry(entry, page, key);
     DONE
 }
 
@@ -224,8 +213,5 @@ pub extern "C" fn harness_commit_valid(payload: &[u8], part: u32) -> u32
     if PARTS <= part {
         return REFUSED;
     }
-    if entries::valid_payload(payload, part as usize) {
-        return YES;
-    }
-    NO
+    entries::valid_payload(payload, part as usize) as u32
 }

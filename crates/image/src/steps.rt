@@ -30,16 +30,12 @@ fn after_step(p: Power) -> Power
     ensures { result ≡ less_step p }
 {
     if p.steps == 0 {
-        return Power {
-            steps: 0,
-            bytes: p.bytes,
-            on: false,
-        };
+        return Power { on: false, ..p };
     }
     Power {
         steps: p.steps - 1,
-        bytes: p.bytes,
         on: true,
+        ..p
     }
 }
 
@@ -118,7 +114,7 @@ pub(crate) fn program_like(
     payload: &Payload,
     p: Power,
 ) -> Power
-    requires { (g * page_size + page_size ≤ length image.old) × (part < 10_000) }
+    requires { g * page_size + page_size ≤ length image.old }
     ensures { device result image.new
         ≡ act (program g (page_like header.now part payload.now)) (device p image.old) }
 {

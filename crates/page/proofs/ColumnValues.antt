@@ -1,11 +1,11 @@
 -- Laws of eight columns as one word: by few operations on the word, the number that they hold.
-use Prim.Native.Nat.{ℕ, ◌+◌, ◌*◌, ◌/◌, ◌%◌, ◌<◌, ◌≤◌}
+use Prim.Native.Nat.{ℕ, ◌+◌, ◌-◌, ◌*◌, ◌/◌, ◌%◌, ◌<◌, ◌≤◌}
 use native.Mathlib.Omega.{arith}
 use mathlib.Core.Path.{◌≡◌, refl, sym, ap, ◌∙◌}
 use mathlib.Core.List.{List, [], ◌∷◌, ◌++◌}
 use mathlib.Core.Bool.{true, false}
 use lib.Bits.{bit_and, and_le_r, and_mask}
-use lib.ListN.{length, get_or}
+use lib.ListN.{length, get_or, replicate}
 use lib.Dec.{leb}
 use borrow.Author.Tests.{leb-false}
 use Rattle.base.specs.Part.{part}
@@ -16,7 +16,7 @@ use Rattle.std.specs.Prelude.{Option, Some, None}
 use Rattle.page.specs.Word.{word_bytes}
 use Rattle.page.proofs.Column.{digit_lt, digit_of_digit, number_is, each_read, value_lt}
 use Rattle.page.proofs.Counted.{counted, read_from_one, number_space, number_spaces}
-use Rattle.page.proofs.WordLaws.{word_is, part_three, part-four}
+use Rattle.page.proofs.WordLaws.{word_is, part_three}
 use Rattle.page.proofs.Lanes.{lanes, mask_lanes, lanes_same, word_lanes, bytes_word}
 
 -- two numbers in each lane are joined to one: digits to pairs of them, pairs to fours
@@ -191,16 +191,10 @@ number_none v h z t = go (number_in (word_bytes 8 v)) refl t
         absurd (z (word_is 8 v spelt_zero h (omega arith) (number_is (word_bytes 8 v) n e ∙ rw none (zero_spelt v))))
     go None e t = refl
 
--- ---- fewer columns are eight with spaces before them
--- a word v whose lower half is spaces and whose upper half, w, is four columns of a list, or a space and three columns
-module _ (xs : List ℕ) (at v w : ℕ) (e : word_bytes 8 v ≡ word_bytes 4 0x20202020 ++ word_bytes 4 w) where
-  pub number_four : at + 4 ≤ length xs → word_bytes 4 w ≡ part xs at 4 → number_in (word_bytes 8 v) ≡ number_in (part xs at 4)
-  unfolding word_bytes
-  number_four h f = rw (e, f, part-four xs at h) (number_spaces 4 (get_or xs at 0) (get_or xs (at + 1) 0 ∷ get_or xs (at + 2) 0 ∷ get_or xs (at + 3) 0 ∷ []))
-
-  pub number_three : at + 3 ≤ length xs → word_bytes 4 w ≡ space ∷ get_or xs at 0 ∷ get_or xs (at + 1) 0 ∷ get_or xs (at + 2) 0 ∷ [] → number_in (word_bytes 8 v) ≡ number_in (part xs at 3)
-  unfolding word_bytes
-  number_three h f = rw (e, f, part_three xs at h) (number_spaces 5 (get_or xs at 0) (get_or xs (at + 1) 0 ∷ get_or xs (at + 2) 0 ∷ []))
+-- ---- fewer columns than eight, with spaces before them
+pub number_short : (n : ℕ) (xs ys : List ℕ) → 1 ≤ n → length ys ≡ n → xs ≡ replicate (8 - n) space ++ ys → number_in xs ≡ number_in ys
+number_short n xs [] h l e = absurd (omega arith)
+number_short n xs (y ∷ ys) h l e = rw e (number_spaces (8 - n) y ys)
 
 -- ---- two numbers in words of four columns
 -- of the first only three columns are of a list, with a space before them

@@ -6,7 +6,7 @@ use native.Mathlib.Decide.{dec_lt}
 use mathlib.Core.Path.{◌≡◌, refl, sym, ap, ◌∙◌}
 use mathlib.Core.Logic.{◌⊎◌, ⊎_elim}
 use mathlib.Core.Bool.{Bool, true, false, cond, ◌&&◌}
-use mathlib.Core.List.{List, [], ◌++◌, append_assoc, append-nil}
+use mathlib.Core.List.{List, ◌++◌, append_assoc, append-nil}
 use lib.ListN.{length, take, drop, get_or, length-append}
 use lib.Seq.{drop-drop}
 use lib.Dec.{eqb, leb}
@@ -165,19 +165,6 @@ module _ (map : List ℕ) where
       rw k
       (part_past (entry_for map x) (entries_from map n (suc x)) entry_size (entry_size * j) entry_size (entry_length (get_or map x none) (get_or map (places + x) none))
       ∙ part-entries n (suc x) j (omega arith) ∙ ap (entry_for map) m)
-
--- one more entry written, after those before it
--- entries of places without a page are vacant
-unfoldable pub vacants : ℕ → List ℕ
-vacants zero = []
-vacants (suc n) = vacant_entry ++ vacants n
-
-pub entries-vacant : (map : List ℕ) (n x : ℕ) → all_from (λ i. eqb (get_or map i none) none) n x ≡ true → entries_from map n x ≡ vacants n
-unfolding entries_from entry_bytes all_from vacants
-entries-vacant map zero x h = refl
-entries-vacant map (suc n) x h =
-    let a = and-true (eqb (get_or map x none) none) _ h in
-    rw (a.0, entries-vacant map n (suc x) a.1)
 
 -- n entries more are written
 pub write_next : (map dst dst₀ front rest ys : List ℕ) (n j x : ℕ) → dst ≡ entries_from map j x ++ drop (entry_size * j) dst₀

@@ -17,6 +17,7 @@ use Rattle.page.specs.Column.{spell, number_in, number_then, pair_in}
 use Rattle.page.specs.Word.{word_bytes}
 use Rattle.page.specs.Header.{in_range, header_bytes, is_kind, is_event_letter, header_of}
 use Rattle.std.specs.Prelude.{Option, Some, None}
+use Rattle.std.specs.Bool.{then_some}
 use Rattle.page.specs.declared.Frame.{Frame}
 use Rattle.page.proofs.Slices.{part_front, part_past, part_back}
 use Rattle.page.proofs.Column.{length-spell, number_spell, number_part, pair_then, pair_then_lem, bytes-spell}
@@ -24,6 +25,11 @@ use Rattle.page.proofs.Counted.{number_spaces}
 use Rattle.page.proofs.Spellings.{high_spaces}
 use Rattle.page.proofs.WordLaws.{part-four, part_join}
 use Rattle.page.proofs.Ranges.{other_kind, event-second, in_range-fits}
+
+-- ---- an option by a test
+pub then_if : {A : Type 0} (b : Bool) (x : A) → then_some b x ≡ cond b (Some x) None
+then_if true x = refl
+then_if false x = refl
 
 -- ---- lengths
 module _ (f : Frame) where

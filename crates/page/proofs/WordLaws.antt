@@ -10,7 +10,8 @@ use lib.Seq.{drop-cons, drop-drop, take-nil, take_at, drop_at, length-take-le}
 use lib.Dec.{eqb}
 use lib.Bits.{bit_and, mask_lt}
 use borrow.Author.Tests.{eqb-true, eq-eqb}
-use Rattle.std.specs.Int.{w32, w64, to_le_bytes}
+use Rattle.std.specs.Int.{w32, w64, to_le_bytes, from_le_bytes}
+use Rattle.std.proofs.lemmas.Nat.{le_bytes_8}
 use Rattle.base.specs.Part.{part, splice}
 use Rattle.base.specs.Each.{same}
 use Rattle.base.proofs.Choice.{and_assoc, both_ways}
@@ -21,10 +22,6 @@ cons_eq : {x y : ℕ} {xs ys : List ℕ} → x ≡ y → xs ≡ ys → x ∷ xs 
 cons_eq p q = λ i. p i ∷ q i
 
 -- ---- the number of some bytes
-pub two_bytes : (a b : ℕ) → a < 256 → b < 256 → word_bytes 2 (a + b * 0x100) ≡ a ∷ b ∷ []
-unfolding word_bytes
-two_bytes a b g h = cons_eq (omega arith) (cons_eq (omega arith) refl)
-
 pub four_bytes : (a b c d : ℕ) → a < 256 → b < 256 → c < 256 → d < 256 → word_bytes 4 (a + b * 0x100 + c * 0x10000 + d * 0x1000000) ≡ a ∷ b ∷ c ∷ d ∷ []
 unfolding word_bytes
 four_bytes a b c d g h k l = cons_eq (omega arith) (cons_eq (omega arith) (cons_eq (omega arith) (cons_eq (omega arith) refl)))
@@ -37,6 +34,10 @@ four_le_bytes w = cons_eq (omega arith) (cons_eq (omega arith) (cons_eq (omega a
 pub eight_le_bytes : (w : ℕ) → to_le_bytes w64 w ≡ word_bytes 8 w
 unfolding word_bytes
 eight_le_bytes w = cons_eq (omega arith) (cons_eq (omega arith) (cons_eq (omega arith) (cons_eq (omega arith) (cons_eq (omega arith) (cons_eq (omega arith) (cons_eq (omega arith) (cons_eq (omega arith) refl)))))))
+
+-- eight bytes as a number, as the library makes it
+pub bytes_of_eight : (xs : List ℕ) (v : ℕ) → length xs ≡ 8 → ((i : ℕ) → get_or xs i 0 < 256) → v ≡ from_le_bytes w64 xs → word_bytes 8 v ≡ xs
+bytes_of_eight xs v l h e = sym (eight_le_bytes v) ∙ le_bytes_8 xs v l h e
 
 -- the bytes of a number in two parts
 pub bytes_joined : (n m k low high : ℕ) → k ≡ n + m → low < 256 ^ n → word_bytes k (low + high * 256 ^ n) ≡ word_bytes n low ++ word_bytes m high
@@ -78,10 +79,6 @@ words_decide n v w g h =
 module _ (xs : List ℕ) (at : ℕ) where
   next : (i j : ℕ) → j ≡ suc i → i < length xs → drop i xs ≡ get_or xs i 0 ∷ drop j xs
   next i j e h = drop-cons xs i 0 h ∙ rw e
-
-  pub part_two : at + 2 ≤ length xs → part xs at 2 ≡ get_or xs at 0 ∷ get_or xs (at + 1) 0 ∷ []
-  unfolding part
-  part_two h = ap (take 2) (next at (at + 1) (omega arith) (omega arith) ∙ cons_eq refl (next (at + 1) (at + 2) (omega arith) (omega arith)))
 
   pub part_three : at + 3 ≤ length xs → part xs at 3 ≡ get_or xs at 0 ∷ get_or xs (at + 1) 0 ∷ get_or xs (at + 2) 0 ∷ []
   unfolding part

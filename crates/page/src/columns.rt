@@ -86,8 +86,8 @@ fn counted(x: u32, p: u32, c: u32) -> u32
 }
 
 // The same of a longer word.
-// Stays (2): on small machines numbers of 64 bits take twice the work, and a trait of both types would have a body for
-// each of +, -, * and < and a law of it, which is longer than these two functions.
+// Stays (2): numbers have 32 bits but for those from 10,000 on (DECISIONS, "The machine"). A trait of both types would have a
+// body for each of +, -, * and < and a law of it, which is longer than these two functions.
 fn less_long(w: u64, p: u64, c: u64) -> u64
     requires { c ≤ p }
     ensures { result ≡ cond (ltb w p) w (w - p + c) }
@@ -153,7 +153,8 @@ fn spelt_short(n: u32) -> u32
 }
 
 // The same of a number of three or four digits.
-// Stays (2): what makes characters of the digits differs with how many there are, and one digit needs no counting.
+// Stays (2): in one function with spelt_short and spelt4, which stands in line where it is called, a cut-off took 2 to 4 %
+// more instructions, which misses the bar of speed, and a commit on a small image 5 %.
 fn spelt_middle(n: u32) -> u32
     requires { (100 ≤ n) × (n < 10_000) }
     ensures { word_bytes 4 result ≡ spell 4 n }
@@ -214,7 +215,7 @@ fn spelt_long(n: u32) -> u64
 }
 
 // Four columns of any number, as one word: of a longer one its last four digits.
-// Stays (2): by spelt4 it took that one's place in line, and a cut-off took 14 % more instructions.
+// Stays (2): by spelt4 a cut-off took 14 % more instructions, and 2 to 4 % where that one is put in line.
 fn spelt_low(n: u32) -> u32
     ensures { word_bytes 4 result ≡ spell 4 n }
 {
@@ -250,11 +251,12 @@ fn twelve(n: u32) -> [u8; 12]
     columns
 }
 
-// Writes n into the w columns of dst.
-pub(crate) fn put(dst: &mut [u8], w: usize, n: u32)
-    requires { (length dst.old ≡ w) × (1 ≤ w) }
-    ensures { dst.new ≡ spell w n }
+// Writes n into the columns of dst.
+pub(crate) fn put(dst: &mut [u8], n: u32)
+    requires { 1 ≤ length dst.old }
+    ensures { dst.new ≡ spell (length dst.old) n }
 {
+    let w = dst.len();
     let columns = twelve(n);
     if w <= 12 {
         bytes::copy(dst, &columns[12 - w..]);
@@ -269,7 +271,7 @@ pub fn put_at(dst: &mut [u8], at: usize, w: usize, n: u32)
     requires { (at + w ≤ length dst.old) × (1 ≤ w) }
     ensures { dst.new ≡ splice dst.old at (spell w n) }
 {
-    put(&mut dst[at..at + w], w, n);
+    put(&mut dst[at..at + w], n);
 }
 
 // Writes n into the N columns of dst from at on: the last of four, or of eight.
@@ -322,32 +324,14 @@ fn number_of(v: u64) -> Option<u32>
     Some(value_of(v))
 }
 
-// The number that the eight columns of src from at on hold.
-// Stays (2): each width is put together in its own way, so one function over the width would tell three cases apart.
-pub(crate) fn get8(src: &[u8], at: usize) -> Option<u32>
-    requires { at + 8 ≤ length src.now }
-    ensures { result ≡ number_in (part src.now at 8) }
+// The number that the N columns of src from at on hold, as eight columns with spaces before them.
+pub(crate) fn get<const N: usize>(src: &[u8], at: usize) -> Option<u32>
+    requires { (at + N ≤ length src.now) × (1 ≤ N) × (N ≤ 8) }
+    ensures { result ≡ number_in (part src.now at N) }
 {
-    number_of(words::word8(src, at))
-}
-
-// The number that the four columns of src from at on hold, as eight columns with spaces before them.
-pub(crate) fn get4(src: &[u8], at: usize) -> Option<u32>
-    requires { at + 4 ≤ length src.now }
-    ensures { result ≡ number_in (part src.now at 4) }
-{
-    number_of(words::eight(SPACES, words::word4(src, at)))
-}
-
-// The number that the three columns of src from at on hold, in the same way.
-pub(crate) fn get3(src: &[u8], at: usize) -> Option<u32>
-    requires { at + 3 ≤ length src.now }
-    ensures { result ≡ number_in (part src.now at 3) }
-{
-    number_of(words::eight(
-        SPACES,
-        words::four(SPACE, src[at], src[at + 1], src[at + 2]),
-    ))
+    let mut columns = [SPACE; 8];
+    bytes::copy(&mut columns[8 - N..], bytes::array_at::<N>(src, at));
+    number_of(u64::from_le_bytes(columns))
 }
 
 // The numbers that two words of four columns hold, worked out as one word. In each, spaces stand before the first digit

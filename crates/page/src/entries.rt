@@ -13,6 +13,7 @@ use crate::plan::Map;
 use crate::{Entry, Frame, bytes, columns, keys, plan, words};
 
 // The letters of a key position: free, used, deleted.
+// Stays (1): C keeps and lends the list of them, a letter for each position (johvimaru.h).
 pub const FREE: u8 = b'f';
 
 pub const USED: u8 = b'u';
@@ -20,6 +21,7 @@ pub const USED: u8 = b'u';
 pub const DELETED: u8 = b'd';
 
 // None, in a map.
+// Stays (1): C keeps and lends the map, with 65,535 where there is none (johvimaru.h).
 pub const NONE: u16 = 65_535;
 
 // A commit has 10 parts.
@@ -32,10 +34,8 @@ pub const ENTRIES_IN_PART: usize = 28;
 
 pub const FIRST_ENTRY_PART: usize = 2;
 
-// Four numbers of a map taken as one, each of them none, and the bytes of four entries.
+// Four numbers of a map taken as one, each of them none.
 const FOUR_NONE: u64 = 0xffffffffffffffff;
-
-const FOUR_ENTRIES: usize = 4 * ENTRY_SIZE;
 
 // Where the columns of its page and of its key start.
 const PAGE_AT: usize = 0;
@@ -57,7 +57,7 @@ pub fn write_entry(dst: &mut [u8; ENTRY_SIZE], page: u16, key: u16)
     ensures { dst.new ≡ entry_bytes page key }
 {
     if page == NONE {
-        bytes::copy(dst, b"   -   -");
+        *dst = *b"   -   -";
     } else {
         columns::put_columns::<4>(dst, PAGE_AT, page as u32);
         columns::put_columns::<4>(dst, KEY_AT, key as u32);
@@ -68,7 +68,7 @@ pub fn write_entry(dst: &mut [u8; ENTRY_SIZE], page: u16, key: u16)
 fn is_vacant(src: &[u8; ENTRY_SIZE]) -> bool
     ensures { result ≡ same src.now vacant_entry }
 {
-    words::same8(src, 0, b"   -   -", 0)
+    words::same::<8>(src, 0, b"   -   -", 0)
 }
 
 // The entry that 8 bytes are.
@@ -112,32 +112,11 @@ fn are_none(a: u16, b: u16, c: u16, d: u16) -> bool
 }
 
 // The same of the four from at on.
-pub fn all_none(map: &Map, at: usize) -> bool
+pub fn all_none(map: &[u16], at: usize) -> bool
     requires { at + 4 ≤ length map.now }
     ensures { result ≡ all_from (λ i. eqb (get_or map.now i none) none) 4 at }
 {
     are_none(map[at], map[at + 1], map[at + 2], map[at + 3])
-}
-
-// Writes the entries of four places. Where all are vacant that is one string.
-// Stays (2): most places are vacant, and one by one they would take four tests and four strings.
-fn write_four(dst: &mut [u8; FOUR_ENTRIES], map: &Map, x: usize)
-    requires { x + 4 ≤ places }
-    ensures { dst.new ≡ entries_from map.now 4 x }
-{
-    if all_none(map, x) {
-        bytes::copy(dst, b"   -   -   -   -   -   -   -   -");
-        return;
-    }
-    for j in 0..4 {
-        let y = x + j;
-        let (_, rest) = dst.split_at_mut(ENTRY_SIZE * j);
-        write_entry(
-            rest.first_chunk_mut().unwrap(),
-            map[y],
-            map[plan::PLACES + y],
-        );
-    }
 }
 
 // Writes the entries of a map's places from first on, as many as a part holds.
@@ -145,9 +124,14 @@ fn write_entries(dst: &mut Payload, map: &Map, first: usize)
     requires { first + entries_in_part ≤ places }
     ensures { dst.new ≡ entries_from map.now entries_in_part first }
 {
-    for j in (0..ENTRIES_IN_PART).step_by(4) {
+    for j in 0..ENTRIES_IN_PART {
+        let y = first + j;
         let (_, rest) = dst.split_at_mut(ENTRY_SIZE * j);
-        write_four(rest.first_chunk_mut().unwrap(), map, first + j);
+        write_entry(
+            rest.first_chunk_mut().unwrap(),
+            map[y],
+            map[plan::PLACES + y],
+        );
     }
 }
 
@@ -190,7 +174,7 @@ pub fn all_vacant(payload: &Payload) -> bool
     bytes::same(
         &payload[ENTRY_SIZE..Frame::PAYLOAD],
         &payload[0..Frame::PAYLOAD - ENTRY_SIZE],
-    ) & words::same8(payload, 0, b"   -   -", 0)
+    ) & words::same::<8>(payload, 0, b"   -   -", 0)
 }
 
 // Whether a payload holds entries throughout. Most hold vacant ones only.

@@ -13,6 +13,7 @@ mod words;
 pub mod writers;
 
 // What stands around a page's payload: the fields of its header. The closing is the same on every page.
+// Stays (1): kind is the letter itself. A header begins with it: header_bytes puts it there as it is, and theorems compare it.
 #[derive(Clone, Copy, PartialEq, Eq)]
 pub struct Frame {
     pub kind: u8,

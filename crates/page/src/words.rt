@@ -1,15 +1,10 @@
 // Bytes taken together as one number, the first byte the lowest.
-ghost use Rattle.std.specs.Prelude.{◌≡◌, [], ◌∷◌, ◌++◌, ◌≤◌, ◌<◌, ◌+◌, length};
+ghost use Rattle.std.specs.Prelude.{◌≡◌, [], ◌∷◌, ◌++◌, ◌≤◌, ◌+◌, ◌-◌, length, replicate};
 ghost use Rattle.base.specs.Part.{part};
-ghost use Rattle.base.specs.Each.{same};
+ghost use Rattle.base.specs.Each.{same as equal};
 ghost use Rattle.page.specs.Word.{word_bytes};
 
-// The number of two bytes.
-fn two(a: u8, b: u8) -> u32
-    ensures { (word_bytes 2 result ≡ a ∷ b ∷ []) × (result < 0x10000) }
-{
-    (a as u32) + (b as u32) * 0x100
-}
+use crate::bytes;
 
 // The number of four bytes.
 pub fn four(a: u8, b: u8, c: u8, d: u8) -> u32
@@ -25,15 +20,6 @@ pub fn eight(low: u32, high: u32) -> u64
     (low as u64) + (high as u64) * 0x100000000
 }
 
-// The two bytes of src from at on.
-// Stays (2): a word of eight bytes has another type than those of two and four, and is made of two of them.
-pub fn word2(src: &[u8], at: usize) -> u32
-    requires { at + 2 ≤ length src.now }
-    ensures { (word_bytes 2 result ≡ part src.now at 2) × (result < 0x10000) }
-{
-    two(src[at], src[at + 1])
-}
-
 // The four bytes of src from at on.
 pub fn word4(src: &[u8], at: usize) -> u32
     requires { at + 4 ≤ length src.now }
@@ -43,6 +29,7 @@ pub fn word4(src: &[u8], at: usize) -> u32
 }
 
 // The eight bytes of src from at on.
+// Stays (2): a word of eight bytes has another type than one of four, and is made of two of them.
 pub fn word8(src: &[u8], at: usize) -> u64
     requires { at + 8 ≤ length src.now }
     ensures { word_bytes 8 result ≡ part src.now at 8 }
@@ -50,37 +37,29 @@ pub fn word8(src: &[u8], at: usize) -> u64
     eight(word4(src, at), word4(src, at + 4))
 }
 
-// Whether two bytes of a from i on are those of b from j on.
-pub fn same2(a: &[u8], i: usize, b: &[u8], j: usize) -> bool
-    requires { (i + 2 ≤ length a.now) × (j + 2 ≤ length b.now) }
-    ensures { result ≡ same (part a.now i 2) (part b.now j 2) }
+// The N bytes of src from at on, at most eight, as one number.
+fn word<const N: usize>(src: &[u8], at: usize) -> u64
+    requires { (at + N ≤ length src.now) × (N ≤ 8) }
+    ensures { word_bytes 8 result ≡ part src.now at N ++ replicate (8 - N) 0 }
 {
-    word2(a, i) == word2(b, j)
+    let mut all = [0u8; 8];
+    bytes::copy(&mut all[..N], bytes::array_at::<N>(src, at));
+    u64::from_le_bytes(all)
 }
 
-// The same of four bytes.
-// Stays (2): a number is one comparison. With one function over N bytes, by same of bytes.rt, two bytes take three
-// instructions more, which is a twenty-fifth of a short read with a full map; with starts_with a write and a read take
-// more than the floor in C.
-pub fn same4(a: &[u8], i: usize, b: &[u8], j: usize) -> bool
-    requires { (i + 4 ≤ length a.now) × (j + 4 ≤ length b.now) }
-    ensures { result ≡ same (part a.now i 4) (part b.now j 4) }
+// Whether N bytes of a from i on, at most eight, are those of b from j on. They are compared as numbers: compared as arrays,
+// two bytes take three instructions more, and a short read 13 %.
+pub fn same<const N: usize>(a: &[u8], i: usize, b: &[u8], j: usize) -> bool
+    requires { (i + N ≤ length a.now) × (j + N ≤ length b.now) × (N ≤ 8) }
+    ensures { result ≡ equal (part a.now i N) (part b.now j N) }
 {
-    word4(a, i) == word4(b, j)
-}
-
-// The same of eight bytes.
-pub fn same8(a: &[u8], i: usize, b: &[u8], j: usize) -> bool
-    requires { (i + 8 ≤ length a.now) × (j + 8 ≤ length b.now) }
-    ensures { result ≡ same (part a.now i 8) (part b.now j 8) }
-{
-    word8(a, i) == word8(b, j)
+    word::<N>(a, i) == word::<N>(b, j)
 }
 
 // Whether four bytes of a from i on are those of the word v.
 pub fn is_word4(a: &[u8], i: usize, v: u32) -> bool
     requires { i + 4 ≤ length a.now }
-    ensures { result ≡ same (part a.now i 4) (word_bytes 4 v) }
+    ensures { result ≡ equal (part a.now i 4) (word_bytes 4 v) }
 {
     word4(a, i) == v
 }

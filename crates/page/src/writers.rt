@@ -1,5 +1,6 @@
 // The 256 bytes of a page, written in place up to byte k, and a node's payload read.
-ghost use Rattle.std.specs.Prelude.{◌≡◌, ◌++◌, ◌<◌, ◌≤◌, length, take};
+ghost use Rattle.std.specs.Prelude.{◌≡◌, ◌++◌, ◌<◌, ◌≤◌, ℕ, List, length, take};
+ghost use Rattle.std.specs.Fn.{FnOnceTakesAtMut, FnOnceReturnsAtMut};
 ghost use Rattle.base.specs.Part.{splice};
 ghost use Rattle.page.specs.Frame.{header_size, payload_size, closing_at, closing};
 ghost use Rattle.page.specs.Entry.{parts, commit_payload};
@@ -65,23 +66,36 @@ pub fn write_page(page: &mut Page, f: Frame, payload: &Payload, k: usize)
     cut(page, k);
 }
 
-// Writes a page of a header's 30 bytes with another part and of a payload, as a program that is cut after k bytes.
-pub fn write_like(page: &mut Page, header: &Header, part: u32, payload: &Payload, k: usize)
-    requires { part < 10_000 }
-    ensures { page.new ≡ cut_page k (page_like header.now part payload.now) }
+// Writes a page of a header's 30 bytes with another part and of the payload that put writes, as a program that is cut after k
+// bytes.
+fn write_with<W: FnOnce(&mut Payload)>(
+    page: &mut Page,
+    header: &Header,
+    part: u32,
+    k: usize,
+    put: W,
+)
+    requires { (payload : List ℕ) → length payload ≡ payload_size → FnOnceTakesAtMut W.FnOnce put payload }
+    ensures { (payload : List ℕ) → length payload ≡ payload_size
+        → ((before after : List ℕ) → length before ≡ payload_size → FnOnceReturnsAtMut W.FnOnce put before tt after
+        → after ≡ payload)
+        → page.new ≡ cut_page k (page_like header.now part payload) }
 {
     let (start, rest) = page.split_first_chunk_mut().unwrap();
     headers::write_header_like(start, header, part);
-    bytes::copy(
-        rest.first_chunk_mut::<{ Frame::PAYLOAD }>().unwrap(),
-        payload,
-    );
+    put(rest.first_chunk_mut::<{ Frame::PAYLOAD }>().unwrap());
     close(page);
     cut(page, k);
 }
 
+// Writes a page of a header's 30 bytes with another part and of a payload, as a program that is cut after k bytes.
+pub fn write_like(page: &mut Page, header: &Header, part: u32, payload: &Payload, k: usize)
+    ensures { page.new ≡ cut_page k (page_like header.now part payload.now) }
+{
+    write_with(page, header, part, k, |dst| bytes::copy(dst, payload))
+}
+
 // Writes the page of a commit's part i, of a header's 30 bytes with that part, as a program that is cut after k bytes.
-// Stays (2): by write_like each part would be put together apart and copied.
 pub fn write_part(
     page: &mut Page,
     header: &Header,
@@ -93,11 +107,13 @@ pub fn write_part(
     requires { i < parts }
     ensures { page.new ≡ cut_page k (page_like header.now i (commit_payload map.now letters.now i)) }
 {
-    let (start, rest) = page.split_first_chunk_mut().unwrap();
-    headers::write_header_like(start, header, i as u32);
-    entries::write_commit_payload(rest.first_chunk_mut().unwrap(), map, letters, i);
-    close(page);
-    cut(page, k);
+    write_with(
+        page,
+        header,
+        i as u32,
+        k,
+        |dst| entries::write_commit_payload(dst, map, letters, i),
+    )
 }
 
 // Writes a node's page: its payload, with spaces after it, is enciphered under its key.

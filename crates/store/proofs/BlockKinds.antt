@@ -69,6 +69,10 @@ pub whole-letter : (img : List ℕ) (g : ℕ) (f : Frame) → form_at img g ≡ 
 unfolding form_at form_of
 whole-letter img g f e = (header_is (part (page_at img g) 0 header_size) f (sym (header_in_lem _ (page_at img g)) ∙ ap header_in e)).0 ∙ first_byte img g
 
+pub torn-letter : (img : List ℕ) (g : ℕ) (f : Frame) → form_at img g ≡ Torn f → f.kind ≡ get_or img (g * page_size) 0
+unfolding form_at form_of
+torn-letter img g f e = (header_is (part (page_at img g) 0 header_size) f (sym (header_in_lem _ (page_at img g)) ∙ ap header_in e)).0 ∙ first_byte img g
+
 pub headed-letter : (img : List ℕ) (g : ℕ) → headed (form_at img g) ≡ true → is_event_letter (get_or img (g * page_size) 0) ≡ true
 unfolding form_at form_of
 headed-letter img g = go (header_of (part (page_at img g) 0 header_size)) refl

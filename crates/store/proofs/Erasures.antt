@@ -96,7 +96,7 @@ none_above img s b e =
     (λ i h l. rw (unheaded_sequence (form_at img (page_in b i)) (any_fails (λ i. headed (form_at img (page_in b i))) pages_in_block 0 i e h l))
     (le-ltb s 0 (omega arith)))
 
--- so the code may go by the two tables
+-- so two tables and what is chosen tell it
 pub unmarked_swept : (img map' : List ℕ) (events lives : List Bool) (r : Numbers) → Sweeping img map' events r
     → ((b : ℕ) → b < most_blocks → has_live map' b ≡ get_or lives b false)
     → map erase (which_from (is_unmarked events lives r) (blocks img) 0) ≡ map erase (which_from (is_swept img (record_of map' [] r)) (blocks img) 0)
@@ -118,3 +118,12 @@ unmarked_swept img map' events lives r s live =
     go false false true a f g = absurd (true-false (f refl) refl)
     go false false false true f g = absurd (true-false refl (g refl))
     go false false false false f g = refl
+
+-- and the code may go by one table of the three
+pub kept_swept : (img map' : List ℕ) (events lives kept : List Bool) (r : Numbers) → Sweeping img map' events r
+    → ((b : ℕ) → b < most_blocks → has_live map' b ≡ get_or lives b false)
+    → ((b : ℕ) → b < blocks img → get_or kept b false ≡ is_chosen r b || get_or events b false || get_or lives b false)
+    → map erase (which_from (λ b. not (get_or kept b false)) (blocks img) 0) ≡ map erase (which_from (is_swept img (record_of map' [] r)) (blocks img) 0)
+kept_swept img map' events lives kept r s live told =
+    ap (map erase) (which_agree (λ b. not (get_or kept b false)) (is_unmarked events lives r) (blocks img) 0 (λ b h l. rw (told b (omega arith))))
+    ∙ unmarked_swept img map' events lives r s live

@@ -1,7 +1,6 @@
 -- The key position and the page that a write takes: the lowest free one; the lowest open page of a data block, or a fresh block's first page while another block stays empty.
 use Prim.Native.Nat.{ℕ, zero, suc, ◌-◌, ◌*◌, ◌/◌, ◌%◌, ◌<◌, ◌≤◌}
 use native.Mathlib.Omega.{arith}
-use native.Mathlib.Decide.{dec_lt}
 use Rattle.std.proofs.Common.{add-one}
 use mathlib.Core.Path.{◌≡◌, refl, sym, ap, subst, ◌∙◌}
 use mathlib.Core.Logic.{◌⊎◌, inl, inr}
@@ -25,7 +24,8 @@ use Rattle.store.specs.Kind.{page_in, kind_of, is_data}
 use Rattle.store.specs.Find.{lowest_free, is_open, fresh_page, or_else, is_outside, is_open_but, new_page_but, new_page, is_found, found_at}
 use Rattle.store.specs.declared.Numbers.{Numbers}
 use Rattle.store.specs.declared.Kind.TheVariants.{Other}
-use Rattle.std.specs.Prelude.{Option, Some, None}
+use Rattle.std.specs.Prelude.{Option, Some, None, MatchOption}
+use Rattle.std.specs.Option.{unwrap_or}
 use Rattle.store.proofs.BlockKinds.{kind_unbegun, data_is_other}
 
 -- ---- the first element that a test holds of, by its place and by the search of numbers
@@ -73,13 +73,7 @@ module _ (p : ℕ → Bool) (n : ℕ) where
 
   pub at_found : (b : ℕ) → Lowest p n b → found n (first_from p n 0) ≡ Some b
   at_found b l =
-      let e : first_from p n 0 ≡ b = elim (dec_lt (first_from p n 0) b) [
-        | yes h ↦ absurd (true-false (first_holds p n 0 (omega (arith, l.below))) (l.none_below (first_from p n 0) h))
-        | no h ↦ elim (dec_lt b (first_from p n 0)) [
-          | yes k ↦ absurd (true-false l.holds (first_least p n 0 b (omega arith) k))
-          | no k ↦ omega arith
-        ]
-      ] in
+      let e : first_from p n 0 ≡ b = first_is p n 0 b (omega arith) (omega (arith, l.below)) (λ h. l.holds) (λ k i h. l.none_below k h) in
       rw (e, lt-ltb b n l.below)
 
   pub found_nothing : found n (first_from p n 0) ≡ None → (a : ℕ) → a < n → p a ≡ false
@@ -89,6 +83,13 @@ module _ (p : ℕ → Bool) (n : ℕ) where
   pub nothing_found : ((a : ℕ) → a < n → p a ≡ false) → found n (first_from p n 0) ≡ None
   nothing_found f =
       rw (le-ltb (first_from p n 0) n (omega (arith, first_all p n 0 (λ a h k. f a (omega arith)))))
+
+  -- what `find` gives of the numbers in order; the number after them all where it gives none
+  pub first_by_find : (r : Option ℕ)
+      → MatchOption r ((k : ℕ) → 0 ≤ k → k < n → p k ≡ false) (λ b. (0 ≤ b) × (b < n) × (p b ≡ true) × ((k : ℕ) → 0 ≤ k → k < b → p k ≡ false))
+      → unwrap_or r n ≡ first_from p n 0
+  first_by_find None f = sym (first_is p n 0 n (omega arith) (omega arith) (λ h. absurd (omega arith)) f)
+  first_by_find (Some b) f = sym (first_is p n 0 b f.0 (omega (arith, f.1)) (λ h. f.2) f.3)
 
 -- ---- the lowest f
 module _ (letters : List ℕ) where

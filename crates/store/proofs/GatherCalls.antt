@@ -6,15 +6,17 @@ use mathlib.Core.Bool.{true, false}
 use mathlib.Core.List.{List, [], ◌∷◌}
 use lib.Dec.{eqb, leb}
 use lib.ListN.{length}
-use borrow.Author.Tests.{le-leb, lt-leb}
+use borrow.Author.Tests.{le-leb, lt-leb, eq-eqb, ne_eqb}
 use Rattle.page.specs.Header.{last_number}
 use Rattle.store.specs.Reply.{Reply, Done, ◌else◌, is_done, verdict}
 use Rattle.store.specs.Record.{Record}
 use Rattle.store.specs.Outcome.{left, most_steps}
 use Rattle.store.specs.Gather.{live_pages, is_gathered, room_for_all, gather_tests, gather_of}
-use Rattle.store.specs.Targets.{targets}
+use Rattle.store.specs.Targets.{targets, PlacesIn, Moved, Tried}
 use Rattle.store.specs.Taken.{Ready}
-use Rattle.std.specs.Prelude.{Err}
+use Rattle.std.specs.Prelude.{Option, Some, None, is_some, MatchOption, Err, ◌≢◌}
+use Rattle.std.specs.Option.{ok_or}
+use Rattle.std.specs.List.{count_by}
 use Rattle.store.specs.declared.Error.TheVariants.{NoRoom, NumbersSpent, NothingToGather}
 use Rattle.store.proofs.Verdicts.{buffers_right_lem, gather-reply}
 use Rattle.store.proofs.Outcomes.{leaves, gather-refused}
@@ -24,7 +26,8 @@ use Rattle.store.proofs.Calls.{refused-left}
 use Rattle.store.proofs.Fits.{fits_is}
 use Rattle.store.proofs.Gathers.{live-few}
 use Rattle.store.proofs.GatherRooms.{gather_gathering}
-use Rattle.store.proofs.GatherTargets.{gathered_counted, room-targets}
+use Rattle.store.proofs.GatherTargets.{live-counted, gathered_counted, room-targets}
+use Rattle.store.proofs.GatherLoops.{moves_in}
 
 module _ (img : List ℕ) (r : Record) (block : ℕ) where
   abbrev n : ℕ
@@ -57,11 +60,24 @@ module _ (img : List ℕ) (r : Record) (block : ℕ) where
         sequences_left : verdict (gather_tests img r block) ≡ verdict ((eqb (length (targets block img r.numbers n)) n else NoRoom) ∷ [])
         sequences_left = live-page ∙ rw (le-leb (r.numbers.sequence + n) (last_number + 1) left, room-found)
 
-        pub no_pages : eqb (length (targets block img r.numbers n)) n ≡ false → verdict (gather_tests img r block) ≡ (Err NoRoom)
+        no_pages : eqb (length (targets block img r.numbers n)) n ≡ false → verdict (gather_tests img r block) ≡ (Err NoRoom)
         no_pages e = sequences_left ∙ rw e
 
-        pub all_passed : eqb (length (targets block img r.numbers n)) n ≡ true → verdict (gather_tests img r block) ≡ Done
+        all_passed : eqb (length (targets block img r.numbers n)) n ≡ true → verdict (gather_tests img r block) ≡ Done
         all_passed e = sequences_left ∙ rw e
+
+        -- what the search for the pages gives
+        pub moves_tried : (at : List (Option ℕ)) → PlacesIn r.map block at → (o : Option (List (Option (ℕ × ℕ))))
+            → (let m = count_by is_some at in
+            MatchOption o (length (targets block img r.numbers m) ≢ m)
+            (λ moves. Moved at (targets block img r.numbers m) moves × (length (targets block img r.numbers m) ≡ m)))
+            → Tried img r block (ok_or o NoRoom)
+        moves_tried at p (Some moves) w =
+            let e = live-counted r.map block at p in
+            (all_passed (eq-eqb _ _ (rw e at w.1)), moves_in r.map block img r.numbers at moves n e p w.0)
+        moves_tried at p None w =
+            let e = live-counted r.map block at p in
+            no_pages (ne_eqb _ _ (rw e at w))
 
   -- ---- the call
   pub gather_refuse : (m k : ℕ) (v : Reply) → v ≡ verdict (gather_tests img r block) → is_done v ≡ false

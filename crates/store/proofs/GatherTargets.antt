@@ -30,7 +30,7 @@ use Rattle.store.specs.Write.{next_sequence}
 use Rattle.store.specs.Gather.{is_on, is_live_page, place_on, live_pages, is_gathered, copy_of, copy_to, copy_step, copied, copy_steps, copied_all, room_for_all}
 use Rattle.store.specs.Targets.{PlacesIn, open_page_from, new_page_from, page_after, pages_from, targets, copies_to, moved_to, sequences_used}
 use Rattle.store.specs.declared.Numbers.{Numbers}
-use Rattle.std.specs.Prelude.{Option, Some, None}
+use Rattle.std.specs.Prelude.{Option, Some, None, is_some}
 use Rattle.store.proofs.Finds.{by_test, found_is, fresh_page_lem, OpenPage, FreshPage, new_page_lem, open_is_new}
 use Rattle.store.proofs.Gathers.{LiveIn, each_with, Copying, live-place, copy_empty, copy_apart, page-same, page_old, page_new, data_filled}
 use Rattle.store.proofs.Fits.{Fit}
@@ -366,23 +366,30 @@ live-placed map g = go (is_live_page map g) refl
     go false e = sym (le-ltb (place_on map g) places (nowhere e))
 
 -- a count over a list is one over its positions
-counted_along : (p : ℕ → Bool) (xs : List ℕ) → count_from (λ i. p (get_or xs i 0)) (length xs) 0 ≡ count_by p xs
+counted_along : {X : Type 0} (p : X → Bool) (d : X) (xs : List X) → count_from (λ i. p (get_or xs i d)) (length xs) 0 ≡ count_by p xs
 unfolding count_from
-counted_along p =
-    is_sum_by (λ xs. count_from (λ i. p (get_or xs i 0)) (length xs) 0) (λ x. cond (p x) 1 0) refl λ x xs.
+counted_along {X = X} p d =
+    is_sum_by (λ xs. count_from (λ i. p (get_or xs i d)) (length xs) 0) (λ x. cond (p x) 1 0) refl λ x xs.
     ap (λ n. cond (p x) 1 0 + n) (
-    sym (count_shift (λ i. p (get_or (x ∷ xs) i 0)) 1 (length xs) 0)
-    ∙ count_agree _ (λ i. p (get_or xs i 0)) (length xs) 0 (λ i h k. let e : 1 + i ≡ suc i = omega arith in ap (λ j. p (get_or (x ∷ xs) j 0)) e)
+    sym (count_shift (λ i. p (get_or (x ∷ xs) i d)) 1 (length xs) 0)
+    ∙ count_agree _ (λ i. p (get_or xs i d)) (length xs) 0 (λ i h k. let e : 1 + i ≡ suc i = omega arith in ap (λ j. p (get_or (x ∷ xs) j d)) e)
     )
 
-pub live-counted : (map : List ℕ) (block : ℕ) (at : List ℕ) → PlacesIn map block at
-    → count_by (λ x. ltb x places) at ≡ length (live_pages map block)
+-- what is found among the places is found where the page is live
+pub live-found : (map : List ℕ) (g : ℕ) → is_some (found places (place_on map g)) ≡ is_live_page map g
+live-found map g = go (ltb (place_on map g) places) ∙ sym (live-placed map g)
+  where
+    go : (t : Bool) → is_some (cond t (Some (place_on map g)) None) ≡ t
+    go true = refl
+    go false = refl
+
+pub live-counted : (map : List ℕ) (block : ℕ) (at : List (Option ℕ)) → PlacesIn map block at → count_by is_some at ≡ length (live_pages map block)
 unfolding live_pages
 live-counted map block at w =
-    sym (counted_along (λ x. ltb x places) at)
-    ∙ ap (λ n. count_from (λ i. ltb (get_or at i 0) places) n 0) w.full
+    sym (counted_along is_some None at)
+    ∙ ap (λ n. count_from (λ i. is_some (get_or at i None)) n 0) w.full
     ∙ count_agree _ (λ i. is_live_page map (block * pages_in_block + i)) pages_in_block 0
-    (λ i h k. ap (λ (x : ℕ). ltb x places) (w.each i (omega arith)) ∙ sym (live-placed map (page_in block i)))
+    (λ i h k. ap (λ (o : Option ℕ). is_some o) (w.each i (omega arith)) ∙ live-found map (page_in block i))
     ∙ count_shift (is_live_page map) (block * pages_in_block) pages_in_block 0
     ∙ ap (count_from (is_live_page map) pages_in_block) (let e : block * pages_in_block + 0 ≡ block * pages_in_block = omega arith in e)
     ∙ sym (length_which (is_live_page map) pages_in_block (block * pages_in_block))

@@ -2,7 +2,7 @@
 use Prim.Native.Nat.{ℕ, ◌<◌, ◌≤◌}
 use native.Mathlib.Omega.{arith}
 use mathlib.Core.Path.{◌≡◌, refl, sym, ap, ◌∙◌}
-use mathlib.Core.Bool.{Bool, true, false, cond, ◌&&◌, ◌||◌}
+use mathlib.Core.Bool.{Bool, true, false, cond, ◌||◌}
 use mathlib.Core.List.{List, [], map as each}
 use lib.Dec.{eqb, leb}
 use lib.ListN.{length, drop}
@@ -12,7 +12,6 @@ use Rattle.base.proofs.Choice.{and-true}
 use Rattle.base.proofs.Searches.{highest_least}
 use Rattle.page.specs.Plan.{places}
 use Rattle.page.specs.Header.{last_number}
-use Rattle.page.specs.Key.{positions}
 use Rattle.image.specs.Size.{blocks, pages, size_right}
 use Rattle.image.specs.Look.{form_at}
 use Rattle.image.specs.Step.{erase}
@@ -21,25 +20,26 @@ use Rattle.image.specs.declared.Power.{Power}
 use Rattle.image.proofs.Looks.{sized}
 use Rattle.store.specs.Reply.{Reply, Done, verdict, number_of, is_done}
 use Rattle.store.specs.Kind.{kind_of, covered_by}
-use Rattle.store.specs.Record.{record_of, map_size, is_dead, keys_apart}
+use Rattle.store.specs.Record.{record_of, is_dead, keys_apart}
 use Rattle.store.specs.Outcome.{left, most_steps}
 use Rattle.store.specs.Find.{is_found, found_at}
 use Rattle.store.specs.Format.{buffers_right, no_numbers}
 use Rattle.store.specs.Mount.{chosen_commit, chosen_keys, covered_in, sequence_of, epoch_of, mount_numbers, mount_map, entries_fit, mounted, is_covered_dead, is_swept, mount_steps, mount_tests, size_tests, block_tests, mount_of}
-use Rattle.store.specs.Survey.{survey_of, covered_at, survey_numbers, Surveyed}
-use Rattle.store.specs.Rebuild.{mount_fits, highest_sequence, rebuilt_of, Rebuilding, Sweeping, Cleared}
+use Rattle.store.specs.Survey.{survey_of, covered_at, blocks_found, survey_numbers, Surveyed}
+use Rattle.store.specs.Rebuild.{mount_fits, highest_sequence, Rebuilding, Sweeping, Cleared}
 use Rattle.store.specs.Taken.{Buffers, MountChosen}
 use Rattle.store.specs.declared.Numbers.{Numbers}
+use Rattle.store.specs.declared.mount.Chosen.{Chosen}
+use Rattle.store.specs.declared.replay.Seen.{Seen}
 use Rattle.store.specs.declared.survey.Survey.{Survey}
-use Rattle.std.specs.Prelude.{Option, Some, None, Err}
+use Rattle.std.specs.Prelude.{Err}
 use Rattle.store.specs.declared.Kind.TheVariants.{Commit}
-use Rattle.store.specs.declared.Error.TheVariants.{ImageSize, BufferLength, EntryUnfit, PowerCut}
+use Rattle.store.specs.declared.Error.TheVariants.{EntryUnfit, PowerCut}
 use Rattle.store.proofs.Verdicts.{verdict-done, verdict_among, done-true, buffers-true, buffers_right_lem, mount-reply, mount_taken}
 use Rattle.store.proofs.Refusals.{refuses_first, passes_first}
 use Rattle.store.proofs.BlockKinds.{commit_range}
 use Rattle.store.proofs.Choices.{commit_chosen, keys_chosen}
 use Rattle.store.proofs.Finds.{found_is}
-use Rattle.store.proofs.Rebuilds.{fits_rebuilt, unfit_rebuilt}
 use Rattle.store.proofs.Fits.{live-headed}
 use Rattle.store.proofs.Mounts.{mounted-fit, sequence_most_lem, epoch_most_lem}
 use Rattle.store.proofs.Outcomes.{leaves, left_stepless, mount_outcome, mount-refused, mount_as_lent, mount-filled}
@@ -100,6 +100,10 @@ module _ (img : List ℕ) where
           commit_inside = rw (found, surveyed_commit) (omega (arith, most, (commit_chosen img (found_at (chosen_commit img)) (found_is (chosen_commit img) c)).inside));
         }
 
+-- the commit block, of those that the tests hand on
+pub commit_block : (s : Survey) (chosen : Chosen) → chosen ≡ blocks_found s → chosen.commit ≡ found_at s.commit.at
+commit_block s chosen e = rw e
+
 -- ---- the tests, part by part
 module _ (img map letters scratch : List ℕ) where
   -- refused with 1 or 2, all stays as lent
@@ -112,28 +116,12 @@ module _ (img map letters scratch : List ℕ) where
       let m : number_of (mount_of img map letters scratch).reply < 12 = rw q (omega (arith, leb-true (number_of v) 2 few)) in
       rw (← q) (sym (left_stepless n k img (mount_as_lent img map letters scratch (ap is_done q ∙ d) m)))
 
-  -- with 1, and with 2 for one of the lengths
-  pub size_refuse : (n k : ℕ) → size_right img ≡ false → leaves (Err ImageSize) img (record_of map letters no_numbers) scratch ≡ left n k (mount_of img map letters scratch) img
-  size_refuse n k e = sizes_refuse n k (Err ImageSize) (rw e) refl
-
-  pub lengths_refuse : (n k : ℕ) → size_right img ≡ true → (Buffers map letters × (length scratch ≡ places) → ⊥)
-      → leaves (Err BufferLength) img (record_of map letters no_numbers) scratch ≡ left n k (mount_of img map letters scratch) img
-  lengths_refuse n k e h = let b = wrong (buffers_right map letters && eqb (length scratch) places) refl in sizes_refuse n k (Err BufferLength) (rw (e, b)) refl
-    where
-      wrong : (b : Bool) → buffers_right map letters && eqb (length scratch) places ≡ b → b ≡ false
-      wrong true q = let b = and-true (buffers_right map letters) (eqb (length scratch) places) q in absurd (h (buffers-true map letters b.0, eqb-true _ _ b.1))
-      wrong false q = refl
-
   -- what the passed tests say
   pub sizes_passed : (v : Reply) → v ≡ verdict (size_tests img map letters scratch) → is_done v ≡ true → (size_right img ≡ true) × Buffers map letters × (length scratch ≡ places)
   sizes_passed v e d =
       let t = verdict-done (size_tests img map letters scratch) (sym e ∙ done-true v d) in
       let b = and-true (buffers_right map letters) (eqb (length scratch) places) t.1.0 in
       (t.0, buffers-true map letters b.0, eqb-true _ _ b.1)
-
-  pub sizes_right : size_right img ≡ true → length map ≡ map_size → length letters ≡ positions → length scratch ≡ places → Done ≡ verdict (size_tests img map letters scratch)
-  sizes_right e m l s =
-      rw (e, buffers_right_lem map letters (record { map_full = m; letters_full = l }), eq-eqb _ _ s)
 
   pub blocks-passed : (v w : Reply) → v ≡ verdict (size_tests img map letters scratch) → is_done v ≡ true
       → w ≡ verdict (block_tests (chosen_commit img) (chosen_keys img 0) (chosen_keys img 1)) → is_done w ≡ true → MountChosen img map letters scratch
@@ -174,35 +162,29 @@ module _ (img map letters scratch : List ℕ) where
         )
 
     -- what the work leaves, with the commit in block c
-    module _ (n k c : ℕ) (m l s : List ℕ) (r : Option ℕ) (commit : c ≡ found_at (chosen_commit img)) (made : r ≡ rebuilt_of img c) where
-      pub pages_refuse : r ≡ None → (mount_fits img c ≡ false → Cleared m l s) → leaves (Err EntryUnfit) img (record_of m l no_numbers) s ≡ left n k (mount_of img map letters scratch) img
-      pages_refuse u clear =
-          let f = unfit_rebuilt img c r made u in
-          cleared_refuse n k (Err EntryUnfit) m l s (mount-reply img map letters scratch ∙ last_test_lem ∙ rw (← commit, f)) (omega arith) (clear f)
+    module _ (n k c : ℕ) (m l s : List ℕ) (commit : c ≡ found_at (chosen_commit img)) where
+      pub pages_refuse : mount_fits img c ≡ false → Cleared m l s → leaves (Err EntryUnfit) img (record_of m l no_numbers) s ≡ left n k (mount_of img map letters scratch) img
+      pages_refuse f clear =
+          cleared_refuse n k (Err EntryUnfit) m l s (mount-reply img map letters scratch ∙ last_test_lem ∙ rw (← commit, f)) (omega arith) clear
 
-      pub mount-left : (h : ℕ) (events : List Bool) (img' : List ℕ) (survey : Survey) (numbers : Numbers) (q : Power) → r ≡ Some h → (mount_fits img c ≡ true → Rebuilding img c m l s events)
-          → survey ≡ survey_of img (blocks img) → numbers ≡ survey_numbers survey h
+      pub mount-left : (seen : Seen) (img' : List ℕ) (survey : Survey) (numbers : Numbers) (q : Power) → Rebuilding img c m l s seen
+          → survey ≡ survey_of img (blocks img) → numbers ≡ survey_numbers survey seen.highest
           → device q img' ≡ run (each erase (which_from (is_swept img (record_of m [] numbers)) (blocks img) 0)) (device (power_for n k) img)
           → leaves (cond q.on Done (Err PowerCut)) img' (record_of m l numbers) s ≡ left n k (mount_of img map letters scratch) img
       unfolding mounted mount_steps is_swept is_covered_dead is_dead
-      mount-left h events img' survey numbers q u build found counted d =
-          let f = fits_rebuilt img c r h made u in
-          let e : numbers ≡ mount_numbers img = counted ∙ survey_numbers_lem img survey found chosen.commit_there h f.1 in
-          let t = build f.0 in
-          let o = mount_outcome img map letters scratch (mount-reply img map letters scratch ∙ last_test_lem ∙ rw (← commit, f.0)) in
+      mount-left seen img' survey numbers q t found counted d =
+          let e : numbers ≡ mount_numbers img = counted ∙ survey_numbers_lem img survey found chosen.commit_there seen.highest t.highest_made in
+          let o = mount_outcome img map letters scratch (mount-reply img map letters scratch ∙ last_test_lem ∙ rw (← commit, t.fit)) in
           let map_is : m ≡ (mounted img).map = t.map_made ∙ ap (mount_map img) commit in
           rw (t.map_made, t.letters_made, t.scratch_made, e, commit) (run-left n k img img' q o (rw (map_is, e) at d))
 
       -- and what the erases go by
-      pub mount_sweeping : (h : ℕ) (events : List Bool) (survey : Survey) (numbers : Numbers) → r ≡ Some h
-          → (mount_fits img c ≡ true → Rebuilding img c m l s events)
-          → survey ≡ survey_of img (blocks img) → numbers ≡ survey_numbers survey h → Sweeping img m events numbers
+      pub mount_sweeping : (seen : Seen) (survey : Survey) (numbers : Numbers) → Rebuilding img c m l s seen
+          → survey ≡ survey_of img (blocks img) → numbers ≡ survey_numbers survey seen.highest → Sweeping img m seen.events numbers
       unfolding mounted mount_numbers
-      mount_sweeping h events survey numbers u build found counted =
-          let f = fits_rebuilt img c r h made u in
-          let e : numbers ≡ mount_numbers img = counted ∙ survey_numbers_lem img survey found chosen.commit_there h f.1 in
-          let t = build f.0 in
-          let both = and-true (entries_fit img c) (keys_apart (mount_map img c)) f.0 in
+      mount_sweeping seen survey numbers t found counted =
+          let e : numbers ≡ mount_numbers img = counted ∙ survey_numbers_lem img survey found chosen.commit_there seen.highest t.highest_made in
+          let both = and-true (entries_fit img c) (keys_apart (mount_map img c)) t.fit in
           let fit = mounted-fit img chosen.commit_there chosen.keys0_there chosen.keys1_there (rw commit at both.0) (rw commit at both.1) in
           record {
             few = (sized img chosen.size).most;

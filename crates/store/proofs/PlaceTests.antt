@@ -1,5 +1,5 @@
 -- The test of all places, place by place and run by run: how far it has come, and what its answer says.
-use Prim.Native.Nat.{ℕ, ◌+◌, ◌-◌, ◌<◌, ◌≤◌}
+use Prim.Native.Nat.{ℕ, ◌+◌, ◌-◌, ◌%◌, ◌<◌, ◌≤◌}
 use native.Mathlib.Omega.{arith}
 use native.Mathlib.Decide.{dec_lt}
 use mathlib.Core.Path.{◌≡◌, refl, sym, ◌∙◌}
@@ -20,12 +20,17 @@ use Rattle.page.proofs.Plans.{start-after, plan_sum}
 use Rattle.page.proofs.Slices.{get_d_there}
 use Rattle.image.specs.Look.{form_at}
 use Rattle.store.specs.Record.{map_size, page_of, key_of, vacant_at, node_at, place_fits, named_times, keys_apart}
-use Rattle.store.specs.Testing.{InFile, places_fit, Tested}
+use Rattle.store.specs.Testing.{run_length, InFile, places_fit, Tested}
 use Rattle.store.proofs.Names.{tallied-none, tallied_next, tallied_unnamed, tallied-run, tallied_twice, tallied_all, tallied-apart}
 
 -- ---- a file's places are places of the plan
 pub file-end : (file : ℕ) → file ≤ last_file → start_of file_plan file + count_of file_plan file ≤ places
 file-end file h = rw plan_sum at (start-after file_plan file (length file_plan) (omega arith))
+
+-- and are whole runs
+pub file_runs : (file : ℕ) → file ≤ last_file → count_of file_plan file % run_length ≡ 0
+unfolding count_of all_from
+file_runs file h = eqb-true _ _ (all_holds (λ f. eqb (get_or file_plan f 0 % run_length) 0) (last_file + 1) 0 file refl (omega arith) (omega arith))
 
 pub in_places : (file first x end : ℕ) → InFile file first x end → end ≤ places
 in_places file first x end i = omega (arith, file-end file i.known)
@@ -123,20 +128,20 @@ module _ (img map : List ℕ) (n x : ℕ) (vacant : all_from (vacant_at map) n x
       either false e = e
 
 -- ---- a test of all, run by run
-module _ (p : ℕ → Bool) (n x end : ℕ) (h : x ≤ end) (k : end ≤ n) where
-  pub all_run_passes : all_from p (end - x) x ≡ true → all_from p (n - x) x ≡ all_from p (n - end) end
+module _ (p : ℕ → Bool) (n x k : ℕ) (h : x + k ≤ n) where
+  pub all_run_passes : all_from p k x ≡ true → all_from p (n - x) x ≡ all_from p (n - (x + k)) (x + k)
   all_run_passes r =
-      both_ways _ _ (λ e. all_intro p (n - end) end (λ y a b. all_holds p (n - x) x y e (omega arith) (omega arith)))
-      (λ e. all_intro p (n - x) x (λ y a b. elim (dec_lt y end) [
-        | yes l ↦ all_holds p (end - x) x y r a (omega arith)
-        | no l ↦ all_holds p (n - end) end y e (omega arith) (omega arith)
+      both_ways _ _ (λ e. all_intro p (n - (x + k)) (x + k) (λ y a b. all_holds p (n - x) x y e (omega arith) (omega arith)))
+      (λ e. all_intro p (n - x) x (λ y a b. elim (dec_lt y (x + k)) [
+        | yes l ↦ all_holds p k x y r a l
+        | no l ↦ all_holds p (n - (x + k)) (x + k) y e (omega arith) (omega arith)
       ]))
 
-  pub all_run_fails : all_from p (end - x) x ≡ false → all_from p (n - x) x ≡ false
+  pub all_run_fails : all_from p k x ≡ false → all_from p (n - x) x ≡ false
   all_run_fails r = go (all_from p (n - x) x) refl
     where
       go : (t : Bool) → all_from p (n - x) x ≡ t → t ≡ false
-      go true e = absurd (true-false (all_intro p (end - x) x (λ y a b. all_holds p (n - x) x y e a (omega arith))) r)
+      go true e = absurd (true-false (all_intro p k x (λ y a b. all_holds p (n - x) x y e a (omega arith))) r)
       go false e = refl
 
 -- ---- after the last place

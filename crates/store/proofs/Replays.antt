@@ -16,7 +16,7 @@ use Rattle.base.proofs.Choice.{and-true, and_intro, true-false, cond_same}
 use Rattle.base.proofs.Searches.{any_holds, any_intro, any_join, highest_join}
 use Rattle.base.proofs.Folds.{fold_join, length-list_from, list_from_at}
 use Rattle.page.specs.Plan.{file_plan, last_file, places, count_of, start_of}
-use Rattle.page.specs.Header.{node_letter, cut_off_letter, in_range}
+use Rattle.page.specs.Header.{node_letter, cut_off_letter, in_range, is_event_letter}
 use Rattle.page.specs.Key.{positions}
 use Rattle.page.specs.Entry.{none, free_letter, deleted_letter}
 use Rattle.page.specs.declared.Frame.{Frame}
@@ -25,7 +25,7 @@ use Rattle.page.specs.declared.Form.TheVariants.{Empty, Whole, Torn, Spoilt}
 use Rattle.page.proofs.Plans.{start-after, plan_sum, place_at_lem}
 use Rattle.page.proofs.Ranges.{node_range, cut_off_range}
 use Rattle.image.specs.Size.{block_size, pages_in_block, most_blocks, blocks, pages, size_right}
-use Rattle.image.specs.Look.{block_empty, form_at}
+use Rattle.image.specs.Look.{letter_at, block_empty, form_at}
 use Rattle.image.proofs.Empties.{empty_block_page}
 use Rattle.image.proofs.Looks.{sized, block_inside}
 use Rattle.store.specs.Kind.{page_in, kind_of, headed}
@@ -33,9 +33,9 @@ use Rattle.store.specs.Record.{map_size}
 use Rattle.store.specs.Mount.{covered_in, letter_in, entry_in, Decision, by_entry, removes, sets, cuts, decide_by, decision, mount_map, mount_scratch, spends, is_spent, unused_letter, sequence_of, has_above}
 use Rattle.store.specs.Write.{place_at}
 use Rattle.store.specs.Taken.{Planned}
-use Rattle.store.specs.Replay.{Pass, held_at, EachPlace, EachLetter, outranks, range_right, above_of, Passed, Replayed}
+use Rattle.store.specs.Replay.{Pass, held_at, EachPlace, EachLetter, outranks, above_of, Passed, Replayed}
 use Rattle.store.specs.declared.Kind.TheVariants.{Commit}
-use Rattle.store.proofs.BlockKinds.{empty_form, whole_in_range, torn-in_range, commit_inside_lem}
+use Rattle.store.proofs.BlockKinds.{empty_form, whole-letter, torn-letter, commit_inside_lem}
 use Rattle.store.proofs.Decisions.{set_by, cut_by, mount_map-length, mount-page, mount-key, mount_scratch-length, mount-sequence}
 
 -- two tests, in either order
@@ -249,15 +249,20 @@ block_idle img s b t inside empty =
     let k : i / pages_in_block ≡ b = omega arith in
     ap headed (empty_form img i (empty_block_page img i (rw k empty))))
 
--- a page's header is in range
-pub range_right_lem : (img : List ℕ) (g : ℕ) → range_right (form_at img g) ≡ true
-range_right_lem img g = go (form_at img g) refl
-  where
-    go : (m : Form) → form_at img g ≡ m → range_right m ≡ true
-    go Empty e = refl
-    go (Whole f) e = whole_in_range img g f e
-    go (Torn f) e = torn-in_range img g f e
-    go Spoilt e = refl
+-- a page that begins with N or D and has a header: what it does to each list goes by the header
+module _ (img : List ℕ) (s g : ℕ) (f : Frame) (t t' : Pass) (letter : is_event_letter (letter_at img g) ≡ true) (inside : g / pages_in_block < length t.events)
+    (letters : EachLetter (λ p l. cond (eqb f.kind node_letter && ltb s f.number && eqb f.key p) deleted_letter l) t.letters t'.letters)
+    (events : t'.events ≡ cond (ltb s f.number) (set t.events (g / pages_in_block) true) t.events)
+    (highest : t'.highest ≡ max t.highest f.number) where
+  pub whole-passed : form_at img g ≡ Whole f → EachPlace (λ x. decide_by s x g (Whole f)) t.map t.scratch t'.map t'.scratch → Passed img s 1 g t t'
+  whole-passed e places =
+      let k : is_event_letter f.kind ≡ true = ap is_event_letter (whole-letter img g f e) ∙ letter in
+      page-passed img s g t t' (Whole f) (sym e) inside places letters (rw k events) (rw k highest)
+
+  pub torn-passed : form_at img g ≡ Torn f → t'.map ≡ t.map → t'.scratch ≡ t.scratch → Passed img s 1 g t t'
+  torn-passed e map scratch =
+      let k : is_event_letter f.kind ≡ true = ap is_event_letter (torn-letter img g f e) ∙ letter in
+      page-passed img s g t t' (Torn f) (sym e) inside (λ x h. rw (map, scratch)) letters (rw k events) (rw k highest)
 
 -- a page of an image stands in one of at most 256 blocks, and its number fits a map
 pub page_most : (img : List ℕ) (g : ℕ) → size_right img ≡ true → g < pages img → (g / pages_in_block < most_blocks) × (g < none)

@@ -15,14 +15,11 @@ use Rattle.base.proofs.Searches.{all_holds, any_here, any_next, any_none, any_jo
 use Rattle.page.specs.Plan.{places}
 use Rattle.page.specs.Entry.{none}
 use Rattle.image.specs.Size.{pages_in_block, most_blocks, blocks, size_right}
-use Rattle.image.specs.Look.{block_at}
-use Rattle.image.proofs.Step.{page_of-same}
 use Rattle.image.proofs.Looks.{sized}
-use Rattle.store.specs.Kind.{page_in, is_data}
+use Rattle.store.specs.Kind.{is_data}
 use Rattle.store.specs.Record.{page_of, key_of, live, vacant_at}
 use Rattle.store.specs.Stages.{live_in, has_live, LiveMarked, is_unused, erases, unused_erases}
 use Rattle.store.specs.declared.Numbers.{Numbers}
-use Rattle.store.proofs.BlockKinds.{data_agree}
 
 -- ---- the table: a block is marked, or a place from x on is live in it
 pub marked_none : (map : List ℕ) (marked : List Bool) → marked ≡ replicate most_blocks false → LiveMarked map marked 0
@@ -41,11 +38,11 @@ or-false : (a : Bool) → a || false ≡ a
 or-false true = refl
 or-false false = refl
 
-and_swap : (a b : Bool) → a && b ≡ b && a
-and_swap true true = refl
-and_swap true false = refl
-and_swap false true = refl
-and_swap false false = refl
+left_out : (a b : Bool) → not (a || not b) ≡ b && not a
+left_out true true = refl
+left_out true false = refl
+left_out false true = refl
+left_out false false = refl
 
 and-false : (a : Bool) → a && false ≡ false
 and-false true = refl
@@ -93,14 +90,10 @@ pub marked_all : (map : List ℕ) (marked : List Bool) (x : ℕ) → LiveMarked 
 marked_all map marked x m h b k = m.told b k ∙ rw (any_none (live_in map b) places x h) (or-false (get_or marked b false))
 
 -- ---- the blocks that are not marked
-pub unmarked_unused : (img map : List ℕ) (marked : List Bool) (r : Numbers) → size_right img ≡ true → ((b : ℕ) → b < most_blocks → has_live map b ≡ get_or marked b false)
-    → erases (which_from (λ b. not (get_or marked b false) && is_data img r b) (blocks img) 0) ≡ unused_erases map r img
+pub unmarked_unused : (img map : List ℕ) (lives marked : List Bool) (r : Numbers) → size_right img ≡ true → ((b : ℕ) → b < most_blocks → has_live map b ≡ get_or lives b false)
+    → ((b : ℕ) → b < blocks img → get_or marked b false ≡ get_or lives b false || not (is_data img r b))
+    → erases (which_from (λ b. not (get_or marked b false)) (blocks img) 0) ≡ unused_erases map r img
 unfolding unused_erases
-unmarked_unused img map marked r size told =
-    ap erases (which_agree (λ b. not (get_or marked b false) && is_data img r b) (is_unused img map r) (blocks img) 0
-    (λ b l h. rw (told b (omega (arith, (sized img size).most))) (and_swap (not (get_or marked b false)) (is_data img r b))))
-
--- a block is data as it was, where it and those after it stand as they stood
-pub data_later : (img img' : List ℕ) (r : Numbers) (b : ℕ) → ((c : ℕ) → b ≤ c → block_at img c ≡ block_at img' c) → is_data img r b ≡ is_data img' r b
-data_later img img' r b alike =
-    data_agree img img' b (λ j k. page_of-same img' img (page_in b j) (alike (page_in b j / pages_in_block) (omega arith))) r
+unmarked_unused img map lives marked r size told marks =
+    ap erases (which_agree (λ b. not (get_or marked b false)) (is_unused img map r) (blocks img) 0
+    (λ b l h. rw (told b (omega (arith, (sized img size).most)), marks b (omega arith)) (left_out (get_or lives b false) (is_data img r b))))

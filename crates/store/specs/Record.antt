@@ -1,6 +1,7 @@
 -- Document 01, "The working record": what it is, and when it fits.
 use Rattle.std.specs.Prelude.{ℕ, ◌+◌, ◌/◌, Bool, true, false, cond, not, ◌&&◌, List, get_or, eqb, leb, ltb, Option, Some, None, Result, Ok, Err}
 use Rattle.std.specs.Bool.{beq}
+use Rattle.std.specs.Borrow.{Bor}
 use Rattle.base.specs.Search.{all_from, any_from, count_from}
 use Rattle.page.specs.Plan.{file_plan, places, place_of}
 use Rattle.page.specs.Header.{node_letter, within, last_number}
@@ -29,7 +30,12 @@ record_of map letters n = record { map = map; letters = letters; numbers = n }
 abbrev pub held : Lent → Record
 held r = record_of r.map.now r.letters.now r.numbers
 
--- what tests hand on, with the record in place of how it is lent
+-- what tests hand on, with the lists in place of how they are lent
+abbrev pub lists_in : Result (Bor (List ℕ) × Bor (List ℕ)) Error → Result (List ℕ × List ℕ) Error
+lists_in (Ok l) = Ok (l.0.now, l.1.now)
+lists_in (Err error) = Err error
+
+-- and with the record
 abbrev pub held_in : Result Lent Error → Result Record Error
 held_in (Ok r) = Ok (held r)
 held_in (Err error) = Err error

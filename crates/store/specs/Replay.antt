@@ -4,26 +4,22 @@
 --   EachPlace, EachLetter   what a change makes of each place, of each letter
 --   part_read, LettersRead   what the payload of a commit's part says of its places, of its positions
 --   outranks     an event against what a place holds
---   range_right   a form whose header, if any, is in range
---   EmptyTable   a table that says which blocks are empty
 --   above_of      a page of a block whose whole or torn N or D header is above a sequence
 --   Passed       what some pages in a row make of it
 --   Replayed     what the whole pass leaves
-use Rattle.std.specs.Prelude.{ℕ, ◌*◌, ◌-◌, ◌<◌, ◌/◌, max, ◌≡◌, Bool, true, false, cond, ◌&&◌, ◌||◌, List, get_or, eqb, leb, ltb}
+use Rattle.std.specs.Prelude.{ℕ, ◌*◌, ◌-◌, ◌<◌, ◌/◌, max, ◌≡◌, Bool, false, cond, ◌&&◌, ◌||◌, List, get_or, eqb, leb, ltb}
 use Rattle.base.specs.Part.{part}
 use Rattle.base.specs.Search.{any_from, highest_from}
 use Rattle.base.specs.Fold.{fold_from, list_from}
 use Rattle.page.specs.Frame.{payload_size}
 use Rattle.page.specs.Plan.{places}
-use Rattle.page.specs.Header.{in_range}
 use Rattle.page.specs.Key.{positions}
 use Rattle.page.specs.Entry.{free_letter, deleted_letter, entry_size, entry_of}
-use Rattle.page.specs.declared.Form.{Form}
-use Rattle.page.specs.declared.Form.TheVariants.{Empty, Whole, Torn, Spoilt}
 use Rattle.image.specs.Size.{pages_in_block, most_blocks, blocks, pages}
-use Rattle.image.specs.Look.{block_empty, form_at}
+use Rattle.image.specs.Look.{form_at}
 use Rattle.store.specs.Record.{page_of, key_of}
 use Rattle.store.specs.Mount.{Decision, by_entry, decide_by, spends, sequence_of, unused_letter, mount_map, mount_scratch, covered_in, has_above}
+use Rattle.store.specs.declared.replay.Seen.{Seen}
 
 -- map, letters and scratch, for each block whether an event above the covered sequence was seen there, and the highest sequence so far
 pub record Pass : Type 0 where
@@ -33,9 +29,9 @@ pub record Pass : Type 0 where
   pub events : List Bool
   pub highest : ℕ
 
-abbrev pub pass : List ℕ → List ℕ → List ℕ → List Bool → ℕ → Pass
-pass map letters scratch events highest =
-    record { map = map; letters = letters; scratch = scratch; events = events; highest = highest }
+abbrev pub pass : List ℕ → List ℕ → List ℕ → Seen → Pass
+pass map letters scratch seen =
+    record { map = map; letters = letters; scratch = scratch; events = seen.events; highest = seen.highest }
 
 -- what map and scratch hold of place x
 abbrev pub held_at : List ℕ → List ℕ → ℕ → Decision
@@ -62,17 +58,6 @@ LettersRead payload letters =
 -- an event's decision against what a place holds: ties to the event, which stands on the higher page
 abbrev pub outranks : Decision → Decision → Decision
 outranks event held = cond (leb held.sequence event.sequence) event held
-
--- the header of a form, if it has one, is in range
-abbrev pub range_right : Form → Bool
-range_right Empty = true
-range_right (Whole f) = in_range f
-range_right (Torn f) = in_range f
-range_right Spoilt = true
-
--- a table that says of each block of an image whether it is empty
-pub record EmptyTable (img : List ℕ) (table : List Bool) : Type 0 where
-  pub told : (b : ℕ) → b < blocks img → get_or table b false ≡ block_empty img b
 
 -- page g is a whole or torn N or D page of block b, above sequence s
 abbrev pub above_of : List ℕ → ℕ → ℕ → ℕ → Bool

@@ -9,6 +9,7 @@ use Rattle.store.specs.Find.{found_at}
 use Rattle.store.specs.Mount.{rank_of, foremost, covered_in, epoch_of}
 use Rattle.store.specs.declared.Kind.{Kind}
 use Rattle.store.specs.declared.Numbers.{Numbers}
+use Rattle.store.specs.declared.mount.Chosen.{Chosen}
 use Rattle.store.specs.declared.survey.Best.{Best}
 use Rattle.store.specs.declared.survey.Survey.{Survey}
 
@@ -62,6 +63,10 @@ survey_next s b k =
 -- ---- the blocks that can be whole: those that begin with K or C
 abbrev pub is_lettered : List ℕ → ℕ → Bool
 is_lettered img b = is_block_letter (letter_at img (b * pages_in_block))
+
+-- ---- the blocks found
+abbrev pub blocks_found : Survey → Chosen
+blocks_found s = record { commit = found_at s.commit.at; keys0 = found_at s.keys0.at; keys1 = found_at s.keys1.at }
 
 -- ---- the record's numbers: one above the highest sequence and epoch, and the chosen blocks
 unfoldable pub survey_numbers : Survey → ℕ → Numbers

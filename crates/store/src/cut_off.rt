@@ -7,9 +7,8 @@ ghost use Rattle.store.specs.Find.{new_page, found_at};
 ghost use Rattle.store.specs.CutOff.{cut_off_tests, cut_off_leaves};
 ghost use Rattle.store.specs.Taken.{CutOffTaken};
 
-use crate::{Answer, ENOUGH, Error, Numbers, find, fit, record, replies, tests};
-use image::{Power, steps};
-use page::headers::LAST_NUMBER;
+use crate::{Answer, ENOUGH, Error, Numbers, find, record, replies, stages, tests};
+use image::steps;
 use page::keys::Letters;
 use page::plan::Map;
 
@@ -27,15 +26,11 @@ fn test_cut_off(
 {
     let lent = tests::lent(image, map, letters, numbers)?;
     tests::refuse_plan(file, offset)?;
-    if !fit::fits(image, lent) {
-        return Err(Error::RecordUnfit);
-    }
+    tests::refuse_unfit(image, lent)?;
     if !record::any_live(lent.map, file, offset) {
         return Err(Error::NothingThere);
     }
-    if LAST_NUMBER < numbers.sequence {
-        return Err(Error::NumbersSpent);
-    }
+    tests::refuse_spent(numbers)?;
     find::new_page(image, numbers, None).ok_or(Error::NoRoom)
 }
 
@@ -62,17 +57,10 @@ fn cut_off_taken(
         numbers.sequence,
         file,
         offset,
-        Power {
-            steps: n,
-            bytes: k,
-            on: true,
-        },
+        stages::power_for(n, k),
     );
     record::remove(map, letters, file, offset);
-    Answer {
-        reply: replies::taken(power),
-        numbers: numbers.next_sequence(),
-    }
+    replies::taken(power, numbers.next_sequence())
 }
 
 // A cut-off of which the power lasts for n steps and the first k bytes of the next.

@@ -1,11 +1,11 @@
 // The searches: the lowest free key position, and the page to take, a block being left out of the search or none.
-ghost use Rattle.std.specs.Prelude.{◌≡◌, true, ◌≤◌, ◌<◌, ◌+◌, ◌*◌, ◌-◌, length};
-ghost use Rattle.base.specs.Search.{first_from, all_from, found};
+ghost use Rattle.std.specs.Prelude.{◌≡◌, true, ◌≤◌, ◌<◌, ◌+◌, ◌*◌, ◌-◌, length, None, MatchOption};
+ghost use Rattle.base.specs.Search.{first_from, all_from};
 ghost use Rattle.image.specs.Size.{block_size, pages_in_block, pages, blocks, size_right};
 ghost use Rattle.image.specs.Look.{page_empty};
 ghost use Rattle.store.specs.Kind.{page_in};
-ghost use Rattle.store.specs.Find.{lowest_free, is_open, fresh_page, new_page_but};
-ghost use Rattle.store.specs.Targets.{is_left_out, open_page_from, new_page_from, page_after};
+ghost use Rattle.store.specs.Find.{lowest_free, fresh_page, new_page_but};
+ghost use Rattle.store.specs.Targets.{is_left_out, has_open, open_page_from, OpenIn, new_page_from, page_after};
 
 use crate::{Numbers, kinds};
 use image::look;
@@ -36,20 +36,13 @@ fn empty_from(image: &[u8], b: usize) -> usize
     0
 }
 
-// The lowest open page of block b, counted in the block. A block whose last page is taken has none.
-fn open_in(image: &[u8], numbers: Numbers, b: usize) -> Option<usize>
+// Whether block b has an open page. A block whose last page is taken has none.
+fn has_open(image: &[u8], numbers: Numbers, b: usize) -> bool
     requires { b * block_size + block_size ≤ length image.now }
-    ensures { result
-        ≡ found pages_in_block (first_from (λ i. is_open image.now numbers (page_in b i)) pages_in_block 0) }
+    ensures { result ≡ has_open image.now numbers b }
 {
     let last = b * PAGES_IN_BLOCK + (PAGES_IN_BLOCK - 1);
-    if !look::page_empty(image, last) {
-        return None;
-    }
-    if !kinds::is_data(image, numbers, b) {
-        return None;
-    }
-    Some(empty_from(image, b))
+    look::page_empty(image, last) && kinds::is_data(image, numbers, b)
 }
 
 // Whether a search leaves block b out.
@@ -59,20 +52,22 @@ fn is_left_out(but: Option<usize>, b: usize) -> bool
     but == Some(b)
 }
 
+// The first block from one on that has an open page, outside the block that is left out.
+fn open_block(image: &[u8], numbers: Numbers, but: Option<usize>, from: usize) -> Option<usize>
+    requires { (size_right image.now ≡ true) × (from ≤ blocks image.now) }
+    ensures { MatchOption result (open_page_from but image.now numbers from ≡ None)
+        (λ b. OpenIn but image.now numbers from b) }
+{
+    (from..look::blocks(image)).find(|b| !is_left_out(but, *b) && has_open(image, numbers, *b))
+}
+
 // The lowest open page outside the block that is left out, block by block from one on.
-// Stays (6): a closure for find_map would have to say anew which blocks it is called with, and on what image.
 fn open_page(image: &[u8], numbers: Numbers, but: Option<usize>, from: usize) -> Option<usize>
     requires { (size_right image.now ≡ true) × (from ≤ blocks image.now) }
     ensures { result ≡ open_page_from but image.now numbers from }
 {
-    for b in from..look::blocks(image) {
-        if !is_left_out(but, b) {
-            if let Some(i) = open_in(image, numbers, b) {
-                return Some(b * PAGES_IN_BLOCK + i);
-            }
-        }
-    }
-    None
+    let b = open_block(image, numbers, but, from)?;
+    Some(b * PAGES_IN_BLOCK + empty_from(image, b))
 }
 
 // A fresh block's first page, where another block stays empty.

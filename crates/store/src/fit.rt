@@ -1,5 +1,5 @@
 // Whether a working record fits the image. Each page that the map names is looked at once.
-ghost use Rattle.std.specs.Prelude.{◌≡◌, true, not, ◌&&◌, ℕ, ◌≤◌, ◌<◌, ◌+◌, ◌%◌, min, length, get_or, set, replicate, eqb, leb, ltb};
+ghost use Rattle.std.specs.Prelude.{◌≡◌, true, not, ◌&&◌, ℕ, ◌≤◌, ◌<◌, ◌+◌, ◌%◌, length, get_or, set, replicate, eqb, leb, ltb};
 ghost use Rattle.std.specs.Bool.{beq};
 ghost use Rattle.base.specs.Search.{all_from};
 ghost use Rattle.page.specs.Column.{spell};
@@ -47,10 +47,7 @@ fn is_keys(image: &[u8], b: u32, q: u32) -> bool
     requires { length image.now % block_size ≡ 0 }
     ensures { result ≡ ltb 0 (keys_epoch q (kind_of image.now b)) }
 {
-    match kinds::kind_of(image, b as usize) {
-        Kind::Keys(unit, _) => unit == q,
-        _ => false,
-    }
+    matches!(kinds::kind_of(image, b as usize), Kind::Keys(unit, _) if unit == q)
 }
 
 // Whether block b is a whole commit block.
@@ -58,10 +55,7 @@ fn is_commit(image: &[u8], b: u32) -> bool
     requires { length image.now % block_size ≡ 0 }
     ensures { result ≡ ltb 0 (commit_epoch (kind_of image.now b)) }
 {
-    match kinds::kind_of(image, b as usize) {
-        Kind::Commit(_, _) => true,
-        _ => false,
-    }
+    matches!(kinds::kind_of(image, b as usize), Kind::Commit(_, _))
 }
 
 // Whether the record's blocks are whole and of their kind.
@@ -145,7 +139,7 @@ pub fn place_fits(image: &[u8], map: &Map, x: usize) -> bool
 }
 
 // Whether the run of places from x on is vacant.
-fn run_vacant(map: &Map, x: usize) -> bool
+pub fn is_vacant_run(map: &Map, x: usize) -> bool
     requires { x + run_length ≤ places }
     ensures { result ≡ all_from (vacant_at map.now) run_length x }
 {
@@ -153,25 +147,6 @@ fn run_vacant(map: &Map, x: usize) -> bool
         & entries::all_none(map, x + 4)
         & entries::all_none(map, PLACES + x)
         & entries::all_none(map, PLACES + x + 4)
-}
-
-// Where the run from x on ends, at end at the latest.
-pub fn run_end(x: usize, end: usize) -> usize
-    requires { (x ≤ end) × (end ≤ places) }
-    ensures { result ≡ min (x + run_length) end }
-{
-    (x + RUN_LENGTH).min(end)
-}
-
-// Whether the places from x to end are a whole run, and vacant.
-pub fn is_vacant_run(map: &Map, x: usize, end: usize) -> bool
-    requires { (x ≤ end) × (end ≤ places) }
-    ensures { result ≡ eqb end (x + run_length) && all_from (vacant_at map.now) run_length x }
-{
-    if end != x + RUN_LENGTH {
-        return false;
-    }
-    run_vacant(map, x)
 }
 
 // Marks the position of a key in a table; false where it has this mark. A key that is none has no position.
@@ -192,6 +167,7 @@ pub fn mark_key(table: &mut [u8; POSITIONS], key: u16, mark: u8) -> bool
 }
 
 // The mark of a position that is named.
+// Stays (1): `mark_key` marks letters by the same steps, and the definitions count in numbers how often a key is named.
 const NAMED: u8 = 1;
 
 // Whether place x of a file fits and its key was not named before; the key is named.
@@ -221,7 +197,7 @@ fn pass_place(
     mark_key(named, key, NAMED)
 }
 
-// Whether the places of a file from a place to end fit and name no key again; their keys are named.
+// Whether the places of a run of a file fit and name no key again; their keys are named.
 fn run_fits(
     image: &[u8],
     map: &Map,
@@ -229,15 +205,14 @@ fn run_fits(
     file: u32,
     first: usize,
     from: usize,
-    end: usize,
 ) -> bool
     requires { (length image.now % block_size ≡ 0)
-        × InFile file first from end × Tested image.now map.now named.old from }
-    ensures { Testing image.now map.now named.new end result }
+        × InFile file first from (from + run_length) × Tested image.now map.now named.old from }
+    ensures { Testing image.now map.now named.new (from + run_length) result }
 {
     let text = columns::spelt4(file);
     let known = second_columns(image, map[from]);
-    for x in from..end {
+    for x in from..from + RUN_LENGTH {
         if !pass_place(image, map, named, file, text, first, x, known) {
             return false;
         }
@@ -245,7 +220,7 @@ fn run_fits(
     true
 }
 
-// The same, at once where the places are a whole run and vacant.
+// The same, at once where the run is vacant.
 fn pass_run(
     image: &[u8],
     map: &Map,
@@ -253,19 +228,20 @@ fn pass_run(
     file: u32,
     first: usize,
     from: usize,
-    end: usize,
 ) -> bool
     requires { (length image.now % block_size ≡ 0)
-        × InFile file first from end × Tested image.now map.now named.old from }
-    ensures { Testing image.now map.now named.new end result }
+        × InFile file first from (from + run_length) × Tested image.now map.now named.old from }
+    ensures { Testing image.now map.now named.new (from + run_length) result }
 {
-    if is_vacant_run(map, from, end) {
+    if is_vacant_run(map, from) {
         return true;
     }
-    run_fits(image, map, named, file, first, from, end)
+    run_fits(image, map, named, file, first, from)
 }
 
-// Whether the places of a file fit and name no key again; their keys are named.
+// Whether the places of a file, which are whole runs, fit and name no key again; their keys are named.
+// Stays (2): the passes over the runs of all places, here and of a mount and a commit, are four loops of one shape, and a
+// closure for the run would write what it captures, of which a proof learns nothing after a call.
 fn file_fits(image: &[u8], map: &Map, named: &mut [u8; POSITIONS], file: u32) -> bool
     requires { (length image.now % block_size ≡ 0)
         × (file ≤ last_file) × Tested image.now map.now named.old (start_of file_plan file) }
@@ -274,7 +250,7 @@ fn file_fits(image: &[u8], map: &Map, named: &mut [u8; POSITIONS], file: u32) ->
     let first = plan::start(file) as usize;
     let end = first + plan::count(file) as usize;
     for x in (first..end).step_by(RUN_LENGTH) {
-        if !pass_run(image, map, named, file, first, x, run_end(x, end)) {
+        if !pass_run(image, map, named, file, first, x) {
             return false;
         }
     }
@@ -302,16 +278,16 @@ fn letter_fits(l: u8, named: u8) -> bool
     entries::is_letter(l) & ((l == entries::USED) == (1 <= named))
 }
 
-// Whether every letter is one, and u stands at exactly the positions that are named.
+// Whether every letter is one, and u stands at exactly the positions that are named. The fold goes on to the end, so that
+// it goes over many letters at once.
 fn letters_fit(letters: &Letters, named: &[u8; POSITIONS]) -> bool
     ensures { result ≡ all_from (λ p. is_letter (get_or letters.now p 0) && beq
         (eqb (get_or letters.now p 0) used_letter) (leb 1 (get_or named.now p 0))) positions 0 }
 {
-    let mut all = true;
-    for (letter, times) in letters.iter().zip(named) {
-        all &= letter_fits(*letter, *times);
-    }
-    all
+    letters.iter().zip(named).fold(
+        true,
+        |all, (letter, times)| all & letter_fits(*letter, *times),
+    )
 }
 
 // Whether the record fits.

@@ -8,7 +8,7 @@ ghost use Rattle.store.specs.Outcome.{left, left_whole, standing};
 ghost use Rattle.store.specs.Format.{format_tests, format_numbers, formatted, format_steps, format_leaves};
 ghost use Rattle.store.specs.Taken.{FormatTaken};
 
-use crate::{Answer, ENOUGH, Error, Numbers, replies, tests};
+use crate::{Answer, ENOUGH, Error, Numbers, replies, stages, tests};
 use image::{Power, blocks};
 use page::keys::{Letters, Noise};
 use page::plan::Map;
@@ -78,7 +78,7 @@ fn program_volume(image: &mut [u8], map: &Map, letters: &Letters, noise: &Noise,
 fn refuse_format(image: &[u8], map: &[u16], letters: &[u8], noise: &[u8]) -> Result<(), Error>
     ensures { result ≡ verdict (format_tests image.now map.now letters.now noise.now) }
 {
-    tests::lent(image, map, letters, Numbers::none())?;
+    tests::lists(image, map, letters)?;
     tests::refuse_noise(noise)
 }
 
@@ -97,21 +97,8 @@ fn format_taken(
 {
     clear_map(map);
     bytes::fill(letters, entries::FREE);
-    let power = program_volume(
-        image,
-        map,
-        letters,
-        noise,
-        Power {
-            steps: n,
-            bytes: k,
-            on: true,
-        },
-    );
-    Answer {
-        reply: replies::taken(power),
-        numbers: first_numbers(),
-    }
+    let power = program_volume(image, map, letters, noise, stages::power_for(n, k));
+    replies::taken(power, first_numbers())
 }
 
 // A format of which the power lasts for n steps and the first k bytes of the next.

@@ -1,5 +1,5 @@
 // Gather: the live pages of one data block are copied out of it. Where each copy goes is found before the first is made.
-ghost use Rattle.std.specs.Prelude.{◌≡◌, ◌≢◌, true, cond, ◌&&◌, [], ℕ, ◌≤◌, ◌<◌, ◌+◌, ◌*◌, ◌/◌, ◌%◌, eqb, ltb, length, set, count_by, Some, MatchOption};
+ghost use Rattle.std.specs.Prelude.{◌≡◌, ◌≢◌, true, cond, ◌&&◌, [], ℕ, ◌≤◌, ◌<◌, ◌+◌, ◌*◌, ◌/◌, ◌%◌, eqb, ltb, length, set, count_by, is_some, Some, MatchOption, ⊤};
 ghost use Rattle.page.specs.Frame.{page_size};
 ghost use Rattle.page.specs.declared.Frame.{Frame as HeaderFrame};
 ghost use Rattle.page.specs.Plan.{places};
@@ -12,9 +12,8 @@ ghost use Rattle.image.specs.Step.{program};
 ghost use Rattle.image.specs.Power.{device, act};
 ghost use Rattle.store.specs.Record.{record_of, held};
 ghost use Rattle.store.specs.Outcome.{left, left_whole, standing};
-ghost use Rattle.store.specs.Find.{new_page_but};
 ghost use Rattle.store.specs.Gather.{live_pages, copy_of, gather_leaves};
-ghost use Rattle.store.specs.Targets.{pages_from, targets, PlacesIn, Begins, Tried};
+ghost use Rattle.store.specs.Targets.{next_target, targets, PlacesIn, Moved, MovesIn, Tried};
 ghost use Rattle.store.specs.Taken.{Ready, GatherTaken};
 
 use crate::stages::Progress;
@@ -24,36 +23,33 @@ use image::{Power, look, steps};
 use page::headers::LAST_NUMBER;
 use page::keys::Letters;
 use page::plan::{Map, PLACES};
-use page::{Form, Frame, bytes, entries};
+use page::{Form, entries};
 
-// What the tests of a gather find.
-#[derive(Clone, Copy)]
-struct Moves {
-    // For each page of the block its place, the number of places where it is not live.
-    at: [u8; PAGES_IN_BLOCK],
-    // The pages of the copies, in order, and then what is not used.
-    to: [u16; PAGES_IN_BLOCK],
-}
+// For each page of a block the place that has it, if it is live.
+type Places = [Option<u8>; PAGES_IN_BLOCK];
+
+// For each page of a block its place and the page of its copy, if it is live.
+type Moves = [Option<(u8, u16)>; PAGES_IN_BLOCK];
 
 // Notes place x at its page, where that stands in the block.
-fn note_place(at: &mut [u8; PAGES_IN_BLOCK], page: u16, block: usize, x: usize)
+fn note_place(at: &mut Places, page: u16, block: usize, x: usize)
     requires { x < places }
     ensures { at.new
-        ≡ cond (ltb page none && eqb (page / pages_in_block) block) (set at.old (page % pages_in_block) x) at.old }
+        ≡ cond (ltb page none && eqb (page / pages_in_block) block) (set at.old (page % pages_in_block) (Some x)) at.old }
 {
     if page == entries::NONE {
         return;
     }
     if page as usize / PAGES_IN_BLOCK == block {
-        at[page as usize % PAGES_IN_BLOCK] = x as u8;
+        at[page as usize % PAGES_IN_BLOCK] = Some(x as u8);
     }
 }
 
-// For each page of a block the lowest place that has it; the number of places where none has.
-fn note_places(map: &Map, block: usize) -> [u8; PAGES_IN_BLOCK]
+// For each page of a block the lowest place that has it.
+fn note_places(map: &Map, block: usize) -> Places
     ensures { PlacesIn map.now block result }
 {
-    let mut at = [PLACES as u8; PAGES_IN_BLOCK];
+    let mut at = [None; PAGES_IN_BLOCK];
     for x in (0..PLACES).rev() {
         note_place(&mut at, map[x], block, x);
     }
@@ -61,50 +57,40 @@ fn note_places(map: &Map, block: usize) -> [u8; PAGES_IN_BLOCK]
 }
 
 // How many pages of a block have a place.
-fn count_live(at: &[u8; PAGES_IN_BLOCK]) -> usize
-    ensures { result ≡ count_by (λ x. ltb x places) at.now }
+fn count_live(at: &Places) -> usize
+    ensures { result ≡ count_by is_some at.now }
 {
-    at.iter().filter(|x| (**x as usize) < PLACES).count()
+    at.iter().filter(|place| place.is_some()).count()
 }
 
-// The pages that n copies out of a block take in turn, the first of which is g, where there are so many.
-fn find_after(
-    image: &[u8],
-    numbers: Numbers,
-    block: usize,
-    g: usize,
-    n: usize,
-) -> Option<[u16; PAGES_IN_BLOCK]>
-    requires image_value { size_right image.now ≡ true }
-    requires le_n { (1 ≤ n) × (n ≤ pages_in_block) × (new_page_but (Some block) image.now numbers ≡ Some g) }
-    ensures { MatchOption result (length (targets block image.now numbers n) ≢ n)
-        (λ to. Begins to (targets block image.now numbers n) × (length (targets block image.now numbers n) ≡ n)) }
+// The page that the next copy out of a block takes: after the page that the last one took, if there was one.
+fn next_target(image: &[u8], numbers: Numbers, block: usize, last: Option<usize>) -> Option<usize>
+    requires { (size_right image.now ≡ true) × MatchOption last ⊤ (λ g. g < pages image.now) }
+    ensures { result ≡ next_target block image.now numbers last }
 {
-    let mut to = [0u16; PAGES_IN_BLOCK];
-    to[0] = g as u16;
-    let mut last = g;
-    for j in 1..n {
-        let h = find::page_after(image, numbers, Some(block), last)?;
-        to[j] = h as u16;
-        last = h;
+    match last {
+        Some(g) => find::page_after(image, numbers, Some(block), g),
+        None => find::new_page(image, numbers, Some(block)),
     }
-    Some(to)
 }
 
-// The pages that n copies out of a block take, where there are so many.
-fn find_targets(
-    image: &[u8],
-    numbers: Numbers,
-    block: usize,
-    n: usize,
-) -> Option<[u16; PAGES_IN_BLOCK]>
-    requires image_value { size_right image.now ≡ true }
-    requires le_n { (1 ≤ n) × (n ≤ pages_in_block) }
-    ensures { MatchOption result (length (targets block image.now numbers n) ≢ n)
-        (λ to. Begins to (targets block image.now numbers n) × (length (targets block image.now numbers n) ≡ n)) }
+// The place of each live page and the page that its copy takes, where there is one for each.
+fn find_moves(image: &[u8], numbers: Numbers, block: usize, at: &Places) -> Option<Moves>
+    requires { size_right image.now ≡ true }
+    ensures { let n = count_by is_some at.now in
+        MatchOption result (length (targets block image.now numbers n) ≢ n)
+        (λ moves. Moved at.now (targets block image.now numbers n) moves × (length (targets block image.now numbers n) ≡ n)) }
 {
-    let g = find::new_page(image, numbers, Some(block))?;
-    find_after(image, numbers, block, g, n)
+    let mut moves = [None; PAGES_IN_BLOCK];
+    let mut last = None;
+    for (i, place) in at.iter().enumerate() {
+        if let Some(x) = *place {
+            let to = next_target(image, numbers, block, last)?;
+            moves[i] = Some((x, to as u16));
+            last = Some(to);
+        }
+    }
+    Some(moves)
 }
 
 // The tests of a block to gather, in order, of a record that fits. Where all are passed they have found its moves.
@@ -120,10 +106,7 @@ fn test_block(image: &[u8], lent: Lent, block: usize) -> Result<Moves, Error>
     if LAST_NUMBER + 1 < lent.numbers.sequence + n as u32 {
         return Err(Error::NumbersSpent);
     }
-    let Some(to) = find_targets(image, lent.numbers, block, n) else {
-        return Err(Error::NoRoom);
-    };
-    Ok(Moves { at, to })
+    find_moves(image, lent.numbers, block, &at).ok_or(Error::NoRoom)
 }
 
 // The tests of a gather, in order. Where all are passed they have found its moves.
@@ -152,8 +135,7 @@ fn copy_page(image: &mut [u8], from: usize, to: usize, sequence: u32, p: Power) 
     };
     let mut header = f;
     header.number = sequence;
-    let mut payload = [0u8; Frame::PAYLOAD];
-    bytes::copy(&mut payload, look::payload_at(image, from));
+    let payload = *look::payload_at(image, from);
     steps::program_page(image, to, header, &payload, p)
 }
 
@@ -183,7 +165,6 @@ fn move_page(
 }
 
 // Gathers a block, once the tests are passed: its live pages, lowest first, each to the page that was found for it.
-// Stays (3): without the count the loop goes over `at.iter().enumerate().filter(..).zip(to.iter())`, which is no plainer.
 fn gather_taken(
     image: &mut [u8],
     map: &mut Map,
@@ -195,19 +176,15 @@ fn gather_taken(
     k: usize,
 ) -> Answer
     requires gather_taken { GatherTaken image.old (record_of map.old letters.now numbers) block }
-    requires places_in { PlacesIn map.old block moves.at
-        × Begins moves.to (targets block image.old numbers (length (live_pages map.old block))) }
+    requires moves_in { MovesIn map.old block (targets block image.old numbers (length (live_pages map.old block))) moves }
     ensures { standing result image.new map.new letters.now []
         ≡ gather_leaves (left n k) image.old map.old letters.now numbers block }
 {
     let mut p = stages::begin(numbers, n, k);
-    let mut j: usize = 0;
-    for (i, place) in moves.at.iter().enumerate() {
-        let x = *place as usize;
-        if x < PLACES {
-            let to = moves.to[j] as usize;
-            p = move_page(image, map, block * PAGES_IN_BLOCK + i, to, x, p);
-            j += 1;
+    for (i, found) in moves.iter().enumerate() {
+        if let Some((x, to)) = *found {
+            let from = block * PAGES_IN_BLOCK + i;
+            p = move_page(image, map, from, to as usize, x as usize, p);
         }
     }
     stages::answer(p)

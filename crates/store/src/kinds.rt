@@ -1,5 +1,5 @@
 // Block kinds: whole key blocks, whole commit blocks, data blocks.
-ghost use Rattle.std.specs.Prelude.{◌≡◌, true, cond, ◌≤◌, ◌<◌, ◌+◌, ◌*◌, ◌-◌, ◌%◌, length};
+ghost use Rattle.std.specs.Prelude.{◌≡◌, true, ◌≤◌, ◌<◌, ◌+◌, ◌*◌, ◌-◌, ◌%◌, length};
 ghost use Rattle.base.specs.Search.{all_from};
 ghost use Rattle.page.specs.Frame.{page_size};
 ghost use Rattle.page.specs.declared.Frame.{Frame as HeaderFrame};
@@ -9,7 +9,7 @@ ghost use Rattle.page.specs.Entry.{parts, valid_payload};
 ghost use Rattle.page.specs.Page.{payload_of};
 ghost use Rattle.image.specs.Size.{block_size, pages_in_block};
 ghost use Rattle.image.specs.Look.{page_at, page_empty, form_at};
-ghost use Rattle.store.specs.Kind.{page_in, whole_with, key_block_whole, part_whole, is_block_letter, kind_by, kind_of, keys_epoch, commit_epoch, covered_by, headed, has_events, is_chosen, is_data};
+ghost use Rattle.store.specs.Kind.{page_in, whole_with, key_block_whole, part_whole, is_block_letter, kind_by, kind_of, headed, has_events, is_chosen, is_data};
 
 use crate::{Kind, Numbers};
 use image::look;
@@ -78,28 +78,19 @@ fn part_whole(image: &[u8], b: usize, i: usize, e: u32, s: u32) -> bool
     payload_valid(image, b * PAGES_IN_BLOCK + i, i)
 }
 
-// The same of page 0, which is whole with header f.
-// Stays (2): only this one tests the header; the other compares page i with page 0, here with itself.
-fn first_part_whole(image: &[u8], b: usize, f: Frame) -> bool
-    requires { (b * block_size + block_size ≤ length image.now) × (form_at image.now (page_in b 0) ≡ Form.Whole f) }
-    ensures { result ≡ part_whole image.now b f.number f.second 0 }
-{
-    if f != Frame::commit(f.number, 0, f.second) {
-        return false;
-    }
-    payload_valid(image, b * PAGES_IN_BLOCK, 0)
-}
-
 // Whether block b, whose page 0 is whole with header f, has the whole parts of a commit.
 fn parts_whole(image: &[u8], b: usize, f: Frame) -> bool
     requires { (b * block_size + block_size ≤ length image.now) × (form_at image.now (page_in b 0) ≡ Form.Whole f) }
     ensures { result ≡ all_from (part_whole image.now b f.number f.second) parts 0 }
 {
-    if !first_part_whole(image, b, f) {
-        return false;
-    }
     let e = f.number;
     let s = f.second;
+    if f != Frame::commit(e, 0, s) {
+        return false;
+    }
+    if !payload_valid(image, b * PAGES_IN_BLOCK, 0) {
+        return false;
+    }
     for part in 1..PARTS {
         if !part_whole(image, b, part, e, s) {
             return false;
@@ -171,58 +162,11 @@ pub fn kind_of(image: &[u8], b: usize) -> Kind
     }
 }
 
-// The epoch of a whole key block q, 0 where it is none.
-// Stays (1): `foremost` and `epoch_of` rank the blocks by it, and no epoch is 0 (`within 1 last_number`).
-pub fn keys_epoch(kind: Kind, q: u32) -> u32
-    ensures { result ≡ keys_epoch q kind }
-{
-    match kind {
-        Kind::Keys(unit, epoch) => if unit == q { epoch } else { 0 },
-        Kind::Commit(_, _) => 0,
-        Kind::Other => 0,
-    }
-}
-
-// The epoch of a whole commit block, 0 where it is none.
-// Stays (1): as for a key block.
-pub fn commit_epoch(kind: Kind) -> u32
-    ensures { result ≡ commit_epoch kind }
-{
-    match kind {
-        Kind::Keys(_, _) => 0,
-        Kind::Commit(epoch, _) => epoch,
-        Kind::Other => 0,
-    }
-}
-
-// The sequence that a whole commit block covers, 0 where it is none.
-// Stays (1): the next sequence is one above the highest of it and those of the pages, and a new volume covers 0.
-pub fn covered_by(kind: Kind) -> u32
-    ensures { result ≡ covered_by kind }
-{
-    match kind {
-        Kind::Keys(_, _) => 0,
-        Kind::Commit(_, covered) => covered,
-        Kind::Other => 0,
-    }
-}
-
 // Whether a kind letter is N or D.
 pub fn is_event_letter(kind: u8) -> bool
     ensures { result ≡ is_event_letter kind }
 {
     (kind == Frame::NODE_LETTER) | (kind == Frame::CUT_OFF_LETTER)
-}
-
-// The sequence of an N or D header, 0 of any other.
-// Stays (1): `sequence_of` is a number of which the highest is taken, and no sequence is 0 (`within 1 last_number`).
-pub fn event_number(f: Frame) -> u32
-    ensures { result ≡ cond (is_event_letter f.kind) f.number 0 }
-{
-    if is_event_letter(f.kind) {
-        return f.number;
-    }
-    0
 }
 
 // Whether a page is a whole or torn N or D page.

@@ -29,6 +29,7 @@ use page::plan::Map;
 const ENOUGH: u64 = 1000;
 
 // The numbers of the working record: the next sequence and epoch, and the blocks of key block 0, key block 1 and the commit.
+// Stays (2): the two key blocks are two fields, since the definitions and C name all five numbers.
 #[derive(Clone, Copy)]
 pub struct Numbers {
     pub sequence: u32,

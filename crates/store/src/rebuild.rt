@@ -1,20 +1,18 @@
 // The working record that a mount makes: the pages are replayed, the deciding entries are tested, and the letters of
 // the positions that are named become u.
-ghost use Rattle.std.specs.Prelude.{◌≡◌, true, false, cond, not, ◌||◌, ℕ, ◌≤◌, ◌<◌, ◌-◌, ◌%◌, length, get_or, set, replicate, eqb, leb};
+ghost use Rattle.std.specs.Prelude.{◌≡◌, true, false, cond, not, ◌||◌, ℕ, ◌≤◌, ◌<◌, ◌+◌, ◌%◌, length, get_or, eqb, leb, MatchOption};
 ghost use Rattle.base.specs.Search.{all_from};
 ghost use Rattle.base.specs.Fold.{list_from};
 ghost use Rattle.page.specs.Plan.{places};
 ghost use Rattle.page.specs.Key.{positions};
 ghost use Rattle.page.specs.Entry.{used_letter};
-ghost use Rattle.image.specs.Size.{block_size, most_blocks, size_right};
+ghost use Rattle.image.specs.Size.{block_size, size_right};
 ghost use Rattle.store.specs.Kind.{kind_of};
 ghost use Rattle.store.specs.Record.{map_size, place_fits, named_times, keys_apart};
-ghost use Rattle.store.specs.Testing.{Tallied};
-ghost use Rattle.store.specs.Replay.{EmptyTable};
-ghost use Rattle.store.specs.Rebuild.{Rebuilding, rebuilt_of, Cleared, mount_fits, marks, Marked};
+ghost use Rattle.store.specs.Testing.{run_length, Tallied};
+ghost use Rattle.store.specs.Rebuild.{Rebuilding, Cleared, mount_fits, marks, Marked};
 
-use crate::kinds::Marks;
-use crate::replay::Scratch;
+use crate::replay::{Scratch, Seen};
 use crate::{Kind, fit, format, replay};
 use page::keys::{Letters, POSITIONS};
 use page::plan::{Map, PLACES};
@@ -31,16 +29,16 @@ fn entry_fits(image: &[u8], map: &Map, x: usize, sequence: u32) -> bool
     fit::place_fits(image, map, x)
 }
 
-// Whether every place from one to end fits whose entry decides. A vacant run fits as a whole.
-fn run_entries_fit(image: &[u8], map: &Map, scratch: &Scratch, from: usize, end: usize) -> bool
-    requires { (length image.now % block_size ≡ 0) × (from ≤ end) × (end ≤ places) }
+// Whether every place of a run fits whose entry decides. A vacant run fits as a whole.
+fn run_entries_fit(image: &[u8], map: &Map, scratch: &Scratch, from: usize) -> bool
+    requires { (length image.now % block_size ≡ 0) × (from + run_length ≤ places) }
     ensures { result ≡ all_from (λ x. not (eqb (get_or scratch.now x 0) 0)
-        || place_fits image.now map.now x) (end - from) from }
+        || place_fits image.now map.now x) run_length from }
 {
-    if fit::is_vacant_run(map, from, end) {
+    if fit::is_vacant_run(map, from) {
         return true;
     }
-    for x in from..end {
+    for x in from..from + fit::RUN_LENGTH {
         if !entry_fits(image, map, x, scratch[x]) {
             return false;
         }
@@ -49,29 +47,30 @@ fn run_entries_fit(image: &[u8], map: &Map, scratch: &Scratch, from: usize, end:
 }
 
 // Whether every place fits whose entry decides.
+// Stays (2): as `fit::file_fits`.
 fn entries_fit(image: &[u8], map: &Map, scratch: &Scratch) -> bool
     requires { length image.now % block_size ≡ 0 }
     ensures { result
         ≡ all_from (λ x. not (eqb (get_or scratch.now x 0) 0) || place_fits image.now map.now x) places 0 }
 {
     for x in (0..PLACES).step_by(fit::RUN_LENGTH) {
-        if !run_entries_fit(image, map, scratch, x, x + fit::RUN_LENGTH) {
+        if !run_entries_fit(image, map, scratch, x) {
             return false;
         }
     }
     true
 }
 
-// Makes the positions that the places from one to end name used; false where one was used before. A vacant run names none.
-fn use_run(map: &Map, letters: &mut Letters, from: usize, end: usize) -> bool
-    requires { (from ≤ end) × (end ≤ places) × Tallied map.now (marks letters.old) from }
-    ensures { (result ≡ true → Marked map.now letters.old letters.new end)
+// Makes the positions that the places of a run name used; false where one was used before. A vacant run names none.
+fn use_run(map: &Map, letters: &mut Letters, from: usize) -> bool
+    requires { (from + run_length ≤ places) × Tallied map.now (marks letters.old) from }
+    ensures { (result ≡ true → Marked map.now letters.old letters.new (from + run_length))
         × (result ≡ false → keys_apart map.now ≡ false) }
 {
-    if fit::is_vacant_run(map, from, end) {
+    if fit::is_vacant_run(map, from) {
         return true;
     }
-    for key in &map[PLACES + from..PLACES + end] {
+    for key in &map[PLACES + from..PLACES + from + fit::RUN_LENGTH] {
         if !fit::mark_key(letters, *key, entries::USED) {
             return false;
         }
@@ -80,13 +79,14 @@ fn use_run(map: &Map, letters: &mut Letters, from: usize, end: usize) -> bool
 }
 
 // Makes the positions that the map names used, where none was; whether no key is named twice.
+// Stays (2): as `fit::file_fits`.
 fn use_keys(map: &Map, letters: &mut Letters) -> bool
     requires { (p : ℕ) → p < positions → get_or letters.old p 0 ≡ used_letter → ⊥ }
     ensures { (result ≡ keys_apart map.now) × (result ≡ true → letters.new
         ≡ list_from (λ p. cond (leb 1 (named_times map.now p)) used_letter (get_or letters.old p 0)) positions 0) }
 {
     for x in (0..PLACES).step_by(fit::RUN_LENGTH) {
-        if !use_run(map, letters, x, x + fit::RUN_LENGTH) {
+        if !use_run(map, letters, x) {
             return false;
         }
     }
@@ -102,8 +102,7 @@ pub fn clear_record(map: &mut Map, letters: &mut Letters, scratch: &mut Scratch)
     replay::clear_scratch(scratch);
 }
 
-// Replays the pages over the commit in block c, then tests what it gives. The events then mark each
-// block where a whole or torn N or D page is above the covered sequence; the empties mark each empty block.
+// Replays the pages over the commit in block c, then tests what it gives.
 fn replay_fit(
     image: &[u8],
     c: usize,
@@ -111,22 +110,19 @@ fn replay_fit(
     map: &mut Map,
     letters: &mut Letters,
     scratch: &mut Scratch,
-    events: &mut Marks,
-    empties: &Marks,
-) -> Option<u32>
-    requires image_value { (size_right image.now ≡ true) × ((e : ℕ) × (kind_of image.now c ≡ Kind.Commit e covered)) }
-    requires events_value { (events.old ≡ replicate most_blocks false) × EmptyTable image.now empties.now }
-    ensures { (result ≡ rebuilt_of image.now c) × (mount_fits image.now c
-        ≡ true → Rebuilding image.now c map.new letters.new scratch.new events.new) }
+) -> Option<Seen>
+    requires { (size_right image.now ≡ true) × ((e : ℕ) × (kind_of image.now c ≡ Kind.Commit e covered)) }
+    ensures { MatchOption result (mount_fits image.now c ≡ false)
+        (λ seen. Rebuilding image.now c map.new letters.new scratch.new seen) }
 {
-    let highest = replay::replay(image, c, covered, map, letters, scratch, events, empties);
+    let seen = replay::replay(image, c, covered, map, letters, scratch);
     if !entries_fit(image, map, scratch) {
         return None;
     }
     if !use_keys(map, letters) {
         return None;
     }
-    Some(highest)
+    Some(seen)
 }
 
 // Makes the record of the commit in block c and the pages, or clears it where that does not fit.
@@ -137,16 +133,12 @@ pub fn rebuild_record(
     map: &mut Map,
     letters: &mut Letters,
     scratch: &mut Scratch,
-    events: &mut Marks,
-    empties: &Marks,
-) -> Option<u32>
-    requires image_value { (size_right image.now ≡ true) × ((e : ℕ) × (kind_of image.now c ≡ Kind.Commit e covered)) }
-    requires events_value { (events.old ≡ replicate most_blocks false) × EmptyTable image.now empties.now }
-    ensures { (result ≡ rebuilt_of image.now c)
-        × (mount_fits image.now c ≡ true → Rebuilding image.now c map.new letters.new scratch.new events.new)
-        × (mount_fits image.now c ≡ false → Cleared map.new letters.new scratch.new) }
+) -> Option<Seen>
+    requires { (size_right image.now ≡ true) × ((e : ℕ) × (kind_of image.now c ≡ Kind.Commit e covered)) }
+    ensures { MatchOption result ((mount_fits image.now c ≡ false) × Cleared map.new letters.new scratch.new)
+        (λ seen. Rebuilding image.now c map.new letters.new scratch.new seen) }
 {
-    let rebuilt = replay_fit(image, c, covered, map, letters, scratch, events, empties);
+    let rebuilt = replay_fit(image, c, covered, map, letters, scratch);
     if rebuilt.is_none() {
         clear_record(map, letters, scratch);
     }

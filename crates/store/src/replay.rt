@@ -6,13 +6,13 @@ ghost use Rattle.page.specs.Header.{in_range, node_letter, is_event_letter};
 ghost use Rattle.page.specs.Key.{positions};
 ghost use Rattle.page.specs.Entry.{none, free_letter, deleted_letter, entries_in_part};
 ghost use Rattle.image.specs.Size.{block_size, pages_in_block, most_blocks, blocks, pages, size_right};
-ghost use Rattle.image.specs.Look.{letter_at, block_empty};
+ghost use Rattle.image.specs.Look.{letter_at};
 ghost use Rattle.store.specs.Kind.{kind_of};
 ghost use Rattle.store.specs.Record.{map_size};
-ghost use Rattle.store.specs.Mount.{letter_in, entry_in, by_entry, decide_by, spends, sequence_of};
-ghost use Rattle.store.specs.Replay.{pass, EachPlace, EachLetter, part_read, LettersRead, outranks, range_right, EmptyTable, Passed, Replayed};
+ghost use Rattle.store.specs.Mount.{letter_in, entry_in, by_entry, decide_by};
+ghost use Rattle.store.specs.Replay.{pass, EachPlace, EachLetter, part_read, LettersRead, outranks, Passed, Replayed};
 
-use crate::kinds::Marks;
+use crate::kinds::{MOST_BLOCKS, Marks};
 use crate::{Kind, format, kinds, record};
 use image::look;
 use image::look::PAGES_IN_BLOCK;
@@ -24,6 +24,14 @@ use page::{Entry, Form, Frame, entries, plan};
 
 // The sequence that decided each place, 0 where its entry did.
 pub type Scratch = [u32; PLACES];
+
+// What the pages passed say beside the lists: the blocks that have an event above the covered sequence, and the highest
+// sequence.
+#[derive(Clone, Copy)]
+pub struct Seen {
+    pub events: Marks,
+    pub highest: u32,
+}
 
 // The page and the key position that an entry gives, none for both where it gives no page.
 fn page_and_key(entry: Entry) -> (u16, u16)
@@ -168,19 +176,6 @@ fn apply_event(map: &mut Map, scratch: &mut Scratch, g: usize, f: Frame, covered
     }
 }
 
-// What page g gives its places: only a whole page is an event.
-fn apply(map: &mut Map, scratch: &mut Scratch, g: usize, form: Form, covered: u32)
-    requires { (g < none) × (range_right form ≡ true) }
-    ensures { EachPlace (λ x. decide_by covered x g form) map.old scratch.old map.new scratch.new }
-{
-    match form {
-        Form::Empty => {}
-        Form::Whole(f) => apply_event(map, scratch, g, f, covered),
-        Form::Torn(_) => {}
-        Form::Spoilt => {}
-    }
-}
-
 // A header of a node above the covered sequence leaves its key deleted.
 fn spend_key(letters: &mut Letters, f: Frame, covered: u32)
     requires { in_range f ≡ true }
@@ -196,19 +191,6 @@ fn spend_key(letters: &mut Letters, f: Frame, covered: u32)
     }
 }
 
-// What a page does to the letters: a torn node spends its key as a whole one does.
-fn spend(letters: &mut Letters, form: Form, covered: u32)
-    requires { range_right form ≡ true }
-    ensures { EachLetter (λ p l. cond (spends covered p form) deleted_letter l) letters.old letters.new }
-{
-    match form {
-        Form::Empty => {}
-        Form::Whole(f) => spend_key(letters, f, covered),
-        Form::Torn(f) => spend_key(letters, f, covered),
-        Form::Spoilt => {}
-    }
-}
-
 // Notes the block of page g as one that has an event, where the page's sequence is above the covered one.
 fn note(events: &mut Marks, g: usize, sequence: u32, covered: u32)
     requires { g / pages_in_block < most_blocks }
@@ -219,44 +201,35 @@ fn note(events: &mut Marks, g: usize, sequence: u32, covered: u32)
     }
 }
 
-// The sequence of a whole or torn N or D page, 0 of any other.
-// Stays (1): the highest of all pages is taken of it, and no sequence is 0 (`within 1 last_number`).
-fn sequence_of(form: Form) -> u32
-    ensures { result ≡ sequence_of form }
-{
-    match form {
-        Form::Empty => 0,
-        Form::Whole(f) => kinds::event_number(f),
-        Form::Torn(f) => kinds::event_number(f),
-        Form::Spoilt => 0,
-    }
-}
-
-// What page g, which begins with N or D, makes of the lists, by its form; returns the highest sequence.
+// What page g, which begins with N or D, makes of the lists, by its form. A torn page decides no place, but spends its key.
 // Stays (5): the size is tested once in a call, and then the call writes the image. A value that holds the test could not
 // last over a write, and would be made by one more test behind each.
 fn replay_form(
     image: &[u8],
     g: usize,
     covered: u32,
-    highest: u32,
     map: &mut Map,
     letters: &mut Letters,
     scratch: &mut Scratch,
-    events: &mut Marks,
-) -> u32
+    seen: &mut Seen,
+)
     requires { (size_right image.now ≡ true) × (g < pages image.now)
         × (is_event_letter (letter_at image.now g) ≡ true) }
     ensures { Passed image.now covered 1 g
-        (pass map.old letters.old scratch.old events.old highest)
-        (pass map.new letters.new scratch.new events.new result) }
+        (pass map.old letters.old scratch.old seen.old)
+        (pass map.new letters.new scratch.new seen.new) }
 {
-    let form = look::event_form_at(image, g);
-    apply(map, scratch, g, form, covered);
-    spend(letters, form, covered);
-    let sequence = sequence_of(form);
-    note(events, g, sequence, covered);
-    highest.max(sequence)
+    let f = match look::event_form_at(image, g) {
+        Form::Whole(f) => {
+            apply_event(map, scratch, g, f, covered);
+            f
+        }
+        Form::Torn(f) => f,
+        Form::Empty | Form::Spoilt => return,
+    };
+    spend_key(letters, f, covered);
+    note(&mut seen.events, g, f.number, covered);
+    seen.highest = seen.highest.max(f.number);
 }
 
 // The same; what is no event is mostly told by its first byte.
@@ -264,79 +237,68 @@ fn replay_page(
     image: &[u8],
     g: usize,
     covered: u32,
-    highest: u32,
     map: &mut Map,
     letters: &mut Letters,
     scratch: &mut Scratch,
-    events: &mut Marks,
-) -> u32
+    seen: &mut Seen,
+)
     requires { (size_right image.now ≡ true) × (g < pages image.now) }
     ensures { Passed image.now covered 1 g
-        (pass map.old letters.old scratch.old events.old highest)
-        (pass map.new letters.new scratch.new events.new result) }
+        (pass map.old letters.old scratch.old seen.old)
+        (pass map.new letters.new scratch.new seen.new) }
 {
     if !kinds::is_event_letter(look::letter_at(image, g)) {
-        return highest;
+        return;
     }
-    replay_form(image, g, covered, highest, map, letters, scratch, events)
+    replay_form(image, g, covered, map, letters, scratch, seen);
 }
 
-// What the pages of block b make of the lists, in order; an empty block leaves them as they are. Returns the highest
-// sequence, which was before.
+// What the pages of block b make of the lists, in order; an empty block leaves them as they are.
 fn replay_block(
     image: &[u8],
     b: usize,
-    empty: bool,
     covered: u32,
-    before: u32,
     map: &mut Map,
     letters: &mut Letters,
     scratch: &mut Scratch,
-    events: &mut Marks,
-) -> u32
-    requires { (size_right image.now ≡ true) × (b < blocks image.now) × (empty ≡ block_empty image.now b) }
+    seen: &mut Seen,
+)
+    requires { (size_right image.now ≡ true) × (b < blocks image.now) }
     ensures { Passed image.now covered pages_in_block (b * pages_in_block)
-        (pass map.old letters.old scratch.old events.old before)
-        (pass map.new letters.new scratch.new events.new result) }
+        (pass map.old letters.old scratch.old seen.old)
+        (pass map.new letters.new scratch.new seen.new) }
 {
-    if empty {
-        return before;
+    if look::block_empty(image, b) {
+        return;
     }
     let first = b * PAGES_IN_BLOCK;
-    let mut highest = before;
     for g in first..first + PAGES_IN_BLOCK {
-        highest = replay_page(image, g, covered, highest, map, letters, scratch, events);
+        replay_page(image, g, covered, map, letters, scratch, seen);
     }
-    highest
 }
 
-// What all pages make of the lists, in order; returns the highest sequence. The empties say of each block
-// whether it is empty.
+// What all pages make of the lists, in order.
 fn replay_pages(
     image: &[u8],
     covered: u32,
     map: &mut Map,
     letters: &mut Letters,
     scratch: &mut Scratch,
-    events: &mut Marks,
-    empties: &Marks,
-) -> u32
-    requires { (size_right image.now ≡ true) × EmptyTable image.now empties.now }
+    seen: &mut Seen,
+)
+    requires { size_right image.now ≡ true }
     ensures { Passed image.now covered (pages image.now) 0
-        (pass map.old letters.old scratch.old events.old 0)
-        (pass map.new letters.new scratch.new events.new result) }
+        (pass map.old letters.old scratch.old seen.old)
+        (pass map.new letters.new scratch.new seen.new) }
 {
-    let n = look::blocks(image);
-    let mut highest: u32 = 0;
-    for b in 0..n {
-        highest = replay_block(
-            image, b, empties[b], covered, highest, map, letters, scratch, events,
-        );
+    for b in 0..look::blocks(image) {
+        replay_block(image, b, covered, map, letters, scratch, seen);
     }
-    highest
 }
 
-// The whole pass, with the commit in block c, which covers covered; returns the highest sequence of the pages.
+// The whole pass, with the commit in block c, which covers covered.
+// Stays (5): map, letters and scratch are lent by C. A struct of the three would hold them as `&mut`, and each function would
+// have an equation for each field.
 pub fn replay(
     image: &[u8],
     c: usize,
@@ -344,14 +306,16 @@ pub fn replay(
     map: &mut Map,
     letters: &mut Letters,
     scratch: &mut Scratch,
-    events: &mut Marks,
-    empties: &Marks,
-) -> u32
-    requires image_value { (size_right image.now ≡ true) × ((e : ℕ) × (kind_of image.now c ≡ Kind.Commit e covered)) }
-    requires events_value { (events.old ≡ replicate most_blocks false) × EmptyTable image.now empties.now }
-    ensures { Replayed image.now c (pass map.new letters.new scratch.new events.new result) }
+) -> Seen
+    requires { (size_right image.now ≡ true) × ((e : ℕ) × (kind_of image.now c ≡ Kind.Commit e covered)) }
+    ensures { Replayed image.now c (pass map.new letters.new scratch.new result) }
 {
     read_entries(image, c, map, scratch);
     read_letters(image, c, letters);
-    replay_pages(image, covered, map, letters, scratch, events, empties)
+    let mut seen = Seen {
+        events: [false; MOST_BLOCKS],
+        highest: 0,
+    };
+    replay_pages(image, covered, map, letters, scratch, &mut seen);
+    seen
 }

@@ -26,11 +26,12 @@ pub fn number(r: Result<(), Error>) -> u32
     }
 }
 
-// The reply of a call that was taken, by the power that is left.
-pub(crate) fn taken(p: Power) -> Result<(), Error>
-    ensures { result ≡ cond p.on Done (Err PowerCut) }
+// The answer of a call that was taken: its reply by the power that is left, and the numbers of the record by now.
+pub(crate) fn taken(p: Power, numbers: Numbers) -> Answer
+    ensures { result ≡ answered (cond p.on Done (Err PowerCut)) numbers }
 {
-    if p.on { Ok(()) } else { Err(Error::PowerCut) }
+    let reply = if p.on { Ok(()) } else { Err(Error::PowerCut) };
+    Answer { reply, numbers }
 }
 
 // The answer of a call that is refused: the record's numbers stay.

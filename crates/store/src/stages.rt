@@ -1,20 +1,20 @@
 // The stages of commit and wipe: a key block or the commit block replaced by a new copy, and the data blocks without a
 // live page erased.
-ghost use Rattle.std.specs.Prelude.{◌≡◌, true, false, cond, not, ◌&&◌, ℕ, ◌≤◌, ◌<◌, ◌+◌, ◌*◌, ◌/◌, length, get_or, set, replicate, eqb, ltb, Err};
-ghost use Rattle.base.specs.Search.{which_from};
+ghost use Rattle.std.specs.Prelude.{◌≡◌, true, false, cond, not, ◌||◌, ℕ, ◌≤◌, ◌<◌, ◌+◌, ◌*◌, ◌/◌, length, get_or, set, replicate, eqb, ltb, Err};
 ghost use Rattle.page.specs.Plan.{places};
 ghost use Rattle.page.specs.Header.{last_number};
 ghost use Rattle.image.specs.Size.{block_size, pages_in_block, most_blocks, blocks as blocks_in, size_right};
-ghost use Rattle.image.specs.Power.{device, run};
+ghost use Rattle.image.specs.Power.{device, power_for, run};
 ghost use Rattle.store.specs.Kind.{is_chosen, is_data};
 ghost use Rattle.store.specs.Record.{map_size};
 ghost use Rattle.store.specs.Outcome.{answered};
 ghost use Rattle.store.specs.Reply.{Done};
 ghost use Rattle.store.specs.declared.Error.TheVariants.{PowerCut};
-ghost use Rattle.store.specs.Stages.{is_spare, lowest_spare, at_work, begun, keys_moved, commit_moved, has_live, LiveMarked, erases, unused_erases, renewed, Able};
+ghost use Rattle.store.specs.Testing.{run_length};
+ghost use Rattle.store.specs.Stages.{is_spare, lowest_spare, at_work, begun, keys_moved, commit_moved, has_live, LiveMarked, unused_erases, renewed, Able};
 
 use crate::kinds::{MOST_BLOCKS, Marks};
-use crate::{Answer, Numbers, fit, kinds, replies};
+use crate::{Answer, Numbers, fit, kinds, replies, sweep};
 use image::look::PAGES_IN_BLOCK;
 use image::{Power, blocks, look, steps};
 use page::keys::{Letters, Noise};
@@ -27,16 +27,23 @@ pub struct Progress {
     pub numbers: Numbers,
 }
 
+// Power for n steps and k bytes of the next.
+pub(crate) fn power_for(n: u64, k: usize) -> Power
+    ensures { result ≡ power_for n k }
+{
+    Power {
+        steps: n,
+        bytes: k,
+        on: true,
+    }
+}
+
 // A call that begins with power for n steps and k bytes of the next.
 pub fn begin(numbers: Numbers, n: u64, k: usize) -> Progress
     ensures { result ≡ begun n k numbers }
 {
     Progress {
-        power: Power {
-            steps: n,
-            bytes: k,
-            on: true,
-        },
+        power: power_for(n, k),
         numbers: numbers,
     }
 }
@@ -45,11 +52,7 @@ pub fn begin(numbers: Numbers, n: u64, k: usize) -> Progress
 pub fn answer(p: Progress) -> Answer
     ensures { result ≡ answered (cond p.power.on Done (Err PowerCut)) p.numbers }
 {
-    let numbers = p.numbers;
-    Answer {
-        reply: replies::taken(p.power),
-        numbers: numbers,
-    }
+    replies::taken(p.power, p.numbers)
 }
 
 // Whether block b is spare: not chosen now, and chosen when the call began, so erased since, or empty.
@@ -67,17 +70,14 @@ fn is_spare(image: &[u8], first: Numbers, numbers: Numbers, b: usize) -> bool
 }
 
 // The lowest spare block, or the number of blocks where there is none.
-// Stays (1): each caller's record has a spare block, so an option would only add a case that cannot be.
+// Stays (1): each caller's record has a spare block (`Able`), so that an option would be unwrapped at once in all three.
 pub fn lowest_spare(image: &[u8], first: Numbers, numbers: Numbers) -> usize
     ensures { result ≡ lowest_spare image.now first numbers }
 {
     let n = look::blocks(image);
-    for b in 0..n {
-        if is_spare(image, first, numbers, b) {
-            return b;
-        }
-    }
-    n
+    (0..n)
+        .find(|b| is_spare(image, first, numbers, *b))
+        .unwrap_or(n)
 }
 
 // Replaces key block q: a new copy in block b, the lowest spare one, then the old one erased.
@@ -113,8 +113,8 @@ fn replace_keys(
 }
 
 // Replaces the commit block: map and letters in block b, the lowest spare one, then the old one erased.
-// Stays (5): map and letters are those of the record by now, first the numbers with which the call began; one struct of
-// the three would be no record.
+// Stays (5): first, which every stage takes, could stand in Progress; each of them would then promise beside its equation
+// that it stays as it was.
 pub fn replace_commit(
     image: &mut [u8],
     map: &Map,
@@ -155,42 +155,39 @@ fn mark(marked: &mut Marks, page: u16)
     marked[b] = true;
 }
 
-// Marks the blocks of the pages of places from one to end. A vacant run has none.
-fn mark_run(map: &Map, marked: &mut Marks, from: usize, end: usize)
-    requires { (from ≤ end) × (end ≤ places) × LiveMarked map.now marked.old from }
-    ensures { LiveMarked map.now marked.new end }
+// Marks the blocks of the pages of the places of a run. A vacant run has none.
+fn mark_run(map: &Map, marked: &mut Marks, from: usize)
+    requires { (from + run_length ≤ places) × LiveMarked map.now marked.old from }
+    ensures { LiveMarked map.now marked.new (from + run_length) }
 {
-    if fit::is_vacant_run(map, from, end) {
+    if fit::is_vacant_run(map, from) {
         return;
     }
-    for page in &map[from..end] {
+    for page in &map[from..from + fit::RUN_LENGTH] {
         mark(marked, *page);
     }
 }
 
 // Marks the blocks that have a live page.
+// Stays (2): as `fit::file_fits`.
 pub fn mark_live(map: &Map, marked: &mut Marks)
     requires { marked.old ≡ replicate most_blocks false }
     ensures { (b : ℕ) → b < most_blocks → has_live map.now b ≡ get_or marked.new b false }
 {
     for x in (0..PLACES).step_by(fit::RUN_LENGTH) {
-        mark_run(map, marked, x, x + fit::RUN_LENGTH);
+        mark_run(map, marked, x);
     }
 }
 
-// Erases the data blocks that are not marked, in order.
-fn erase_all_unmarked(image: &mut [u8], numbers: Numbers, marked: &Marks, p: Power) -> Power
-    requires { blocks_in image.old ≤ most_blocks }
-    ensures { device result image.new ≡ run (erases (which_from (λ b. not (get_or marked.now b false) && is_data
-        image.old numbers b) (blocks_in image.old) 0)) (device p image.old) }
+// Marks the blocks that are no data blocks, beside those that are marked.
+fn mark_others(image: &[u8], numbers: Numbers, marked: &mut Marks)
+    requires { blocks_in image.now ≤ most_blocks }
+    ensures { (b : ℕ) → b < blocks_in image.now → get_or marked.new b false
+        ≡ (get_or marked.old b false || not (is_data image.now numbers b)) }
 {
-    let mut q = p;
     for b in 0..look::blocks(image) {
-        if !marked[b] && kinds::is_data(image, numbers, b) {
-            q = steps::erase_block(image, b, q);
-        }
+        marked[b] = marked[b] || !kinds::is_data(image, numbers, b);
     }
-    q
 }
 
 // Erases the data blocks without a live page, in order.
@@ -200,7 +197,8 @@ fn erase_unused(image: &mut [u8], map: &Map, numbers: Numbers, p: Power) -> Powe
 {
     let mut marked = [false; MOST_BLOCKS];
     mark_live(map, &mut marked);
-    erase_all_unmarked(image, numbers, &marked, p)
+    mark_others(image, numbers, &mut marked);
+    sweep::erase_unmarked(image, &marked, p)
 }
 
 // The stages of a commit: key block 0, whose copy goes to the lowest spare block, key block 1, the commit block, then

@@ -1,57 +1,40 @@
 // The erases of a mount: every block that is neither chosen nor data, and every data block that no record reads any more.
-ghost use Rattle.std.specs.Prelude.{◌≡◌, [], ◌≤◌, ◌<◌, length};
+// The erases of a commit go by a table of blocks too.
+ghost use Rattle.std.specs.Prelude.{◌≡◌, ℕ, false, not, ◌||◌, [], ◌≤◌, ◌<◌, length, get_or};
 ghost use Rattle.base.specs.Search.{which_from};
 ghost use Rattle.image.specs.Size.{most_blocks, blocks};
 ghost use Rattle.image.specs.Power.{device, run};
+ghost use Rattle.store.specs.Kind.{is_chosen};
 ghost use Rattle.store.specs.Record.{record_of};
 ghost use Rattle.store.specs.Mount.{is_swept};
-ghost use Rattle.store.specs.Rebuild.{Sweeping, is_unmarked};
+ghost use Rattle.store.specs.Rebuild.{Sweeping};
 ghost use Rattle.store.specs.Stages.{erases};
-ghost use Rattle.store.specs.Replay.{EmptyTable};
 
 use crate::kinds::{MOST_BLOCKS, Marks};
 use crate::{Numbers, kinds, stages};
 use image::{Power, look, steps};
 use page::plan::Map;
 
-// Says of each block whether it is empty.
-pub fn find_empty(image: &[u8], empties: &mut Marks)
+// Marks the blocks that are chosen and those that the events mark, beside those that are marked.
+fn keep(image: &[u8], events: &Marks, numbers: Numbers, kept: &mut Marks)
     requires { blocks image.now ≤ most_blocks }
-    ensures { EmptyTable image.now empties.new }
+    ensures { (b : ℕ) → b < blocks image.now → get_or kept.new b false
+        ≡ (is_chosen numbers b || get_or events.now b false || get_or kept.old b false) }
 {
     for b in 0..look::blocks(image) {
-        empties[b] = look::block_empty(image, b);
+        kept[b] = kinds::is_chosen(numbers, b) | events[b] | kept[b];
     }
 }
 
-// Whether block b is not chosen, and neither table marks it.
-fn is_unmarked(events: &Marks, lives: &Marks, numbers: Numbers, b: usize) -> bool
-    requires { b < most_blocks }
-    ensures { result ≡ is_unmarked events.now lives.now numbers b }
-{
-    let kept = kinds::is_chosen(numbers, b) | events[b] | lives[b];
-    !kept
-}
-
-// Erases the blocks that are not chosen and that neither table marks, in order.
-// Stays (2): `stages::erase_all_unmarked` tests each block on the image as the erases before it leave it, this one by tables
-// alone. The contract of one over both would speak of the test at each of those images.
-fn erase_unmarked(
-    image: &mut [u8],
-    events: &Marks,
-    lives: &Marks,
-    numbers: Numbers,
-    p: Power,
-) -> Power
+// Erases the blocks that are not marked, in order.
+pub fn erase_unmarked(image: &mut [u8], kept: &Marks, p: Power) -> Power
     requires { blocks image.old ≤ most_blocks }
     ensures { device result image.new
-        ≡ run (erases (which_from (is_unmarked events.now lives.now numbers) (blocks image.old) 0)) (device p
-        image.old) }
+        ≡ run (erases (which_from (λ b. not (get_or kept.now b false)) (blocks image.old) 0)) (device p image.old) }
 {
-    let n = look::blocks(image);
     let mut q = p;
-    for b in 0..n {
-        if is_unmarked(events, lives, numbers, b) {
+    for b in 0..look::blocks(image) {
+        if !kept[b] {
             q = steps::erase_block(image, b, q);
         }
     }
@@ -66,7 +49,8 @@ pub fn erase_swept(image: &mut [u8], map: &Map, events: &Marks, numbers: Numbers
         ≡ run (erases (which_from (is_swept image.old (record_of map.now [] numbers)) (blocks image.old) 0)) (device p
         image.old) }
 {
-    let mut lives = [false; MOST_BLOCKS];
-    stages::mark_live(map, &mut lives);
-    erase_unmarked(image, events, &lives, numbers, p)
+    let mut kept = [false; MOST_BLOCKS];
+    stages::mark_live(map, &mut kept);
+    keep(image, events, numbers, &mut kept);
+    erase_unmarked(image, &kept, p)
 }

@@ -1,22 +1,39 @@
 // The tests that several calls begin with, in document 01's order.
-ghost use Rattle.std.specs.Prelude.{◌≡◌, true, ◌++◌, ◌≤◌, drop};
+ghost use Rattle.std.specs.Prelude.{◌≡◌, true, [], ◌∷◌, ◌++◌, ◌≤◌, leb, drop};
 ghost use Rattle.page.specs.Header.{last_number};
 ghost use Rattle.image.specs.Size.{size_right};
 ghost use Rattle.image.specs.Look.{lowest_empty};
-ghost use Rattle.store.specs.Reply.{handed, verdict};
-ghost use Rattle.store.specs.Record.{record_of, held, held_in};
+ghost use Rattle.store.specs.Reply.{handed, ◌else◌, verdict};
+ghost use Rattle.store.specs.Record.{record_of, held, held_in, lists_in};
 ghost use Rattle.store.specs.Format.{lent_tests, noise_tests};
 ghost use Rattle.store.specs.Write.{fit_tests, plan_tests, node_tests};
 ghost use Rattle.store.specs.Commit.{renewal_tests};
+ghost use Rattle.store.specs.declared.Error.TheVariants.{NumbersSpent};
 
 use crate::{Error, Lent, Numbers, fit};
 use image::look;
 use page::headers::LAST_NUMBER;
-use page::keys::NOISE_SIZE;
+use page::keys::{Letters, NOISE_SIZE};
 use page::plan;
+use page::plan::Map;
 
-// The record that a call is lent, where the image has a right size and the lists have their lengths: what every call but
-// mount tests first.
+// The lists that a call is lent, where the image has a right size and they have their lengths: what every call tests first.
+pub(crate) fn lists<'a>(
+    image: &[u8],
+    map: &'a [u16],
+    letters: &'a [u8],
+) -> Result<(&'a Map, &'a Letters), Error>
+    ensures { lists_in result ≡ handed (verdict (lent_tests image.now map.now letters.now)) (map.now, letters.now) }
+{
+    if !look::size_right(image) {
+        return Err(Error::ImageSize);
+    }
+    let map = map.as_array().ok_or(Error::BufferLength)?;
+    let letters = letters.as_array().ok_or(Error::BufferLength)?;
+    Ok((map, letters))
+}
+
+// The record that a call is lent, where those tests are passed.
 pub fn lent<'a>(
     image: &[u8],
     map: &'a [u16],
@@ -26,16 +43,33 @@ pub fn lent<'a>(
     ensures { held_in result
         ≡ handed (verdict (lent_tests image.now map.now letters.now)) (record_of map.now letters.now numbers) }
 {
-    if !look::size_right(image) {
-        return Err(Error::ImageSize);
-    }
-    let map = map.as_array().ok_or(Error::BufferLength)?;
-    let letters = letters.as_array().ok_or(Error::BufferLength)?;
+    let (map, letters) = lists(image, map, letters)?;
     Ok(Lent {
         map,
         letters,
         numbers,
     })
+}
+
+// The test of a record.
+pub(crate) fn refuse_unfit(image: &[u8], lent: Lent) -> Result<(), Error>
+    requires { size_right image.now ≡ true }
+    ensures { result ≡ verdict (fit_tests image.now (held lent.entry)) }
+{
+    if !fit::fits(image, lent) {
+        return Err(Error::RecordUnfit);
+    }
+    Ok(())
+}
+
+// The test of a call that uses one sequence.
+pub(crate) fn refuse_spent(numbers: Numbers) -> Result<(), Error>
+    ensures { result ≡ verdict ((leb numbers.sequence last_number else NumbersSpent) ∷ []) }
+{
+    if LAST_NUMBER < numbers.sequence {
+        return Err(Error::NumbersSpent);
+    }
+    Ok(())
 }
 
 // The record that a gather is lent, where it fits.
@@ -50,9 +84,7 @@ pub fn fitting<'a>(
         (record_of map.now letters.now numbers))) (record_of map.now letters.now numbers) }
 {
     let lent = lent(image, map, letters, numbers)?;
-    if !fit::fits(image, lent) {
-        return Err(Error::RecordUnfit);
-    }
+    refuse_unfit(image, lent)?;
     Ok(lent)
 }
 
@@ -85,9 +117,7 @@ pub fn test_renewal(image: &[u8], lent: Lent, more: u32) -> Result<usize, Error>
     requires { (size_right image.now ≡ true) × (more ≤ last_number) }
     ensures { result ≡ handed (verdict (renewal_tests image.now (held lent.entry) more)) (lowest_empty image.now) }
 {
-    if !fit::fits(image, lent) {
-        return Err(Error::RecordUnfit);
-    }
+    refuse_unfit(image, lent)?;
     if LAST_NUMBER - more < lent.numbers.epoch {
         return Err(Error::NumbersSpent);
     }
@@ -104,8 +134,5 @@ pub fn test_node(image: &[u8], lent: Lent, file: u32, offset: u32, right: bool) 
     if !right {
         return Err(Error::PayloadLength);
     }
-    if !fit::fits(image, lent) {
-        return Err(Error::RecordUnfit);
-    }
-    Ok(())
+    refuse_unfit(image, lent)
 }

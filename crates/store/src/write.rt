@@ -8,10 +8,9 @@ ghost use Rattle.store.specs.Find.{lowest_free, new_page, found_at};
 ghost use Rattle.store.specs.Write.{payload_right, write_tests, taking_of, write_leaves};
 ghost use Rattle.store.specs.Taken.{WriteTaken};
 
-use crate::{Answer, ENOUGH, Error, Numbers, find, record, replies, tests};
-use image::{Power, steps};
+use crate::{Answer, ENOUGH, Error, Numbers, find, record, replies, stages, tests};
+use image::steps;
 use page::Frame;
-use page::headers::LAST_NUMBER;
 use page::keys::Letters;
 use page::plan::Map;
 
@@ -37,9 +36,7 @@ fn test_write(
 {
     let lent = tests::lent(image, map, letters, numbers)?;
     tests::test_node(image, lent, file, offset, is_payload(payload))?;
-    if LAST_NUMBER < numbers.sequence {
-        return Err(Error::NumbersSpent);
-    }
+    tests::refuse_spent(numbers)?;
     let p = find::lowest_free(lent.letters).ok_or(Error::NoFreeKey)?;
     let g = find::new_page(image, numbers, None).ok_or(Error::NoRoom)?;
     Ok((p, g))
@@ -76,17 +73,10 @@ fn write_taken(
         p as u32,
         key,
         payload,
-        Power {
-            steps: n,
-            bytes: k,
-            on: true,
-        },
+        stages::power_for(n, k),
     );
     record::set_place(map, letters, record::place_at(file, offset), g, p);
-    Answer {
-        reply: replies::taken(power),
-        numbers: numbers.next_sequence(),
-    }
+    replies::taken(power, numbers.next_sequence())
 }
 
 // A write of which the power lasts for n steps and the first k bytes of the next.

@@ -5,4 +5,4 @@ use Rattle.cipher.specs.Words.{xor_bytes}
 use Rattle.cipher.proofs.stream.add_block.Given as goal
 
 abbrev pub invariant-loop-j : goal.invariant-loop-j
-invariant-loop-j l = l.q ≡ xor_bytes l.initial.q (take l.j l.block)
+invariant-loop-j l = l.x-items ≡ xor_bytes l.initial.x-items (take l.j l.block)

@@ -12,4 +12,4 @@ use Rattle.page.proofs.entries.is_vacant.Goals as goal
 pub returns : goal.returns
 unfolding part
 returns c =
-    c.same8.ensures ∙ ap (λ (l : List ℕ). same l vacant_entry) (part_all c.args.src.now 8 (search rules))
+    c.same.ensures ∙ ap (λ (l : List ℕ). same l vacant_entry) (part_all c.args.src.now 8 (search rules))

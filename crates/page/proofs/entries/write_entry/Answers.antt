@@ -13,7 +13,7 @@ use Rattle.page.proofs.entries.write_entry.Goals as goal
 
 pub returns-then-page-eq-NONE : goal.returns-then-page-eq-NONE
 unfolding entry_bytes
-returns-then-page-eq-NONE c = rw (eq-eqb _ _ c.if-page-eq-NONE.true) c.copy.ensures
+returns-then-page-eq-NONE c = rw (eq-eqb _ _ c.if-page-eq-NONE.true)
 
 pub returns-else-page-eq-NONE : goal.returns-else-page-eq-NONE
 unfolding entry_bytes

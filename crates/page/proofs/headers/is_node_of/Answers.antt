@@ -27,5 +27,5 @@ returns c =
     let a = c.args in
     let tested : (c.is_file.result && c.hold.result) ≡ named a.src.now a.file a.offset a.position (search rules) =
     rw (c.is_file.ensures, c.hold.ensures, c.word4.ensures, c.word4-2.ensures) in
-    rw (c.same2.ensures, c.is_counted.ensures, c.word8.ensures)
+    rw (c.same.ensures, c.is_counted.ensures, c.word8.ensures)
     (named_node a.src.now a.file a.offset a.position (search rules) (sym tested ∙ c.if-not-named.false))

@@ -1,5 +1,7 @@
 -- `headers::read_fields` reads the five numbers one after the other, and looks at their ranges last.
+use mathlib.Core.Path.{◌∙◌}
 use Rattle.page.specs.Header.{header_of}
+use Rattle.page.proofs.HeaderLaws.{then_if}
 use Rattle.page.proofs.headers.read_fields.Goals as goal
 
 pub returns-in_err-number : goal.returns-in_err-number
@@ -43,9 +45,9 @@ returns-in_err-second c =
       ← c.in_err-second.ensures,
     )
 
-pub returns-then-in_range : goal.returns-then-in_range
+pub returns : goal.returns
 unfolding header_of
-returns-then-in_range c =
+returns c =
     rw (
       ← c.in_ok-number.ensures,
       ← c.in_ok-unit.ensures,
@@ -54,19 +56,5 @@ returns-then-in_range c =
       ← c.in_ok-second.ensures,
       c.requires,
       ← c.in_range.ensures,
-      c.if-in_range.true,
     )
-
-pub returns-else-in_range : goal.returns-else-in_range
-unfolding header_of
-returns-else-in_range c =
-    rw (
-      ← c.in_ok-number.ensures,
-      ← c.in_ok-unit.ensures,
-      ← c.in_ok-part.ensures,
-      ← c.in_ok-key.ensures,
-      ← c.in_ok-second.ensures,
-      c.requires,
-      ← c.in_range.ensures,
-      c.if-in_range.false,
-    )
+    (c.then_some.ensures ∙ then_if c.in_range.result _)

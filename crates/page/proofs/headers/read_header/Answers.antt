@@ -9,8 +9,8 @@ returns-then-not-is_kind c = sym (no_kind c.args.src.now (sym c.is_kind.ensures 
 
 pub returns-then-not-ends : goal.returns-then-not-ends
 unfolding part
-returns-then-not-ends c = sym (no_colon c.args.src.now (sym c.same2-ends.ensures ∙ c.if-not-ends.true))
+returns-then-not-ends c = sym (no_colon c.args.src.now (sym c.same-ends.ensures ∙ c.if-not-ends.true))
 
 pub read_fields-requires : goal.read_fields-requires
 unfolding part
-read_fields-requires c = sym c.same2-ends.ensures ∙ c.if-not-ends.false
+read_fields-requires c = sym c.same-ends.ensures ∙ c.if-not-ends.false

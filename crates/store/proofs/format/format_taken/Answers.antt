@@ -7,4 +7,4 @@ returns c =
     let a = c.args in
     let b = c.requires.buffers in
     rw (c.taken.ensures, c.first_numbers.ensures, c.clear_map.ensures, c.fill.ensures, b.map_full, b.letters_full)
-    (format_left a.image.now a.map.now a.letters.now a.noise.now a.n a.k _ _ c.requires c.program_volume-power.ensures)
+    (format_left a.image.now a.map.now a.letters.now a.noise.now a.n a.k _ _ c.requires (rw c.power_for.ensures at c.program_volume-power.ensures))

@@ -3,12 +3,9 @@ use Prim.Native.Nat.{◌+◌, ◌-◌}
 use native.Mathlib.Omega.{arith}
 use mathlib.Core.Path.{◌≡◌, refl, sym, ◌∙◌}
 use mathlib.Core.Bool.{true}
-use lib.Dec.{eqb}
-use borrow.Author.Tests.{eqb-true, not-true, not-false}
-use Rattle.base.specs.Search.{all_from}
-use Rattle.base.proofs.Choice.{and-true, true-false}
+use borrow.Author.Tests.{not-true, not-false}
+use Rattle.base.proofs.Choice.{true-false}
 use Rattle.page.specs.Plan.{places}
-use Rattle.store.specs.Record.{vacant_at}
 use Rattle.store.specs.Testing.{run_length}
 use Rattle.store.specs.Rebuild.{marks}
 use Rattle.store.proofs.PlaceTests.{run-read}
@@ -19,9 +16,8 @@ use Rattle.store.proofs.rebuild.use_run.Goals as goal
 pub returns-then-is_vacant_run : goal.returns-then-is_vacant_run
 returns-then-is_vacant_run c =
     let a = c.args in
-    let v = and-true (eqb a.end (a.from + run_length)) (all_from (vacant_at a.map.now) run_length a.from) (sym c.is_vacant_run.ensures ∙ c.if-is_vacant_run.true) in
-    let e = eqb-true a.end (a.from + run_length) v.0 in (
-      λ _. rw e (marked_start a.map.now a.letters.now (a.from + run_length) (tallied-run a.map.now (marks a.letters.now) run_length a.from (omega arith) v.1 c.requires.2)),
+    let v = sym c.is_vacant_run.ensures ∙ c.if-is_vacant_run.true in (
+      λ _. marked_start a.map.now a.letters.now (a.from + run_length) (tallied-run a.map.now (marks a.letters.now) run_length a.from (omega arith) v c.requires.1),
       λ f. absurd (true-false refl f),
     )
 
@@ -32,7 +28,7 @@ returns-then-not-mark_key c =
     let same : places + (a.from + l.key-index) ≡ places + a.from + l.key-index = omega arith in
     let u = c.mark_key in (
       λ e. absurd (true-false e refl),
-      λ _. marked_twice a.map.now a.letters.now l.letters (a.from + l.key-index) (omega arith) l.invariant _ (rw same (run-read a.map.now (places + a.from) (places + a.end - (places + a.from)) l.key-index c.loop-key-test.true (omega arith))) (not-false _ (sym u.ensures.0 ∙ c.if-not-mark_key.true)),
+      λ _. marked_twice a.map.now a.letters.now l.letters (a.from + l.key-index) (omega arith) l.invariant _ (rw same (run-read a.map.now (places + a.from) (places + a.from + run_length - (places + a.from)) l.key-index c.loop-key-test.true (omega arith))) (not-false _ (sym u.ensures.0 ∙ c.if-not-mark_key.true)),
     )
 
 pub loop-key-preserved : goal.loop-key-preserved
@@ -43,4 +39,4 @@ loop-key-preserved c =
     let t : u.result ≡ true = c.if-not-mark_key.false in
     let same : places + (a.from + l.key-index) ≡ places + a.from + l.key-index = omega arith in
     let next : a.from + (l.key-index + 1) ≡ a.from + l.key-index + 1 = omega arith in
-    rw next (marked_next a.map.now a.letters.now l.letters (a.from + l.key-index) (omega arith) l.invariant _ (rw same (run-read a.map.now (places + a.from) (places + a.end - (places + a.from)) l.key-index c.loop-key-test.true (omega arith))) _ (not-true _ (sym u.ensures.0 ∙ t)) (u.ensures.1 t))
+    rw next (marked_next a.map.now a.letters.now l.letters (a.from + l.key-index) (omega arith) l.invariant _ (rw same (run-read a.map.now (places + a.from) (places + a.from + run_length - (places + a.from)) l.key-index c.loop-key-test.true (omega arith))) _ (not-true _ (sym u.ensures.0 ∙ t)) (u.ensures.1 t))

@@ -6,4 +6,4 @@ use Rattle.store.proofs.replay.replay_block.Given as goal
 
 abbrev pub invariant-loop-g : goal.invariant-loop-g
 invariant-loop-g l =
-    Passed l.image l.covered (l.g - l.b * pages_in_block) (l.b * pages_in_block) (pass l.initial.map l.initial.letters l.initial.scratch l.initial.events l.before) (pass l.map l.letters l.scratch l.events l.highest)
+    Passed l.image l.covered (l.g - l.b * pages_in_block) (l.b * pages_in_block) (pass l.initial.map l.initial.letters l.initial.scratch l.initial.seen) (pass l.map l.letters l.scratch l.seen)

@@ -11,5 +11,5 @@ pub returns-then-not-is_event_letter : goal.returns-then-not-is_event_letter
 returns-then-not-is_event_letter c =
     let a = c.args in
     let most = page_most a.image.now a.g c.requires.0 c.requires.1 in
-    page_idle a.image.now a.covered a.g (pass a.map.now a.letters.now a.scratch.now a.events.now a.highest) (omega (arith, most.0))
+    page_idle a.image.now a.covered a.g (pass a.map.now a.letters.now a.scratch.now a.seen.now) (omega (arith, most.0))
     (unheaded a.image.now a.g (ap is_event_letter (sym c.letter_at.ensures) ∙ sym c.is_event_letter.ensures ∙ c.if-not-is_event_letter.true))

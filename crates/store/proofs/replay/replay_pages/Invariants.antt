@@ -6,4 +6,4 @@ use Rattle.store.proofs.replay.replay_pages.Given as goal
 
 abbrev pub invariant-loop-b : goal.invariant-loop-b
 invariant-loop-b l =
-    Passed l.image l.covered (l.b * pages_in_block) 0 (pass l.initial.map l.initial.letters l.initial.scratch l.initial.events 0) (pass l.map l.letters l.scratch l.events l.highest)
+    Passed l.image l.covered (l.b * pages_in_block) 0 (pass l.initial.map l.initial.letters l.initial.scratch l.initial.seen) (pass l.map l.letters l.scratch l.seen)

@@ -40,9 +40,6 @@ next_epoch-requires c =
     let n = commit_next a.map.now a.letters.now _ _ _ _ a.first _ _ c.replace_commit-last.ensures in
     rw n (omega (arith, c.requires.le_sequence.1, two.epoch, one.0.epoch))
 
-pub shape_of-image : goal.shape_of-image
-shape_of-image c = c.erase_unused-power.auto.image ∙ c.replace_commit-last.auto.image ∙ c.replace_keys-keys1.auto.image ∙ c.replace_keys-keys0.auto.image
-
 pub returns : goal.returns
 returns c =
     let a = c.args in

@@ -15,12 +15,6 @@ program_key_block-copied-requires c =
       rw (b, o) (keys_apart-spare a.image.now a.first a.p.numbers able a.q),
     )
 
-pub erase_block-power-requires : goal.erase_block-power-requires
-erase_block-power-requires c =
-    let a = c.args in
-    let o = c.keys_block-old.ensures in
-    rw (c.program_key_block-copied.auto.image, o) (old_keys_inside a.image.now a.first a.p.numbers c.requires.0 a.q)
-
 pub overflow_cast-b : goal.overflow_cast-b
 overflow_cast-b c =
     let a = c.args in

@@ -1,12 +1,12 @@
 -- The survey is that of the blocks below b; a block that begins with neither K nor C leaves it as it is.
 use mathlib.Core.Path.{sym, ap, ◌∙◌}
 use Rattle.store.specs.Kind.{is_block_letter}
-use Rattle.store.proofs.Surveys.{survey_none, survey_next_lem, survey_idle}
+use Rattle.store.proofs.Surveys.{survey_first, survey_next_lem, survey_idle}
 use Rattle.store.proofs.survey.survey_blocks.Goals as goal
 use Rattle.store.proofs.survey.survey_blocks.Goals.{then-is_block_letter, else-is_block_letter}
 
 pub loop-b-init : goal.loop-b-init
-loop-b-init c = c.no_survey-s.ensures ∙ survey_none c.args.image.now
+loop-b-init c = survey_first c.args.image.now c.default-s.result c.default-s.ensures
 
 pub loop-b-preserved : goal.loop-b-preserved
 loop-b-preserved c =

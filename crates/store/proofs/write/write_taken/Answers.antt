@@ -39,4 +39,4 @@ returns c =
     let x = c.place_at.ensures.0 in
     let l = c.set_place.ensures in
     rw (c.taken.ensures, c.next_sequence.ensures, l.0, l.1, x)
-    (write-left a.image.now r a.file a.offset a.payload.now a.n a.k a.p a.g _ _ _ c.requires.payload_value c.requires.write_taken c.requires.p_value.0 c.requires.p_value.1 c.key_held-key.ensures c.program_node-power.ensures)
+    (write-left a.image.now r a.file a.offset a.payload.now a.n a.k a.p a.g _ _ _ c.requires.payload_value c.requires.write_taken c.requires.p_value.0 c.requires.p_value.1 c.key_held-key.ensures (rw c.power_for.ensures at c.program_node-power.ensures))

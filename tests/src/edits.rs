@@ -175,7 +175,8 @@ impl Edit {
         }
         if let Some(shape) = causes.iter().find(|text| !is_fact(text) && !is_useless(text)) {
             let why = format!("the proof does not fit: {shape}");
-            let names_are_gone = self.function().is_some() && causes.iter().any(names_are_gone);
+            let names_are_gone =
+                self.function().is_some() && causes.iter().any(|text| names_are_gone(text));
             return if names_are_gone { Verdict::Renamed(why) } else { Verdict::NotAFact(why) };
         }
         match causes.iter().find(|text| is_useless(text)) {
@@ -275,7 +276,7 @@ fn code_of(text: &str) -> Vec<&str> {
         let begins = |word: &&str| {
             words.strip_prefix(*word).is_some_and(|rest| rest.starts_with([' ', '*', '{']))
         };
-        if open.is_none() && CLAUSES.iter().any(|word| begins(&word)) {
+        if open.is_none() && CLAUSES.iter().any(begins) {
             open = Some(0);
         }
         let Some(braces) = open else { return !line.starts_with("ghost ") };
@@ -470,7 +471,7 @@ fn is_useless(text: &str) -> bool {
 }
 
 /// Whether an error says that a proof names a goal or a fact that the code does not have.
-fn names_are_gone(text: &String) -> bool {
+fn names_are_gone(text: &str) -> bool {
     let goal = text.contains(".Goals` has no `") || text.contains(".Given` has no `");
     goal || (text.contains("record `") && text.contains("` has no field `"))
 }

@@ -1,6 +1,6 @@
 //! The functions of the sources in Rattle: the body of each, and which others it calls.
 //!
-//! A function is named by its module, as in `page::columns::put4`, one of a type by the type, as in
+//! A function is named by its module, as in `page::columns::put_at`, one of a type by the type, as in
 //! `page::Frame::node`. Its header and contract are apart from its body; comments, and what stands in
 //! strings, are in neither.
 
@@ -11,13 +11,23 @@ use std::path::Path;
 const CLAUSES: [&str; 2] = ["requires", "ensures"];
 
 /// Words that can stand before a parenthesis and name no function.
-const KEYWORDS: [&str; 8] = ["as", "else", "if", "in", "let", "match", "return", "while"];
+const KEYWORDS: [&str; 9] = ["as", "else", "for", "if", "in", "let", "match", "return", "while"];
 
 /// What stands before `fn` where a function is exported, without what the quotes hold.
 const EXPORTED: [&str; 3] = ["extern", "\"", "\""];
 
-/// What the language itself has to call on a value.
-const OWN_METHODS: [&str; 1] = ["len"];
+/// What the language and its library have to call on a value, none of which divides by what is not a constant.
+const OWN_METHODS: [&str; 9] = [
+    "len",
+    "enumerate",
+    "fill",
+    "first_chunk_mut",
+    "iter",
+    "split_at_mut",
+    "step_by",
+    "to_le_bytes",
+    "unwrap",
+];
 
 /// The signs of a division, alone or before `=`.
 const DIVISIONS: [&str; 2] = ["/", "%"];

@@ -1,10 +1,14 @@
 -- Searches and counts over n numbers in a row, from i on.
-use Rattle.std.specs.Prelude.{ℕ, zero, suc, ◌+◌, max, Bool, true, false, cond, ◌&&◌, ◌||◌, List, [], ◌∷◌}
+use Rattle.std.specs.Prelude.{ℕ, zero, suc, ◌+◌, max, Bool, true, false, cond, ◌&&◌, ◌||◌, List, [], ◌∷◌, ltb, Option, Some, None}
 
 -- the first that p holds of, or the number after them all
 unfoldable pub first_from : (ℕ → Bool) → ℕ → ℕ → ℕ
 first_from p zero i = i
 first_from p (suc n) i = let r = first_from p n (suc i) in cond (p i) i r
+
+-- what a search among n numbers has come to: the number found, or none
+abbrev pub found : ℕ → ℕ → Option ℕ
+found n i = cond (ltb i n) (Some i) None
 
 -- how many p holds of
 unfoldable pub count_from : (ℕ → Bool) → ℕ → ℕ → ℕ

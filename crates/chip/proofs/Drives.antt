@@ -40,9 +40,6 @@ module _ (cs : List Cycle) (r : Registers) (img : List ℕ) where
     pub rest : run cs (chip r img) ≡ run (drop i cs) (chip q now)
     pub taken : 0 < i → size_right img ≡ true
 
-  pub sending_none : Sending 0 r img
-  sending_none = record { far = omega arith; long = refl; rest = refl; taken = λ h. absurd (omega arith) }
-
   module _ (i : ℕ) (q : Registers) (now : List ℕ) (s : Sending i q now) where
     pub sending_next : (p : Registers) (next : List ℕ) (reply : ℕ) → i < length cs → chip p next ≡ sent (cycle_at cs i) (chip q now) → reply ≡ replied now
         → reply ≡ 0

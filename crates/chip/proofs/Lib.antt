@@ -2,6 +2,7 @@
 --   Sets      the sets that count: what the test says of each register, and what such a set lets the bus do
 --   Moves     a cycle over such a set, case by case; the image keeps its length; cycles over a wrong image
 --   Cycles    the cycles of a step, one by one
+--   Replies   only success has the number 0
 --   Drives    the loop of the driver: cycles sent up to a place, and the rest still to come
 --   Keeps     cycles and bytes received lead from a set that counts to another
 --   Outcomes  what the driver's cycles for a step bring the chip to, from any register set
@@ -12,6 +13,7 @@ pub mod Sets
 pub mod Moves
 pub mod Cycles
 pub mod Drives
+pub mod Replies
 pub mod Keeps
 pub mod Outcomes
 pub mod Claims

@@ -1,12 +1,10 @@
 -- The sets that cycles leave: what the test says of each register, and that each way to move a set leads to one of them.
-use Prim.Native.Nat.{ℕ, zero, suc, ◌+◌, ◌*◌, ◌-◌, ◌<◌, ◌≤◌, ◌/◌}
+use Prim.Native.Nat.{ℕ, zero, suc, ◌+◌, ◌*◌, ◌<◌, ◌≤◌, ◌/◌}
 use native.Mathlib.Omega.{arith}
-use native.Mathlib.Nat.{mul-le-mul}
 use mathlib.Core.Path.{◌≡◌, refl, ap, ◌∙◌}
 use mathlib.Core.Bool.{Bool, true, false, cond, not, ◌&&◌}
 use mathlib.Core.List.{List}
-use lib.ListN.{length, take, drop, length-replicate, length-drop}
-use lib.Seq.{take_all}
+use lib.ListN.{length, drop, length-replicate}
 use lib.Dec.{eqb, ltb}
 use borrow.Author.Tests.{eq-eqb, ne_eqb, lt-ltb, le-ltb, eqb-true, ltb-true}
 use native.Mathlib.Decide.{ℕ_discrete}
@@ -233,11 +231,3 @@ module _ (n x : ℕ) (r q : Registers) (e : q ≡ addressed x r) where
     where
       go : (q : Registers) → all_cycles ≤ q.cycles → q.column < page_size → q.row < n → q ≡ judged n q
       go q h k l = rw (le-ltb q.cycles all_cycles h, lt-ltb q.column page_size k, lt-ltb q.row n l)
-
--- the rest of a list that is lent from a place on
-pub lent-rest : (xs : List ℕ) (a : ℕ) → take (length xs - a) (drop a xs) ≡ drop a xs
-lent-rest xs a = take_all (length xs - a) (drop a xs) (rw length-drop (omega arith))
-
--- a byte times a weight
-pub product_most : (x w k : ℕ) → x < 256 → w ≤ k → x * w ≤ 255 * k
-product_most x w k h l = mul-le-mul {n₁ = x} {m₁ = w} {n₂ = 255} {m₂ = k} (omega arith) l

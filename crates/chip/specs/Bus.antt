@@ -1,5 +1,5 @@
 -- Document 02, #109: what one byte of the bus does to the chip, and what is read from it.
-use Rattle.std.specs.Prelude.{ℕ, ◌+◌, ◌*◌, ◌/◌, Bool, true, false, cond, ◌&&◌, ◌||◌, List, [], ◌∷◌, get_or, set, eqb, ltb}
+use Rattle.std.specs.Prelude.{ℕ, ◌+◌, ◌*◌, ◌/◌, Bool, true, false, cond, ◌&&◌, ◌||◌, List, [], ◌∷◌, get_or, set, eqb, ltb, Err}
 use Rattle.page.specs.Frame.{page_size, erased}
 use Rattle.image.specs.Size.{pages_in_block, pages, size_right}
 use Rattle.image.specs.Look.{page_empty}
@@ -11,6 +11,8 @@ use Rattle.chip.specs.declared.State.{State}
 use Rattle.chip.specs.declared.State.TheVariants.{Idle, Status, Output, Read, Program, Erase}
 use Rattle.chip.specs.declared.Registers.{Registers}
 use Rattle.chip.specs.declared.Got.{Got}
+use Rattle.chip.specs.declared.Error.TheVariants.{ImageSize}
+use Rattle.chip.specs.Reply.{Reply, Done}
 use Rattle.chip.specs.Cycle.{read_first, read_second, program_first, program_second, erase_first, erase_second, read_status, reset}
 use Rattle.chip.specs.Registers.{resting, begun, dropped, in_command, column_weight, row_weight, all_cycles, column_cycles, valid, counts_as}
 
@@ -122,22 +124,22 @@ run (c ∷ cs) d = run cs (sent c d)
 abbrev pub status_of : Bool → ℕ
 status_of failed = cond failed 0x41 0x40
 
-abbrev pub got : Registers → ℕ → ℕ → Got
+abbrev pub got : Registers → ℕ → Reply → Got
 got r x reply = record { registers = r; byte = x; reply = reply }
 
 abbrev pub passed : Registers → Registers
 passed r = record { state = r.state; cycles = r.cycles; column = r.column + 1; row = r.row; page = r.page; failed = r.failed }
 
 abbrev pub shown : State → Registers → List ℕ → Got
-shown Idle r img = got r erased 0
-shown Status r img = got r (status_of r.failed) 0
+shown Idle r img = got r erased Done
+shown Status r img = got r (status_of r.failed) Done
 shown Output r img =
-    cond (ltb r.column page_size) (got (passed r) (get_or img (r.row * page_size + r.column) 0) 0) (got r erased 0)
-shown Read r img = got r erased 0
-shown Program r img = got r erased 0
-shown Erase r img = got r erased 0
+    cond (ltb r.column page_size) (got (passed r) (get_or img (r.row * page_size + r.column) 0) Done) (got r erased Done)
+shown Read r img = got r erased Done
+shown Program r img = got r erased Done
+shown Erase r img = got r erased Done
 
 -- after the second byte of read the page's bytes from the column on, then FFh; after status the status; FFh at any other time, changing nothing
 unfoldable pub received : Registers → List ℕ → Got
 received r img =
-    cond (size_right img) (cond (valid (pages img) r) (shown r.state r img) (got r erased 0)) (got r erased 1)
+    cond (size_right img) (cond (valid (pages img) r) (shown r.state r img) (got r erased Done)) (got r erased (Err ImageSize))

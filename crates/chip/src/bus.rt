@@ -4,6 +4,7 @@ ghost use Rattle.page.specs.Frame.{page_size};
 ghost use Rattle.image.specs.Size.{block_size, pages_in_block, pages as pages_in, size_right};
 ghost use Rattle.chip.specs.Registers.{valid, column_weight, row_weight};
 ghost use Rattle.chip.specs.declared.State.TheVariants.{Program, Erase, Output};
+ghost use Rattle.chip.specs.Reply.{number_of};
 ghost use Rattle.chip.specs.Bus.{
   chip,
   second_of,
@@ -24,7 +25,7 @@ ghost use Rattle.chip.specs.Bus.{
   received,
 };
 
-use crate::{Cycle, Got, Mark, Registers, Sent, State, register_set};
+use crate::{Cycle, Error, Got, Mark, Registers, Sent, State, register_set};
 use image::look;
 use page::{Frame, bytes};
 
@@ -69,10 +70,7 @@ fn second_of(state: State) -> u8
     ensures { result ≡ second_of state }
 {
     match state {
-        State::Idle => READ_SECOND,
-        State::Status => READ_SECOND,
-        State::Output => READ_SECOND,
-        State::Read => READ_SECOND,
+        State::Idle | State::Status | State::Output | State::Read => READ_SECOND,
         State::Program => PROGRAM_SECOND,
         State::Erase => ERASE_SECOND,
     }
@@ -82,14 +80,9 @@ fn second_of(state: State) -> u8
 fn opened(r: Registers) -> Registers
     ensures { result ≡ opened_set r }
 {
-    let page = r.page;
     Registers {
         state: State::Output,
-        cycles: r.cycles,
-        column: r.column,
-        row: r.row,
-        page,
-        failed: r.failed,
+        ..r
     }
 }
 
@@ -126,9 +119,7 @@ fn performed(state: State, r: Registers, image: &mut [u8]) -> Registers
     ensures { chip result image.new ≡ performed_on state r image.old }
 {
     match state {
-        State::Idle => register_set::resting(State::Idle, true),
-        State::Status => register_set::resting(State::Idle, true),
-        State::Output => register_set::resting(State::Idle, true),
+        State::Idle | State::Status | State::Output => register_set::resting(State::Idle, true),
         State::Read => opened(r),
         State::Program => programmed(r, image),
         State::Erase => cleared(r, image),
@@ -160,33 +151,18 @@ fn commanded(x: u8, r: Registers, image: &mut [u8]) -> Registers
     performed(state, r, image)
 }
 
-// What an address cycle weighs for the column, by how many came before it.
-fn column_weight(cycles: u32) -> u32
-    ensures { (result ≡ column_weight cycles) × (result ≤ 256) }
+// What an address cycle weighs for column and row, by how many came before it: two of the column, then three of the row.
+fn weights(cycles: u32) -> (u32, u32)
+    ensures { (result ≡ (column_weight cycles, row_weight cycles)) × (column_weight cycles ≤ 256) × (row_weight cycles ≤ 65536) }
 {
-    if cycles == 0 {
-        return 1;
+    match cycles {
+        0 => (1, 0),
+        1 => (256, 0),
+        2 => (0, 1),
+        3 => (0, 256),
+        4 => (0, 65536),
+        _ => (0, 0),
     }
-    if cycles == 1 {
-        return 256;
-    }
-    0
-}
-
-// The same for the row.
-fn row_weight(cycles: u32) -> u32
-    ensures { (result ≡ row_weight cycles) × (result ≤ 65536) }
-{
-    if cycles == 2 {
-        return 1;
-    }
-    if cycles == 3 {
-        return 256;
-    }
-    if cycles == 4 {
-        return 65536;
-    }
-    0
 }
 
 // The registers with one address cycle more.
@@ -194,16 +170,13 @@ fn addressed(x: u8, r: Registers) -> Registers
     requires { (r.cycles < 5) × (r.column < 65536) × (r.row < 65536) }
     ensures { result ≡ addressed_set x r }
 {
-    let state = r.state;
-    let page = r.page;
     let n = x as u32;
+    let (of_column, of_row) = weights(r.cycles);
     Registers {
-        state,
         cycles: r.cycles + 1,
-        column: r.column + n * column_weight(r.cycles),
-        row: r.row + n * row_weight(r.cycles),
-        page,
-        failed: r.failed,
+        column: r.column + n * of_column,
+        row: r.row + n * of_row,
+        ..r
     }
 }
 
@@ -236,14 +209,7 @@ fn located(pages: u32, x: u8, r: Registers) -> Registers
 fn takes_data(state: State) -> bool
     ensures { result ≡ takes_data state }
 {
-    match state {
-        State::Idle => false,
-        State::Status => false,
-        State::Output => false,
-        State::Read => false,
-        State::Program => true,
-        State::Erase => false,
-    }
+    state == State::Program
 }
 
 // A data byte.
@@ -264,12 +230,9 @@ fn loaded(x: u8, r: Registers) -> Registers
     let at = r.column as usize;
     page[at] = x;
     Registers {
-        state,
-        cycles: r.cycles,
         column: r.column + 1,
-        row: r.row,
         page,
-        failed: r.failed,
+        ..r
     }
 }
 
@@ -287,12 +250,12 @@ fn moved(mark: Mark, x: u8, r: Registers, image: &mut [u8]) -> Registers
 
 // One cycle sent to the chip, registers by value.
 pub fn step(r: Registers, image: &mut [u8], c: Cycle) -> Sent
-    ensures { (chip result.registers image.new ≡ sent c (chip r image.old)) × (result.reply ≡ replied image.old) }
+    ensures { (chip result.registers image.new ≡ sent c (chip r image.old)) × (number_of result.reply ≡ replied image.old) }
 {
     if !look::size_right(image) {
         return Sent {
             registers: r,
-            reply: 1,
+            reply: Err(Error::ImageSize),
         };
     }
     let n = look::pages(image) as u32;
@@ -301,7 +264,7 @@ pub fn step(r: Registers, image: &mut [u8], c: Cycle) -> Sent
     let registers = moved(mark, c.byte, q, image);
     Sent {
         registers,
-        reply: 0,
+        reply: Ok(()),
     }
 }
 
@@ -324,25 +287,19 @@ fn next_byte(r: Registers, image: &[u8]) -> Got
         return Got {
             registers: r,
             byte: Frame::ERASED,
-            reply: 0,
+            reply: Ok(()),
         };
     }
-    let state = r.state;
-    let page = r.page;
     let at = r.row as usize * Frame::PAGE + r.column as usize;
     let byte = image[at];
     let registers = Registers {
-        state,
-        cycles: r.cycles,
         column: r.column + 1,
-        row: r.row,
-        page,
-        failed: r.failed,
+        ..r
     };
     Got {
         registers,
         byte,
-        reply: 0,
+        reply: Ok(()),
     }
 }
 
@@ -352,31 +309,16 @@ fn shown(state: State, r: Registers, image: &[u8]) -> Got
     ensures { result ≡ shown_on state r image.now }
 {
     match state {
-        State::Idle => Got {
-            registers: r,
-            byte: Frame::ERASED,
-            reply: 0,
-        },
         State::Status => Got {
             registers: r,
             byte: status_of(r.failed),
-            reply: 0,
+            reply: Ok(()),
         },
         State::Output => next_byte(r, image),
-        State::Read => Got {
+        State::Idle | State::Read | State::Program | State::Erase => Got {
             registers: r,
             byte: Frame::ERASED,
-            reply: 0,
-        },
-        State::Program => Got {
-            registers: r,
-            byte: Frame::ERASED,
-            reply: 0,
-        },
-        State::Erase => Got {
-            registers: r,
-            byte: Frame::ERASED,
-            reply: 0,
+            reply: Ok(()),
         },
     }
 }
@@ -389,14 +331,14 @@ pub fn fetch(r: Registers, image: &[u8]) -> Got
         return Got {
             registers: r,
             byte: Frame::ERASED,
-            reply: 1,
+            reply: Err(Error::ImageSize),
         };
     }
     if !register_set::valid(look::pages(image) as u32, r) {
         return Got {
             registers: r,
             byte: Frame::ERASED,
-            reply: 0,
+            reply: Ok(()),
         };
     }
     let state = r.state;
@@ -404,8 +346,8 @@ pub fn fetch(r: Registers, image: &[u8]) -> Got
 }
 
 // One cycle sent to the chip, which keeps its registers.
-pub fn send(r: &mut Registers, image: &mut [u8], c: Cycle) -> u32
-    ensures { (chip r.new image.new ≡ sent c (chip r.old image.old)) × (result ≡ replied image.old) }
+pub fn send(r: &mut Registers, image: &mut [u8], c: Cycle) -> Result<(), Error>
+    ensures { (chip r.new image.new ≡ sent c (chip r.old image.old)) × (number_of result ≡ replied image.old) }
 {
     let s = step(*r, image, c);
     *r = s.registers;

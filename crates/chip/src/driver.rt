@@ -1,8 +1,8 @@
 // The driver: the cycles of a step of the flash, one by one, and a run of them against the chip.
-ghost use Rattle.std.specs.Prelude.{◌≡◌, length};
-ghost use Rattle.page.specs.Frame.{page_size};
-ghost use Rattle.chip.specs.Cycle.{command as command_cycle, address as address_cycle, data_byte};
+ghost use Rattle.std.specs.Prelude.{◌≡◌, ◌<◌, ℕ, List, length};
+ghost use Rattle.chip.specs.declared.Cycle.{Cycle as SentCycle};
 ghost use Rattle.chip.specs.Bus.{chip};
+ghost use Rattle.chip.specs.Reply.{number_of};
 ghost use Rattle.chip.specs.Driver.{
   row_cycle,
   program_cycles,
@@ -16,7 +16,7 @@ ghost use Rattle.chip.specs.Driver.{
   drove_erase,
 };
 
-use crate::{Cycle, Mark, Registers, Sent, bus};
+use crate::{Cycle, Error, Registers, Sent, bus};
 use page::Frame;
 
 // The highest page and block that any image has.
@@ -24,111 +24,65 @@ pub const LAST_PAGE: u32 = 4095;
 
 pub const LAST_BLOCK: u32 = 255;
 
-// What the driver replies.
-const DONE: u32 = 0;
-
-const PAGE_LENGTH: u32 = 6;
-
-const FAILED: u32 = 10;
-
-fn command(byte: u8) -> Cycle
-    ensures { result ≡ command_cycle byte }
-{
-    Cycle {
-        mark: Mark::Command,
-        byte,
-    }
-}
-
-fn address(byte: u8) -> Cycle
-    ensures { result ≡ address_cycle byte }
-{
-    Cycle {
-        mark: Mark::Address,
-        byte,
-    }
-}
-
-fn data_byte(byte: u8) -> Cycle
-    ensures { result ≡ data_byte byte }
-{
-    Cycle {
-        mark: Mark::Data,
-        byte,
-    }
-}
-
 // Cycle i of a row: its three bytes, low byte first.
 fn row_cycle(row: u32, i: usize) -> Cycle
     ensures { result ≡ row_cycle row i }
 {
-    if i == 0 {
-        return address((row % 256) as u8);
+    let [low, middle, high, _] = row.to_le_bytes();
+    match i {
+        0 => Cycle::address(low),
+        1 => Cycle::address(middle),
+        _ => Cycle::address(high),
     }
-    if i == 1 {
-        return address((row / 256 % 256) as u8);
-    }
-    address((row / 65536 % 256) as u8)
 }
 
 // Cycle i of the program of page g with these bytes; behind the last, the status again.
 pub fn program_cycle(g: u32, page: &[u8], i: usize) -> Cycle
     ensures { result ≡ cycle_at (program_cycles g page.now) i }
 {
-    if i == 0 {
-        return command(bus::RESET);
-    }
-    if i == 1 {
-        return command(bus::PROGRAM_FIRST);
-    }
-    if i < 4 {
-        return address(0);
-    }
-    if i < 7 {
-        return row_cycle(g, i - 4);
+    match i {
+        0 => return Cycle::command(bus::RESET),
+        1 => return Cycle::command(bus::PROGRAM_FIRST),
+        2 | 3 => return Cycle::address(0),
+        4..=6 => return row_cycle(g, i - 4),
+        _ => {}
     }
     let at = i - 7;
     if at < page.len() {
-        return data_byte(page[at]);
+        return Cycle::data(page[at]);
     }
     if at == page.len() {
-        return command(bus::PROGRAM_SECOND);
+        return Cycle::command(bus::PROGRAM_SECOND);
     }
-    command(bus::READ_STATUS)
+    Cycle::command(bus::READ_STATUS)
 }
 
 // Cycle i of the erase of block b; behind the last, the status again.
 pub fn erase_cycle(b: u32, i: usize) -> Cycle
     ensures { result ≡ cycle_at (erase_cycles b) i }
 {
-    if i == 0 {
-        return command(bus::RESET);
+    match i {
+        0 => Cycle::command(bus::RESET),
+        1 => Cycle::command(bus::ERASE_FIRST),
+        2..=4 => row_cycle(b % 1048576 * 16, i - 2),
+        5 => Cycle::command(bus::ERASE_SECOND),
+        _ => Cycle::command(bus::READ_STATUS),
     }
-    if i == 1 {
-        return command(bus::ERASE_FIRST);
-    }
-    if i < 5 {
-        return row_cycle(b % 1048576 * 16, i - 2);
-    }
-    if i == 5 {
-        return command(bus::ERASE_SECOND);
-    }
-    command(bus::READ_STATUS)
 }
 
 // The reply to a step by the status byte: bit 0 says failed.
-pub fn reply_of(status: u8) -> u32
-    ensures { result ≡ reply_of status }
+pub fn reply_of(status: u8) -> Result<(), Error>
+    ensures { number_of result ≡ reply_of status }
 {
     if status % 2 == 1 {
-        return FAILED;
+        return Err(Error::Failed);
     }
-    DONE
+    Ok(())
 }
 
 // The status byte is read after the last cycle.
 fn ended(r: Registers, image: &[u8]) -> Sent
-    ensures { driven result.reply result.registers image.now ≡ ended_on (chip r image.now) }
+    ensures { driven (number_of result.reply) result.registers image.now ≡ ended_on (chip r image.now) }
 {
     let g = bus::fetch(r, image);
     let registers = g.registers;
@@ -143,69 +97,52 @@ const PROGRAM_CYCLES: usize = 265;
 
 const ERASE_CYCLES: usize = 7;
 
-// Sends the cycles of a program until the chip refuses one, then reads the status.
-fn send_program(r: Registers, image: &mut [u8], g: u32, page: &[u8]) -> Sent
-    requires { length page.now ≡ page_size }
-    ensures { driven result.reply result.registers image.new ≡ drove (program_cycles g page.now) r image.old }
+// Sends so many cycles until the chip refuses one, then reads the status.
+fn send<C: Fn(usize) -> Cycle>(r: Registers, image: &mut [u8], count: usize, cycle: C) -> Sent
+    requires { C.IsAlwaysCallable cycle }
+    ensures { (cycles : List SentCycle) → 0 < count → length cycles ≡ count
+        → ((i : ℕ) (sent : SentCycle) → i < count → C.post cycle i sent → sent ≡ cycle_at cycles i)
+        → driven (number_of result.reply) result.registers image.new ≡ drove cycles r image.old }
 {
     let mut q = r;
-    let mut i = 0;
-    while i < PROGRAM_CYCLES {
-        let s = bus::step(q, image, program_cycle(g, page, i));
-        if s.reply != 0 {
+    for i in 0..count {
+        let s = bus::step(q, image, cycle(i));
+        if s.reply.is_err() {
             return s;
         }
         q = s.registers;
-        i += 1;
-    }
-    ended(q, image)
-}
-
-// The same of an erase.
-fn send_erase(r: Registers, image: &mut [u8], b: u32) -> Sent
-    ensures { driven result.reply result.registers image.new ≡ drove (erase_cycles b) r image.old }
-{
-    let mut q = r;
-    let mut i = 0;
-    while i < ERASE_CYCLES {
-        let s = bus::step(q, image, erase_cycle(b, i));
-        if s.reply != 0 {
-            return s;
-        }
-        q = s.registers;
-        i += 1;
     }
     ended(q, image)
 }
 
 // Programs page g of the chip with 256 bytes.
 pub fn program(r: Registers, image: &mut [u8], g: u32, page: &[u8]) -> Sent
-    ensures { driven result.reply result.registers image.new ≡ drove_program g page.now r image.old }
+    ensures { driven (number_of result.reply) result.registers image.new ≡ drove_program g page.now r image.old }
 {
     if page.len() != Frame::PAGE {
         return Sent {
             registers: r,
-            reply: PAGE_LENGTH,
+            reply: Err(Error::PageLength),
         };
     }
     if LAST_PAGE < g {
         return Sent {
             registers: r,
-            reply: FAILED,
+            reply: Err(Error::Failed),
         };
     }
-    send_program(r, image, g, page)
+    send(r, image, PROGRAM_CYCLES, |i| program_cycle(g, page, i))
 }
 
 // Erases block b of the chip.
 pub fn erase(r: Registers, image: &mut [u8], b: u32) -> Sent
-    ensures { driven result.reply result.registers image.new ≡ drove_erase b r image.old }
+    ensures { driven (number_of result.reply) result.registers image.new ≡ drove_erase b r image.old }
 {
     if LAST_BLOCK < b {
         return Sent {
             registers: r,
-            reply: FAILED,
+            reply: Err(Error::Failed),
         };
     }
-    send_erase(r, image, b)
+    send(r, image, ERASE_CYCLES, |i| erase_cycle(b, i))
 }

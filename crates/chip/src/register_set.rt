@@ -12,7 +12,6 @@ ghost use Rattle.chip.specs.Registers.{
   valid as valid_set,
   counts_as as counts_as_set,
   column_limit,
-  row_limit,
 };
 
 use crate::{Registers, State};
@@ -44,12 +43,8 @@ pub(crate) fn begun(state: State, cycles: u32) -> Registers
     ensures { result ≡ begun_set state cycles }
 {
     Registers {
-        state,
         cycles,
-        column: 0,
-        row: 0,
-        page: [Frame::ERASED; 256],
-        failed: false,
+        ..resting(state, false)
     }
 }
 
@@ -58,12 +53,8 @@ pub(crate) fn in_command(state: State) -> bool
     ensures { result ≡ in_command state }
 {
     match state {
-        State::Idle => false,
-        State::Status => false,
-        State::Output => false,
-        State::Read => true,
-        State::Program => true,
-        State::Erase => true,
+        State::Idle | State::Status | State::Output => false,
+        State::Read | State::Program | State::Erase => true,
     }
 }
 
@@ -72,11 +63,9 @@ fn state_fits(state: State, cycles: u32, column: u32, failed: bool) -> bool
     ensures { result ≡ state_fits state cycles column failed }
 {
     match state {
-        State::Idle => cycles == 0,
-        State::Status => cycles == 0,
+        State::Idle | State::Status => cycles == 0,
         State::Output => !failed & (cycles == ALL_CYCLES),
-        State::Read => !failed,
-        State::Program => !failed,
+        State::Read | State::Program => !failed,
         State::Erase => !failed & (COLUMN_CYCLES <= cycles) & (column == 0),
     }
 }
@@ -86,39 +75,20 @@ fn columns_of(state: State) -> u32
     ensures { result ≡ columns_of state }
 {
     match state {
-        State::Idle => PAGE,
-        State::Status => PAGE,
-        State::Output => PAGE + 1,
-        State::Read => PAGE,
-        State::Program => PAGE + 1,
-        State::Erase => PAGE,
+        State::Idle | State::Status | State::Read | State::Erase => PAGE,
+        State::Output | State::Program => PAGE + 1,
     }
 }
 
-// What the column stays below after so many cycles.
-fn column_limit(cycles: u32) -> u32
+// What a column or a row stays below after so many of its own cycles, low byte first.
+fn limit(cycles: u32) -> u32
     ensures { result ≡ column_limit cycles }
 {
-    if cycles == 0 {
-        return 1;
+    match cycles {
+        0 => 1,
+        1 => 256,
+        _ => 65536,
     }
-    if cycles == 1 {
-        return 256;
-    }
-    65536
-}
-
-// The same of the row.
-fn row_limit(cycles: u32) -> u32
-    ensures { result ≡ row_limit cycles }
-{
-    if cycles <= COLUMN_CYCLES {
-        return 1;
-    }
-    if cycles == 3 {
-        return 256;
-    }
-    65536
 }
 
 // Whether column and row are what so many cycles give, and inside page and image once the address is whole.
@@ -126,7 +96,7 @@ fn address_fits(columns: u32, pages: u32, cycles: u32, column: u32, row: u32) ->
     ensures { result ≡ address_fits columns pages cycles column row }
 {
     if cycles < ALL_CYCLES {
-        return (column < column_limit(cycles)) & (row < row_limit(cycles));
+        return (column < limit(cycles)) & (row < limit(cycles.saturating_sub(COLUMN_CYCLES)));
     }
     (cycles == ALL_CYCLES) & (column < columns) & (row < pages)
 }
@@ -135,13 +105,10 @@ fn address_fits(columns: u32, pages: u32, cycles: u32, column: u32, row: u32) ->
 fn sent_to(state: State, cycles: u32, column: u32) -> u32
     ensures { result ≡ sent_to state cycles column }
 {
-    match state {
-        State::Idle => 0,
-        State::Status => 0,
-        State::Output => 0,
-        State::Read => 0,
-        State::Program => { if cycles == ALL_CYCLES { column } else { 0 } }
-        State::Erase => 0,
+    if state == State::Program && cycles == ALL_CYCLES {
+        column
+    } else {
+        0
     }
 }
 

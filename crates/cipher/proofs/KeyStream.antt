@@ -1,10 +1,10 @@
 -- Laws of the key stream: its length, a list with a block added from a place on, and two blocks more of the stream added.
 use mathlib.Core.Path.{◌≡◌, refl, ap, ap₂, ◌∙◌, sym}
 use mathlib.Core.List.{List, ◌++◌, append-nil}
-use Prim.Native.Nat.{ℕ, zero, suc, ◌+◌, ◌≤◌, ◌-◌, ◌*◌}
+use Prim.Native.Nat.{ℕ, zero, suc, ◌+◌, ◌≤◌, ◌*◌, ◌/◌, ◌%◌}
 use native.Mathlib.Omega.{arith}
 use native.Mathlib.Numerals.{add-one}
-use lib.ListN.{length, take, drop, length-drop, length-append, drop_of_length-le}
+use lib.ListN.{length, take, drop, length-append, drop_of_length-le}
 use lib.Seq.{take_all}
 use Rattle.cipher.specs.Words.{xor_bytes}
 use Rattle.cipher.specs.Cipher.{shift_rows, cipher}
@@ -26,14 +26,6 @@ length-key_stream w (suc n) =
 pub past_end : (p : List ℕ) (a : ℕ) (k : List ℕ) → length p ≤ a → p ≡ take a p ++ xor_bytes (drop a p) k
 past_end p a k h = sym (ap₂ (λ (x y : List ℕ). x ++ xor_bytes y k) (take_all a p h) (drop_of_length-le p {i = a} h) ∙ append-nil p)
 
--- by its tail from a on, lent and back
-pub tail_added : (p : List ℕ) (a : ℕ) (k y : List ℕ) → a ≤ length p → y ≡ xor_bytes (take (length p - a) (drop a p)) k
-    → take a p ++ (y ++ drop (length p - a) (drop a p)) ≡ take a p ++ xor_bytes (drop a p) k
-tail_added p a k y h e =
-    let l : length (drop a p) ≤ length p - a = simp length-drop (omega arith) in
-    ap (λ (x : List ℕ). take a p ++ (y ++ x)) (drop_of_length-le (drop a p) {i = length p - a} l)
-    ∙ ap (λ (x : List ℕ). take a p ++ x) (append-nil y ∙ e ∙ ap (λ (x : List ℕ). xor_bytes x k) (take_all (length p - a) (drop a p) l))
-
 -- ---- the blocks of the counters from n on, added behind the n blocks before them. What is past the end of p₀ changes nothing
 module _ (w p₀ : List ℕ) where
   -- one block
@@ -48,12 +40,13 @@ module _ (w p₀ : List ℕ) where
       ∙ sym (xor_append p₀ (key_stream w n) (cipher w (counter_block n)))
       ∙ ap (λ (m : ℕ). xor_bytes p₀ (key_stream w m)) (sym (add-one n))
 
-  -- two blocks
-  pub key_stream_two : (n a : ℕ) (p k q l r : List ℕ) → a ≡ 16 * n → p ≡ xor_bytes p₀ (key_stream w n)
-      → (k ≡ cipher w (counter_block n)) × (l ≡ cipher w (counter_block (n + 1)))
+  -- two blocks, from a on
+  pub key_stream_two : (a : ℕ) (p k q l r : List ℕ) → a % 32 ≡ 0 → p ≡ xor_bytes p₀ (key_stream w (a / 16))
+      → (k ≡ cipher w (counter_block (a / 16))) × (l ≡ cipher w (counter_block (a / 16 + 1)))
       → q ≡ take a p ++ xor_bytes (drop a p) k → r ≡ take (a + 16) q ++ xor_bytes (drop (a + 16) q) l
-      → r ≡ xor_bytes p₀ (key_stream w (n + 2))
-  key_stream_two n a p k q l r e ep eb eq er =
-      let two : n + 1 + 1 ≡ n + 2 = omega arith in
-      key_stream_more (n + 1) (a + 16) q l r (omega arith) (key_stream_more n a p k q e ep eb.0 eq) eb.1 er
+      → r ≡ xor_bytes p₀ (key_stream w ((a + 32) / 16))
+  key_stream_two a p k q l r e ep eb eq er =
+      let n = a / 16 in
+      let two : n + 1 + 1 ≡ (a + 32) / 16 = omega arith in
+      key_stream_more (n + 1) (a + 16) q l r (omega arith) (key_stream_more n a p k q (omega arith) ep eb.0 eq) eb.1 er
       ∙ ap (λ (m : ℕ). xor_bytes p₀ (key_stream w m)) two

@@ -1,16 +1,16 @@
 -- Laws of a round: the entries of the tables; a mixed column, row by row; the rounds that are left.
 use mathlib.Core.Path.{◌≡◌, ap, ap₂, sym, ◌∙◌}
 use mathlib.Core.List.{List, ◌++◌}
-use Prim.Native.Nat.{ℕ, ◌+◌, ◌-◌, ◌*◌, ◌<◌, ◌≤◌}
+use Prim.Native.Nat.{ℕ, zero, suc, ◌+◌, ◌-◌, ◌*◌, ◌<◌, ◌≤◌}
 use native.Mathlib.Numerals.{add-one}
 use native.Mathlib.Omega.{arith}
-use lib.ListN.{length, get_or}
+use lib.ListN.{get_or}
 use Rattle.base.specs.Part.{part}
 use Rattle.base.proofs.Parts.{part-part, part_at}
 use Rattle.cipher.specs.Field.{◌⊕◌}
 use Rattle.cipher.specs.SBox.{s_box}
 use Rattle.cipher.specs.Words.{little_endian, xor_bytes}
-use Rattle.cipher.specs.Table.{row0, row1, row2, row3, s_box_table, doubled_columns, round_table}
+use Rattle.cipher.specs.Table.{row0, row1, row2, row3, row, s_box_table, round_table}
 use Rattle.cipher.specs.Cipher.{Nr, sub_bytes, shift_rows, mix_bytes, mix_columns, add_round_key, rounds, cipher}
 use Rattle.cipher.proofs.TableRules.{s_box_rule, round_table_rule}
 use Rattle.cipher.proofs.WordLaws.{word_xor}
@@ -18,10 +18,6 @@ use Rattle.cipher.proofs.WordLaws.{word_xor}
 -- ---- what stands in a table that was passed on
 pub s_box-entry : {t : List ℕ} → t ≡ s_box_table → (k : ℕ) → k < 256 → get_or t k 0 ≡ s_box k
 s_box-entry e k h = ap (λ (l : List ℕ). get_or l k 0) e ∙ s_box_rule k h
-
-pub round_table-length : {t : List ℕ} → t ≡ round_table → length t ≡ 2048
-unfolding round_table doubled_columns s_box_table
-round_table-length e = ap length e
 
 -- an entry of the round table
 module _ {t : List ℕ} (e : t ≡ round_table) (k : ℕ) (h : k < 256) where
@@ -32,22 +28,14 @@ module _ {t : List ℕ} (e : t ≡ round_table) (k : ℕ) (h : k < 256) where
   round_word : (b : ℕ) → b ≤ 4 → part t (8 * k + b) 4 ≡ part (row0 (s_box k) ++ row0 (s_box k)) b 4
   round_word b g = sym (part-part t (8 * k) 8 b 4 (omega arith)) ∙ ap (λ (l : List ℕ). part l b 4) round_entry
 
-  -- from byte 0, 3, 2 and 1 on they are what MixColumns makes of the S-box byte in row 0, 1, 2 and 3
-  pub round_row_0 : part t (8 * k) 4 ≡ row0 (s_box k)
+  -- from byte 4 - r on they are what MixColumns makes of the S-box byte in row r
+  pub round_row : (r : ℕ) → r < 4 → part t (8 * k + (4 - r)) 4 ≡ row r (s_box k)
   unfolding part
-  round_row_0 = let f : 8 * k ≡ 8 * k + 0 = omega arith in ap (λ (a : ℕ). part t a 4) f ∙ round_word 0 (omega arith)
-
-  pub round_row_1 : part t (8 * k + 3) 4 ≡ row1 (s_box k)
-  unfolding part
-  round_row_1 = round_word 3 (omega arith)
-
-  pub round_row_2 : part t (8 * k + 2) 4 ≡ row2 (s_box k)
-  unfolding part
-  round_row_2 = round_word 2 (omega arith)
-
-  pub round_row_3 : part t (8 * k + 1) 4 ≡ row3 (s_box k)
-  unfolding part
-  round_row_3 = round_word 1 (omega arith)
+  round_row zero g = round_word 4 (omega arith)
+  round_row (suc zero) g = round_word 3 (omega arith)
+  round_row (suc (suc zero)) g = round_word 2 (omega arith)
+  round_row (suc (suc (suc zero))) g = round_word 1 (omega arith)
+  round_row (suc (suc (suc (suc r)))) g = absurd (omega arith)
 
   -- and byte 1 is the S-box byte
   pub s_box-byte : get_or t (8 * k + 1) 0 ≡ s_box k

@@ -95,10 +95,6 @@ pub schedule_round : (key : List ℕ) (m : ℕ) → length key ≡ 16
 unfolding next_round_key
 schedule_round key m h = four_more key m (schedule (4 * m) key) _ _ _ _ h refl refl refl refl refl
 
-pub length_next : (c : ℕ) (k : List ℕ) → length (next_round_key c k) ≡ 16
-unfolding next_round_key
-length_next c k = refl
-
 -- the words of the next round key, from those of the last: t is what is added to the first
 pub next_words : (k : Columns) (c t : ℕ) → little_endian t ≡ xor_bytes (sub_word (rot_word (little_endian k.c3))) (four c 0 0 0)
     → (n : Columns) → n.c0 ≡ k.c0 ⊕ t → n.c1 ≡ k.c1 ⊕ n.c0 → n.c2 ≡ k.c2 ⊕ n.c1 → n.c3 ≡ k.c3 ⊕ n.c2

@@ -98,15 +98,25 @@ xor_more (a ∷ q) [] j h g = absurd (not-suc-le-zero g)
 xor_more (a ∷ q) (b ∷ k) zero h g = ap (λ (l : List ℕ). (a ⊕ b) ∷ l) (sym (xor_nil q))
 xor_more (a ∷ q) (b ∷ k) (suc j) h g = ap (λ (l : List ℕ). (a ⊕ b) ∷ l) (xor_more q k j (le_of_suc-le-suc h) (le_of_suc-le-suc g))
 
--- no byte past the end of q counts
-pub xor_all : (q k : List ℕ) (j : ℕ) → length q ≤ j → xor_bytes q (take j k) ≡ xor_bytes q k
+-- no byte past the end of q counts, and none stands past that of k
+pub xor_all : (q k : List ℕ) (j : ℕ) → (j < length q → length k ≤ j) → xor_bytes q (take j k) ≡ xor_bytes q k
 xor_all [] k j h = refl
-xor_all (a ∷ q) k zero h = absurd (not-suc-le-zero h)
+xor_all (a ∷ q) [] zero h = refl
 xor_all (a ∷ q) [] (suc j) h = refl
-xor_all (a ∷ q) (b ∷ k) (suc j) h = ap (λ (l : List ℕ). (a ⊕ b) ∷ l) (xor_all q k j (le_of_suc-le-suc h))
+xor_all (a ∷ q) (b ∷ k) zero h = absurd (not-suc-le-zero (h (omega arith)))
+xor_all (a ∷ q) (b ∷ k) (suc j) h = ap (λ (l : List ℕ). (a ⊕ b) ∷ l) (xor_all q k j (λ g. le_of_suc-le-suc (h (omega arith))))
 
 -- more bytes are added from where the first end
 pub xor_append : (q k m : List ℕ) → xor_bytes q (k ++ m) ≡ take (length k) (xor_bytes q k) ++ xor_bytes (drop (length k) (xor_bytes q k)) m
 xor_append q [] m = ap (λ (l : List ℕ). xor_bytes l m) (sym (xor_nil q))
 xor_append [] (b ∷ k) m = refl
 xor_append (a ∷ q) (b ∷ k) m = ap (λ (l : List ℕ). (a ⊕ b) ∷ l) (xor_append q k m)
+
+-- a sum with the front of a list alone, which is as long as one of the two
+pub xor_front : (n : ℕ) (q k : List ℕ) → n ≤ length q → n ≤ length k → (n < length q → n ≡ length k) → xor_bytes (take n q) k ++ drop n q ≡ xor_bytes q k
+xor_front zero q [] h g f = sym (xor_nil q)
+xor_front zero [] (b ∷ k) h g f = refl
+xor_front zero (a ∷ q) (b ∷ k) h g f = absurd (omega (arith, f (omega arith)))
+xor_front (suc n) [] k h g f = absurd (omega arith)
+xor_front (suc n) (a ∷ q) [] h g f = absurd (omega arith)
+xor_front (suc n) (a ∷ q) (b ∷ k) h g f = ap (λ (l : List ℕ). (a ⊕ b) ∷ l) (xor_front n q k (omega arith) (omega arith) (λ l. omega (arith, f (omega arith))))

@@ -9,7 +9,7 @@ use lib.Seq.{drop-cons, get_or-append-add}
 use Rattle.base.specs.Part.{part}
 use Rattle.base.proofs.Parts.{part_length, part_at}
 use Rattle.cipher.specs.Field.{◌⊕◌}
-use Rattle.cipher.specs.Words.{four, word, xor_bytes, little_endian}
+use Rattle.cipher.specs.Words.{four, word, xor_bytes, byte, little_endian}
 
 pub four_eq : {a b c d a' b' c' d' : ℕ} → a ≡ a' → b ≡ b' → c ≡ c' → d ≡ d' → four a b c d ≡ four a' b' c' d'
 four_eq p q r s = λ i. four (p i) (q i) (r i) (s i)
@@ -21,12 +21,13 @@ xor_at k x y = ap (λ (z : ℕ). z % 256) (xor_shr x y k) ∙ xor_mod (x / 2 ^ k
 pub word_xor : (x y : ℕ) → little_endian (x ⊕ y) ≡ xor_bytes (little_endian x) (little_endian y)
 word_xor x y = four_eq (xor_mod x y 8) (xor_at 8 x y) (xor_at 16 x y) (xor_at 24 x y)
 
--- ---- a number of four bytes
-abbrev number : ℕ → ℕ → ℕ → ℕ → ℕ
-number a b c d = a + b * 0x100 + c * 0x10000 + d * 0x1000000
-
-pub number_bytes : {a b c d : ℕ} → a < 256 → b < 256 → c < 256 → d < 256 → little_endian (number a b c d) ≡ four a b c d
-number_bytes ha hb hc hd = four_eq (omega arith) (omega arith) (omega arith) (omega arith)
+-- ---- byte r of a number, by a shift
+pub byte-shifted : (r x : ℕ) → r < 4 → x / 2 ^ (8 * r) % 0x100 ≡ byte r x
+byte-shifted zero x h = let e : x / 1 % 0x100 ≡ x % 0x100 = omega arith in e
+byte-shifted (suc zero) x h = refl
+byte-shifted (suc (suc zero)) x h = refl
+byte-shifted (suc (suc (suc zero))) x h = refl
+byte-shifted (suc (suc (suc (suc r)))) x h = absurd (omega arith)
 
 -- ---- words that are joined
 pub words_eq : {a b c d a' b' c' d' : List ℕ} → a ≡ a' → b ≡ b' → c ≡ c' → d ≡ d' → a ++ b ++ c ++ d ≡ a' ++ b' ++ c' ++ d'

@@ -1,9 +1,10 @@
 -- The tables that the code has, as lists. Their rules are proved in proofs/TableRules.antt.
 --   row0 s .. row3 s   what MixColumns makes of a column with the byte s in that row and 0 in the others
+--   row r s            the same for row r
 --   s_box_table          the S-box, FIPS 197, figure 7
 --   doubled_columns l   what MixColumns makes of each byte of l in row 0: the column of four bytes, twice
 --   round_table         SubBytes and MixColumns of each byte in row 0: the doubled columns of the S-box bytes, 8 bytes each
-use Rattle.std.specs.Prelude.{List, [], ◌∷◌, ◌++◌, ℕ}
+use Rattle.std.specs.Prelude.{List, [], ◌∷◌, ◌++◌, ℕ, zero, suc}
 use Rattle.cipher.specs.Field.{◌•◌}
 use Rattle.cipher.specs.Words.{four}
 
@@ -19,6 +20,12 @@ row2 s = four s (3 • s) (2 • s) s
 
 abbrev pub row3 : ℕ → List ℕ
 row3 s = four s s (3 • s) (2 • s)
+
+abbrev pub row : ℕ → ℕ → List ℕ
+row zero s = row0 s
+row (suc zero) s = row1 s
+row (suc (suc zero)) s = row2 s
+row (suc (suc (suc r))) s = row3 s
 
 -- 5.1.1, figure 7: row x, column y is the byte that takes the place of {xy}
 unfoldable pub s_box_table : List ℕ

@@ -3,6 +3,7 @@
 --   word w i             word i of a list of bytes
 --   xor_bytes s k         the sum of two lists of bytes
 --   byte0 x .. byte3 x   the bytes of a 32-bit number, byte 0 the lowest
+--   byte r x             byte r of it
 --   little_endian x       a 32-bit number as a word, its lowest byte first
 --   big_endian k n        a number as k bytes, the highest first
 use Rattle.std.specs.Prelude.{List, [], ◌∷◌, ℕ, zero, suc, ◌+◌, ◌*◌, ◌/◌, ◌%◌, ◌^◌, get_or}
@@ -34,6 +35,12 @@ byte2 x = x / 0x10000 % 0x100
 
 abbrev pub byte3 : ℕ → ℕ
 byte3 x = x / 0x1000000 % 0x100
+
+abbrev pub byte : ℕ → ℕ → ℕ
+byte zero x = byte0 x
+byte (suc zero) x = byte1 x
+byte (suc (suc zero)) x = byte2 x
+byte (suc (suc (suc r))) x = byte3 x
 
 -- the four of them as a word
 abbrev pub little_endian : ℕ → List ℕ

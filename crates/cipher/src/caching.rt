@@ -1,6 +1,5 @@
 // Counter-mode caching: the first two rounds, of which all but five look-ups are worked out once for 256 counters.
 ghost use Rattle.std.specs.Prelude.{◌≡◌, ◌+◌, ◌<◌, ◌^◌};
-ghost use Rattle.cipher.specs.Table.{round_table};
 ghost use Rattle.cipher.specs.Words.{xor_bytes, little_endian};
 ghost use Rattle.cipher.specs.Cipher.{add_round_key};
 ghost use Rattle.cipher.specs.State.{state};
@@ -8,7 +7,7 @@ ghost use Rattle.cipher.specs.CounterMode.{counter_block};
 ghost use Rattle.cipher.specs.Caching.{column_share, counter_state, Serves};
 
 use crate::columns::{Columns, add};
-use crate::rounds::{full_round, mix_row_0, mix_row_1, mix_row_2, mix_row_3, round_key};
+use crate::rounds::{full_round, mix_row, round_key};
 use crate::words::from_le_bytes;
 
 // What counters that differ in the last byte alone have in common.
@@ -24,18 +23,9 @@ pub(crate) struct Cache {
 fn counter_block(n: u64) -> Columns
     ensures { state result ≡ counter_block n }
 {
-    let c2 = from_le_bytes(
-        (n / 0x100000000000000) as u8,
-        (n / 0x1000000000000 % 0x100) as u8,
-        (n / 0x10000000000 % 0x100) as u8,
-        (n / 0x100000000 % 0x100) as u8,
-    );
-    let c3 = from_le_bytes(
-        (n / 0x1000000 % 0x100) as u8,
-        (n / 0x10000 % 0x100) as u8,
-        (n / 0x100 % 0x100) as u8,
-        (n % 0x100) as u8,
-    );
+    let [a, b, c, d, e, f, g, h] = n.to_be_bytes();
+    let c2 = from_le_bytes(a, b, c, d);
+    let c3 = from_le_bytes(e, f, g, h);
     Columns {
         c0: 0,
         c1: 0,
@@ -52,52 +42,47 @@ fn counter_state(w: &[u8; 176], n: u64) -> Columns
 }
 
 // A state after round 2 plus the share of column 0, x: it brings the share in, or takes it out again.
-fn add_column_share(table: &[u8; 2048], s: Columns, x: u32) -> Columns
-    requires { table.now ≡ round_table }
+fn add_column_share(s: Columns, x: u32) -> Columns
     ensures { state result ≡ xor_bytes (state s) (column_share (little_endian x)) }
 {
-    let c0 = s.c0 ^ mix_row_0(table, x);
-    let c1 = s.c1 ^ mix_row_3(table, x);
-    let c2 = s.c2 ^ mix_row_2(table, x);
-    let c3 = s.c3 ^ mix_row_1(table, x);
+    let c0 = s.c0 ^ mix_row::<0>(x);
+    let c1 = s.c1 ^ mix_row::<3>(x);
+    let c2 = s.c2 ^ mix_row::<2>(x);
+    let c3 = s.c3 ^ mix_row::<1>(x);
     Columns { c0, c1, c2, c3 }
 }
 
 // The cache for counter n: two rounds, with the shares taken out.
-pub(crate) fn new_cache(table: &[u8; 2048], w: &[u8; 176], n: u64) -> Cache
-    requires { table.now ≡ round_table }
+pub(crate) fn new_cache(w: &[u8; 176], n: u64) -> Cache
     ensures { Serves w.now n result }
 {
     let s0 = counter_state(w, n);
-    let s1 = full_round(table, w, s0, 1);
-    let s2 = full_round(table, w, s1, 2);
-    let column = s1.c0 ^ mix_row_3(table, s0.c3);
-    let rest = add_column_share(table, s2, s1.c0);
+    let s1 = full_round(w, s0, 1);
+    let s2 = full_round(w, s1, 2);
+    let column = s1.c0 ^ mix_row::<3>(s0.c3);
+    let rest = add_column_share(s2, s1.c0);
     Cache { column, rest }
 }
 
 // The cache for counter n + 1 after that for counter n.
-pub(crate) fn next_cache(table: &[u8; 2048], w: &[u8; 176], cache: Cache, n: u64) -> Cache
-    requires table_value { table.now ≡ round_table }
+pub(crate) fn next_cache(w: &[u8; 176], cache: Cache, n: u64) -> Cache
     requires n_bound { n + 1 < 2 ^ 64 }
     requires serves { Serves w.now n cache }
     ensures { Serves w.now (n + 1) result }
 {
     let next = n + 1;
     if next % 0x100 == 0 {
-        return new_cache(table, w, next);
+        return new_cache(w, next);
     }
     cache
 }
 
 // The state of counter n after two rounds.
-pub(crate) fn two_rounds(table: &[u8; 2048], w: &[u8; 176], cache: Cache, n: u64) -> Columns
-    requires table_value { table.now ≡ round_table }
-    requires serves { Serves w.now n cache }
+pub(crate) fn two_rounds(w: &[u8; 176], cache: Cache, n: u64) -> Columns
+    requires { Serves w.now n cache }
     ensures { state result ≡ counter_state w.now 2 n }
 {
     let s = counter_state(w, n);
-    let x = cache.column ^ mix_row_3(table, s.c3);
-    let rest = cache.rest;
-    add_column_share(table, rest, x)
+    let x = cache.column ^ mix_row::<3>(s.c3);
+    add_column_share(cache.rest, x)
 }

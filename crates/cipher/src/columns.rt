@@ -32,23 +32,12 @@ pub(crate) fn from_block(b: [u8; 16]) -> Columns
 pub(crate) fn to_block(s: Columns) -> [u8; 16]
     ensures { result ≡ state s }
 {
+    let [a0, a1, a2, a3] = s.c0.to_le_bytes();
+    let [b0, b1, b2, b3] = s.c1.to_le_bytes();
+    let [c0, c1, c2, c3] = s.c2.to_le_bytes();
+    let [d0, d1, d2, d3] = s.c3.to_le_bytes();
     [
-        (s.c0 % 0x100) as u8,
-        (s.c0 / 0x100 % 0x100) as u8,
-        (s.c0 / 0x10000 % 0x100) as u8,
-        (s.c0 / 0x1000000 % 0x100) as u8,
-        (s.c1 % 0x100) as u8,
-        (s.c1 / 0x100 % 0x100) as u8,
-        (s.c1 / 0x10000 % 0x100) as u8,
-        (s.c1 / 0x1000000 % 0x100) as u8,
-        (s.c2 % 0x100) as u8,
-        (s.c2 / 0x100 % 0x100) as u8,
-        (s.c2 / 0x10000 % 0x100) as u8,
-        (s.c2 / 0x1000000 % 0x100) as u8,
-        (s.c3 % 0x100) as u8,
-        (s.c3 / 0x100 % 0x100) as u8,
-        (s.c3 / 0x10000 % 0x100) as u8,
-        (s.c3 / 0x1000000 % 0x100) as u8,
+        a0, a1, a2, a3, b0, b1, b2, b3, c0, c1, c2, c3, d0, d1, d2, d3,
     ]
 }
 

@@ -14,8 +14,6 @@ mod stream; // the counter mode
 mod tables; // the S-box and the round table
 mod words; // 32-bit words
 
-use tables::{ROUND_TABLE, S_BOX};
-
 // The eleven round keys of a key, one after the other.
 #[derive(Clone, Copy)]
 pub struct RoundKeys {
@@ -26,7 +24,7 @@ pub struct RoundKeys {
 pub fn expand(key: [u8; 16]) -> RoundKeys
     ensures { result.bytes ≡ key_expansion key }
 {
-    let bytes = expansion::expand_key(&S_BOX, key);
+    let bytes = expansion::expand_key(key);
     RoundKeys { bytes }
 }
 
@@ -36,12 +34,12 @@ pub fn encrypt(keys: RoundKeys, block: [u8; 16]) -> [u8; 16]
 {
     let w = keys.bytes;
     let input = columns::from_block(block);
-    columns::to_block(rounds::encrypt_columns(&ROUND_TABLE, &w, input))
+    columns::to_block(rounds::encrypt_columns(&w, input))
 }
 
 // Enciphers text in place, or deciphers it: adds the key stream.
 pub fn apply_stream(keys: RoundKeys, text: &mut [u8])
     ensures { text.new ≡ counter_mode keys.bytes text.old }
 {
-    stream::add_key_stream(&ROUND_TABLE, &keys.bytes, text)
+    stream::add_key_stream(&keys.bytes, text)
 }

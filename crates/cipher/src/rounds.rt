@@ -2,14 +2,14 @@
 ghost use Rattle.std.specs.Prelude.{◌≡◌, List, ℕ, ◌+◌, ◌*◌, ◌<◌, ◌≤◌, length};
 ghost use Rattle.base.specs.Part.{part};
 ghost use Rattle.cipher.specs.SBox.{s_box};
-ghost use Rattle.cipher.specs.Table.{round_table, row0, row1, row2, row3};
-ghost use Rattle.cipher.specs.Words.{four, word, byte0, byte1, byte2, byte3, little_endian};
+ghost use Rattle.cipher.specs.Table.{round_table, row};
+ghost use Rattle.cipher.specs.Words.{four, word, byte, byte0, byte1, byte2, byte3, little_endian};
 ghost use Rattle.cipher.specs.Cipher.{Nb, Nr, sub_bytes, shift_rows, mix_bytes, mix_columns, round_key, add_round_key, rounds, cipher};
 ghost use Rattle.cipher.specs.State.{state};
 
 use crate::columns::{Columns, add};
-use crate::tables::ENTRY_SIZE;
-use crate::words::from_le_bytes;
+use crate::tables::{self, ENTRY_SIZE};
+use crate::words::{from_le_bytes, word_at};
 
 // The rounds. All but the last are alike; the last has no MixColumns.
 pub(crate) const ROUNDS: usize = 10;
@@ -23,89 +23,61 @@ pub(crate) struct States {
     pub(crate) second: Columns,
 }
 
-// Four bytes of the round table.
-fn table_word(table: &[u8; 2048], at: usize) -> u32
-    requires table_value { table.now ≡ round_table }
-    requires at_in_bounds { at + 4 ≤ length table.now }
-    ensures { little_endian result ≡ part table.now at 4 }
+// SubBytes and MixColumns of one row of x alone, by the round table.
+pub(crate) fn mix_row<const ROW: usize>(x: u32) -> u32
+    requires { ROW < 4 }
+    ensures { little_endian result ≡ row ROW (s_box (byte ROW x)) }
 {
-    from_le_bytes(table[at], table[at + 1], table[at + 2], table[at + 3])
-}
-
-// SubBytes and MixColumns of row 0 of x alone, by the round table.
-pub(crate) fn mix_row_0(table: &[u8; 2048], x: u32) -> u32
-    requires { table.now ≡ round_table }
-    ensures { little_endian result ≡ row0 (s_box (byte0 x)) }
-{
-    table_word(table, ENTRY_SIZE * ((x % 0x100) as usize))
-}
-
-// The same of row 1 alone.
-pub(crate) fn mix_row_1(table: &[u8; 2048], x: u32) -> u32
-    requires { table.now ≡ round_table }
-    ensures { little_endian result ≡ row1 (s_box (byte1 x)) }
-{
-    table_word(table, ENTRY_SIZE * ((x / 0x100 % 0x100) as usize) + 3)
-}
-
-// The same of row 2 alone.
-pub(crate) fn mix_row_2(table: &[u8; 2048], x: u32) -> u32
-    requires { table.now ≡ round_table }
-    ensures { little_endian result ≡ row2 (s_box (byte2 x)) }
-{
-    table_word(table, ENTRY_SIZE * ((x / 0x10000 % 0x100) as usize) + 2)
-}
-
-// The same of row 3 alone.
-pub(crate) fn mix_row_3(table: &[u8; 2048], x: u32) -> u32
-    requires { table.now ≡ round_table }
-    ensures { little_endian result ≡ row3 (s_box (byte3 x)) }
-{
-    table_word(table, ENTRY_SIZE * ((x / 0x1000000 % 0x100) as usize) + 1)
+    let byte = (x >> (8 * ROW)) % 0x100;
+    let at = ENTRY_SIZE * (byte as usize) + (4 - ROW);
+    word_at(tables::of_rounds(), at)
 }
 
 // SubBytes and MixColumns of row 0 of a, row 1 of b, row 2 of c and row 3 of d.
-fn sub_mix(table: &[u8; 2048], a: u32, b: u32, c: u32, d: u32) -> u32
-    requires { table.now ≡ round_table }
+fn sub_mix(a: u32, b: u32, c: u32, d: u32) -> u32
     ensures { little_endian result ≡ mix_bytes (s_box (byte0 a)) (s_box (byte1 b)) (s_box (byte2 c)) (s_box (byte3 d)) }
 {
-    mix_row_0(table, a) ^ mix_row_1(table, b) ^ mix_row_2(table, c) ^ mix_row_3(table, d)
+    mix_row::<0>(a) ^ mix_row::<1>(b) ^ mix_row::<2>(c) ^ mix_row::<3>(d)
 }
 
 // SubBytes, ShiftRows and MixColumns: ShiftRows brings the rows of a column from that column and the next three.
-fn sub_shift_mix(table: &[u8; 2048], s: Columns) -> Columns
-    requires { table.now ≡ round_table }
+fn sub_shift_mix(s: Columns) -> Columns
     ensures { state result ≡ mix_columns (shift_rows (sub_bytes (state s))) }
 {
-    let c0 = sub_mix(table, s.c0, s.c1, s.c2, s.c3);
-    let c1 = sub_mix(table, s.c1, s.c2, s.c3, s.c0);
-    let c2 = sub_mix(table, s.c2, s.c3, s.c0, s.c1);
-    let c3 = sub_mix(table, s.c3, s.c0, s.c1, s.c2);
+    let c0 = sub_mix(s.c0, s.c1, s.c2, s.c3);
+    let c1 = sub_mix(s.c1, s.c2, s.c3, s.c0);
+    let c2 = sub_mix(s.c2, s.c3, s.c0, s.c1);
+    let c3 = sub_mix(s.c3, s.c0, s.c1, s.c2);
     Columns { c0, c1, c2, c3 }
 }
 
 // SubBytes of row 0 of a, row 1 of b, row 2 of c and row 3 of d: byte 1 of an entry is the S-box byte.
-fn sub_rows(table: &[u8; 2048], a: u32, b: u32, c: u32, d: u32) -> u32
-    requires { table.now ≡ round_table }
+fn sub_rows(a: u32, b: u32, c: u32, d: u32) -> u32
     ensures { little_endian result ≡ four (s_box (byte0 a)) (s_box (byte1 b)) (s_box (byte2 c)) (s_box (byte3 d)) }
 {
+    let table = tables::of_rounds();
+    let [a0, _, _, _] = a.to_le_bytes();
+    let [_, b1, _, _] = b.to_le_bytes();
+    let [_, _, c2, _] = c.to_le_bytes();
+    let [_, _, _, d3] = d.to_le_bytes();
     from_le_bytes(
-        table[ENTRY_SIZE * ((a % 0x100) as usize) + 1],
-        table[ENTRY_SIZE * ((b / 0x100 % 0x100) as usize) + 1],
-        table[ENTRY_SIZE * ((c / 0x10000 % 0x100) as usize) + 1],
-        table[ENTRY_SIZE * ((d / 0x1000000 % 0x100) as usize) + 1],
+        table[ENTRY_SIZE * (a0 as usize) + 1],
+        table[ENTRY_SIZE * (b1 as usize) + 1],
+        table[ENTRY_SIZE * (c2 as usize) + 1],
+        table[ENTRY_SIZE * (d3 as usize) + 1],
     )
 }
 
 // SubBytes and ShiftRows.
-fn sub_shift(table: &[u8; 2048], s: Columns) -> Columns
-    requires { table.now ≡ round_table }
+// Stays (2): one function over a closure would have to say of each column what the closure gave, which is longer than these
+// lines.
+fn sub_shift(s: Columns) -> Columns
     ensures { state result ≡ shift_rows (sub_bytes (state s)) }
 {
-    let c0 = sub_rows(table, s.c0, s.c1, s.c2, s.c3);
-    let c1 = sub_rows(table, s.c1, s.c2, s.c3, s.c0);
-    let c2 = sub_rows(table, s.c2, s.c3, s.c0, s.c1);
-    let c3 = sub_rows(table, s.c3, s.c0, s.c1, s.c2);
+    let c0 = sub_rows(s.c0, s.c1, s.c2, s.c3);
+    let c1 = sub_rows(s.c1, s.c2, s.c3, s.c0);
+    let c2 = sub_rows(s.c2, s.c3, s.c0, s.c1);
+    let c3 = sub_rows(s.c3, s.c0, s.c1, s.c2);
     Columns { c0, c1, c2, c3 }
 }
 
@@ -114,8 +86,7 @@ fn key_word(w: &[u8; 176], i: usize) -> u32
     requires { i < Nb * (Nr + 1) }
     ensures { little_endian result ≡ word w.now i }
 {
-    let at = 4 * i;
-    from_le_bytes(w[at], w[at + 1], w[at + 2], w[at + 3])
+    word_at(w, 4 * i)
 }
 
 // The key of a round.
@@ -132,42 +103,25 @@ pub(crate) fn round_key(w: &[u8; 176], round: usize) -> Columns
 }
 
 // A round that is not the last.
-pub(crate) fn full_round(table: &[u8; 2048], w: &[u8; 176], s: Columns, round: usize) -> Columns
-    requires table_value { table.now ≡ round_table }
-    requires round_bound { round ≤ Nr }
+pub(crate) fn full_round(w: &[u8; 176], s: Columns, round: usize) -> Columns
+    requires { round ≤ Nr }
     ensures { state result ≡ add_round_key w.now round (mix_columns (shift_rows (sub_bytes (state s)))) }
 {
-    add(sub_shift_mix(table, s), round_key(w, round))
+    add(sub_shift_mix(s), round_key(w, round))
 }
 
 // The last round, which has no MixColumns.
-fn last_round(table: &[u8; 2048], w: &[u8; 176], s: Columns) -> Columns
-    requires { table.now ≡ round_table }
+fn last_round(w: &[u8; 176], s: Columns) -> Columns
     ensures { state result ≡ add_round_key w.now Nr (shift_rows (sub_bytes (state s))) }
 {
-    add(sub_shift(table, s), round_key(w, ROUNDS))
+    add(sub_shift(s), round_key(w, ROUNDS))
 }
 
-// The encipherment of a block whose state after done rounds is start.
-pub(crate) fn finish(table: &[u8; 2048], w: &[u8; 176], start: Columns, done: usize) -> Columns
-    requires table_value { table.now ≡ round_table }
-    requires done_bound { done < Nr }
-    ensures { (input : List ℕ)
-        → state start ≡ rounds w.now done (add_round_key w.now 0 input) → state result ≡ cipher w.now input }
-{
-    let mut s = start;
-    let mut round = done;
-    while round < FULL_ROUNDS {
-        round += 1;
-        s = full_round(table, w, s, round);
-    }
-    last_round(table, w, s)
-}
-
-// The same of two blocks.
-pub(crate) fn finish_both(table: &[u8; 2048], w: &[u8; 176], start: States, done: usize) -> States
-    requires table_value { table.now ≡ round_table }
-    requires done_bound { done < Nr }
+// The encipherments of two blocks whose states after done rounds are start.
+// Stays (2): by one function that is called for each state in turn a stream takes a third more time, though a small
+// read has a tenth fewer instructions. Over an array of states each round is a loop, whose laws speak of every state of a list.
+pub(crate) fn finish_both(w: &[u8; 176], start: States, done: usize) -> States
+    requires { done < Nr }
     ensures { ((input : List ℕ) → state start.first ≡ rounds w.now done (add_round_key w.now 0 input)
         → state result.first ≡ cipher w.now input)
         × ((input : List ℕ) → state start.second ≡ rounds w.now done (add_round_key w.now 0 input)
@@ -175,21 +129,22 @@ pub(crate) fn finish_both(table: &[u8; 2048], w: &[u8; 176], start: States, done
 {
     let mut s = start.first;
     let mut t = start.second;
-    let mut round = done;
-    while round < FULL_ROUNDS {
-        round += 1;
-        s = full_round(table, w, s, round);
-        t = full_round(table, w, t, round);
+    for round in done..FULL_ROUNDS {
+        s = full_round(w, s, round + 1);
+        t = full_round(w, t, round + 1);
     }
-    let first = last_round(table, w, s);
-    let second = last_round(table, w, t);
+    let first = last_round(w, s);
+    let second = last_round(w, t);
     States { first, second }
 }
 
 // The encipherment of a block.
-pub(crate) fn encrypt_columns(table: &[u8; 2048], w: &[u8; 176], input: Columns) -> Columns
-    requires { table.now ≡ round_table }
+pub(crate) fn encrypt_columns(w: &[u8; 176], input: Columns) -> Columns
     ensures { state result ≡ cipher w.now (state input) }
 {
-    finish(table, w, add(input, round_key(w, 0)), 0)
+    let mut s = add(input, round_key(w, 0));
+    for round in 0..FULL_ROUNDS {
+        s = full_round(w, s, round + 1);
+    }
+    last_round(w, s)
 }

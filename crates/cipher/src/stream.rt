@@ -1,6 +1,5 @@
 // The counter mode: SP 800-38A, 6.5, from counter 0.
 ghost use Rattle.std.specs.Prelude.{◌≡◌, ◌++◌, ◌+◌, ◌<◌, ◌^◌, take, drop};
-ghost use Rattle.cipher.specs.Table.{round_table};
 ghost use Rattle.cipher.specs.Words.{xor_bytes};
 ghost use Rattle.cipher.specs.Cipher.{cipher};
 ghost use Rattle.cipher.specs.State.{state};
@@ -12,25 +11,23 @@ use crate::columns::{BLOCK, Columns, to_block};
 use crate::rounds::{States, finish_both};
 
 // The encipherments of the counters n and n + 1, which one cache serves.
-fn output_blocks(table: &[u8; 2048], w: &[u8; 176], cache: Cache, n: u64) -> States
-    requires table_value { table.now ≡ round_table }
-    requires n_bound { (n + 1 < 2 ^ 64) × Serves w.now n cache × Serves w.now (n + 1) cache }
+fn output_blocks(w: &[u8; 176], cache: Cache, n: u64) -> States
+    requires { (n + 1 < 2 ^ 64) × Serves w.now n cache × Serves w.now (n + 1) cache }
     ensures { (state result.first ≡ cipher w.now (counter_block n))
         × (state result.second ≡ cipher w.now (counter_block (n + 1))) }
 {
-    let first = two_rounds(table, w, cache, n);
-    let second = two_rounds(table, w, cache, n + 1);
-    finish_both(table, w, States { first, second }, 2)
+    let first = two_rounds(w, cache, n);
+    let second = two_rounds(w, cache, n + 1);
+    finish_both(w, States { first, second }, 2)
 }
 
 // Adds to q as much of a block as q is long.
 fn add_block(q: &mut [u8], block: [u8; 16])
     ensures { q.new ≡ xor_bytes q.old block }
 {
-    let mut j: usize = 0;
-    while j < BLOCK && j < q.len() {
-        q[j] = q[j] ^ block[j];
-        j += 1;
+    let n = q.len().min(BLOCK);
+    for (j, x) in q[..n].iter_mut().enumerate() {
+        *x ^= block[j];
     }
 }
 
@@ -45,21 +42,15 @@ fn add_state(text: &mut [u8], at: usize, s: Columns)
 }
 
 // Adds the key stream to text, two blocks at a time.
-pub(crate) fn add_key_stream(table: &[u8; 2048], w: &[u8; 176], text: &mut [u8])
-    requires { table.now ≡ round_table }
+pub(crate) fn add_key_stream(w: &[u8; 176], text: &mut [u8])
     ensures { text.new ≡ counter_mode w.now text.old }
 {
-    let mut at: usize = 0;
-    let mut n: u64 = 0;
-    let mut cache = new_cache(table, w, n);
-    while at < text.len() {
-        let output = output_blocks(table, w, cache, n);
-        let first = output.first;
-        let second = output.second;
-        add_state(text, at, first);
-        add_state(text, at + BLOCK, second);
-        cache = next_cache(table, w, cache, n + 1);
-        at += 2 * BLOCK;
-        n += 2;
+    let mut cache = new_cache(w, 0);
+    for at in (0..text.len()).step_by(2 * BLOCK) {
+        let n = (at / BLOCK) as u64;
+        let output = output_blocks(w, cache, n);
+        add_state(text, at, output.first);
+        add_state(text, at + BLOCK, output.second);
+        cache = next_cache(w, cache, n + 1);
     }
 }

@@ -1,9 +1,10 @@
-// The two constant tables of the cipher. A constant is laid out anew wherever it is named, so each is named once to a
-// call, in lib.rt, and passed on by reference. The bytes that pick the entries depend on key and text, and through the
+// The two constant tables of the cipher. The bytes that pick the entries depend on key and text, and through the
 // processor's cache the time of a call can depend on them.
+ghost use Rattle.std.specs.Prelude.{◌≡◌};
+ghost use Rattle.cipher.specs.Table.{round_table, s_box_table};
 
 // FIPS 197, 5.1.1, figure 7: the S-box. Row x, column y is the byte that takes the place of {xy}.
-pub(crate) const S_BOX: [u8; 256] = *b"\
+static S_BOX: [u8; 256] = *b"\
     \x63\x7c\x77\x7b\xf2\x6b\x6f\xc5\x30\x01\x67\x2b\xfe\xd7\xab\x76\
     \xca\x82\xc9\x7d\xfa\x59\x47\xf0\xad\xd4\xa2\xaf\x9c\xa4\x72\xc0\
     \xb7\xfd\x93\x26\x36\x3f\xf7\xcc\x34\xa5\xe5\xf1\x71\xd8\x31\x15\
@@ -21,13 +22,20 @@ pub(crate) const S_BOX: [u8; 256] = *b"\
     \xe1\xf8\x98\x11\x69\xd9\x8e\x94\x9b\x1e\x87\xe9\xce\x55\x28\xdf\
     \x8c\xa1\x89\x0d\xbf\xe6\x42\x68\x41\x99\x2d\x0f\xb0\x54\xbb\x16";
 
+// The S-box.
+pub(crate) fn of_s_box() -> &'static [u8; 256]
+    ensures { result.now ≡ s_box_table }
+{
+    &S_BOX
+}
+
 // An entry of the round table has 8 bytes.
 pub(crate) const ENTRY_SIZE: usize = 8;
 
 // SubBytes and MixColumns in one: for a byte in row 0 the column that MixColumns makes of its S-box byte, {02} s, s, s,
 // {03} s. It stands there twice, so that the four bytes from byte 3, 2 and 1 of an entry on are the column for a byte in
 // row 1, 2 and 3. As bytes it is laid out sixteen at a time.
-pub(crate) const ROUND_TABLE: [u8; 2048] = *b"\
+static ROUND_TABLE: [u8; 2048] = *b"\
     \xc6\x63\x63\xa5\xc6\x63\x63\xa5\xf8\x7c\x7c\x84\xf8\x7c\x7c\x84\
     \xee\x77\x77\x99\xee\x77\x77\x99\xf6\x7b\x7b\x8d\xf6\x7b\x7b\x8d\
     \xff\xf2\xf2\x0d\xff\xf2\xf2\x0d\xd6\x6b\x6b\xbd\xd6\x6b\x6b\xbd\
@@ -156,3 +164,10 @@ pub(crate) const ROUND_TABLE: [u8; 2048] = *b"\
     \x5a\x2d\x2d\x77\x5a\x2d\x2d\x77\x1e\x0f\x0f\x11\x1e\x0f\x0f\x11\
     \x7b\xb0\xb0\xcb\x7b\xb0\xb0\xcb\xa8\x54\x54\xfc\xa8\x54\x54\xfc\
     \x6d\xbb\xbb\xd6\x6d\xbb\xbb\xd6\x2c\x16\x16\x3a\x2c\x16\x16\x3a";
+
+// The round table.
+pub(crate) fn of_rounds() -> &'static [u8; 2048]
+    ensures { result.now ≡ round_table }
+{
+    &ROUND_TABLE
+}

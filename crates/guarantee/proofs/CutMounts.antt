@@ -28,7 +28,7 @@ use Rattle.store.specs.Record.{Record}
 use Rattle.store.specs.Outcome.{Outcome, left}
 use Rattle.store.specs.Mount.{is_swept, mount_steps, mounted, mount_of}
 use Rattle.store.specs.Commit.{Stage, begin, cleaned, replace_keys, keys_replaced, commit_replaced, dead_erased, commit_stages, commit_of}
-use Rattle.store.specs.declared.Reply.TheVariants.{Done}
+use Rattle.store.specs.Reply.{Done}
 use Rattle.store.proofs.Counts.{keys_replaced_count, commit_replaced_count, commit-steps, mount_steps_lem}
 use Rattle.store.proofs.Outcomes.{commit_outcome}
 use Rattle.store.proofs.Views.{keys_at}

@@ -35,7 +35,7 @@ use Rattle.store.specs.Commit.{replace_keys, replace_commit, with_keys, with_com
 use Rattle.store.specs.Commit.{Stage, begin, onward, keys_replaced, commit_replaced, dead_erased, commit_stages}
 use Rattle.store.specs.Wipe.{removed_first}
 use Rattle.store.specs.declared.Numbers.{Numbers}
-use Rattle.store.specs.declared.Reply.TheVariants.{Done}
+use Rattle.store.specs.Reply.{Done}
 use Rattle.store.proofs.BlockKinds.{data_outside}
 use Rattle.store.proofs.Gathers.{data_filled}
 use Rattle.store.proofs.LegalSteps.{legal-length}

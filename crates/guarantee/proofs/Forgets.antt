@@ -15,12 +15,12 @@ use Rattle.base.proofs.Searches.{any_intro}
 use Rattle.page.specs.Plan.{places}
 use Rattle.page.specs.Key.{positions}
 use Rattle.page.specs.Entry.{deleted_letter}
-use Rattle.store.specs.Reply.{number_of}
+use Rattle.store.specs.Reply.{Reply, Done, number_of}
 use Rattle.store.specs.Outcome.{left}
 use Rattle.store.specs.Mount.{removes}
 use Rattle.store.specs.Wipe.{wipe_of}
-use Rattle.store.specs.declared.Reply.{Reply}
-use Rattle.store.specs.declared.Reply.TheVariants.{Done, PowerCut}
+use Rattle.std.specs.Prelude.{Err}
+use Rattle.store.specs.declared.Error.TheVariants.{PowerCut}
 use Rattle.guarantee.specs.Call.{commit, wipe, Event, replied}
 use Rattle.guarantee.specs.Book.{Book, Holding, is_at_position, held_among, book_removed, wipe_commit_at, entered}
 use Rattle.guarantee.specs.Origin.{Origin, key_byte}
@@ -30,7 +30,7 @@ use Rattle.guarantee.proofs.Histories.{History, while_on, next, at_end, at_call,
 use Rattle.guarantee.proofs.UsedKeys.{committed_renewed}
 
 -- ---- a call that replied Done was not cut
-finished : (t : Bool) (r : Reply) → cond t PowerCut r ≡ Done → (t ≡ false) × (r ≡ Done)
+finished : (t : Bool) (r : Reply) → cond t (Err PowerCut) r ≡ Done → (t ≡ false) × (r ≡ Done)
 finished true r e = absurd (omega (arith, ap number_of e))
 finished false r e = (refl, e)
 

@@ -11,7 +11,7 @@ use Rattle.image.specs.Size.{block_size, pages_in_block}
 use Rattle.image.specs.Look.{page_at, form_at}
 use Rattle.image.specs.Step.{Step, program, whole, up_to, play}
 use Rattle.image.proofs.Forms.{form_same}
-use Rattle.store.specs.Reply.{is_done}
+use Rattle.store.specs.Reply.{Done, is_done}
 use Rattle.store.specs.Kind.{is_data}
 use Rattle.store.specs.Record.{Record}
 use Rattle.store.specs.Outcome.{Outcome, left}
@@ -19,8 +19,7 @@ use Rattle.store.specs.Find.{is_open, new_page_but, found_at}
 use Rattle.store.specs.Mount.{mounted}
 use Rattle.store.specs.Gather.{live_pages, copy_of, copy_step, copied, copy_steps, copied_all, gather_of}
 use Rattle.store.specs.declared.Numbers.{Numbers}
-use Rattle.store.specs.declared.Found.TheVariants.{At}
-use Rattle.store.specs.declared.Reply.TheVariants.{Done}
+use Rattle.std.specs.Prelude.{Some}
 use Rattle.store.proofs.Outcomes.{gather_outcome, gather-refused}
 use Rattle.store.proofs.Verdicts.{gather_taken_lem, done-true}
 use Rattle.store.proofs.Views.{covered_now}
@@ -181,7 +180,7 @@ module _ (m : Machine) (block : ℕ) (s : Settled m) (on : T m.on) where
 -- ---- what it programs: the live pages with new sequences
 -- the search goes by the chosen blocks alone
 numbers_agree : (block : ℕ) (img : List ℕ) (n n' : Numbers) → n.keys0 ≡ n'.keys0 → n.keys1 ≡ n'.keys1 → n.commit ≡ n'.commit
-    → new_page_but (At block) img n ≡ new_page_but (At block) img n'
+    → new_page_but (Some block) img n ≡ new_page_but (Some block) img n'
 unfolding new_page_but is_open is_data
 numbers_agree block img n n' a b c = rw (a, b, c)
 
@@ -195,7 +194,7 @@ module _ (m : Machine) (block : ℕ) (s : Settled m) (on : T m.on) where
     commit : r.numbers.commit ≡ m.store.numbers.commit
 
   module _ (g : ℕ) (gs img : List ℕ) (r : Record) (w : Same (g ∷ gs) img r) where
-    one_is : copy_step block img r g ≡ program (found_at (new_page_but (At block) img m.store.numbers)) (copy_for m.image g r.numbers.sequence)
+    one_is : copy_step block img r g ≡ program (found_at (new_page_but (Some block) img m.store.numbers)) (copy_for m.image g r.numbers.sequence)
     unfolding copy_step copy_of
     one_is =
         let p = w.pages g w.copying.lives.0.in_block in

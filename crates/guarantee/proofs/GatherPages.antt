@@ -18,7 +18,7 @@ use Rattle.page.specs.Form.{second_of, form_of}
 use Rattle.page.specs.Page.{page_bytes, deciphered}
 use Rattle.page.specs.declared.Frame.{Frame}
 use Rattle.page.specs.declared.Form.TheVariants.{Whole, Torn}
-use Rattle.page.specs.declared.Place.TheVariants.{At as PlaceAt}
+use Rattle.std.specs.Prelude.{Some}
 use Rattle.page.proofs.FormLaws.{cut_form}
 use Rattle.image.specs.Size.{block_size, pages_in_block}
 use Rattle.image.specs.Look.{page_at, form_at}
@@ -31,7 +31,6 @@ use Rattle.store.specs.Find.{found_at}
 use Rattle.store.specs.Mount.{mounted, mount_map}
 use Rattle.store.specs.Write.{next_sequence}
 use Rattle.store.specs.Gather.{place_on, copy_to, copy_step, moved, copied}
-use Rattle.store.specs.declared.Found.TheVariants.{At}
 use Rattle.store.proofs.Fits.{Fit, fits_is, Named, live_named, live-key, live_used}
 use Rattle.store.proofs.Outcomes.{mounted-full}
 use Rattle.store.proofs.Views.{commit_at, covered_now, mounted-map}
@@ -88,7 +87,7 @@ module _ (block g : ℕ) (gs img : List ℕ) (b : Book) (o : ℕ → Origin) (no
   key_is : f.key ≡ key_of m x
   key_is = ap (λ (h : Frame). h.key) (sym same-header) ∙ named.key
 
-  place_is : place_of file_plan f.unit f.part ≡ PlaceAt x
+  place_is : place_of file_plan f.unit f.part ≡ Some x
   place_is = ap (λ (h : Frame). place_of file_plan h.unit h.part) (sym same-header) ∙ named.place
 
   below : f.key < positions
@@ -105,7 +104,7 @@ module _ (block g : ℕ) (gs img : List ℕ) (b : Book) (o : ℕ → Origin) (no
   lives : Lives img b
   lives = sound_lives img b o noise t t s
 
-  put : Put (At block) img to f sealed
+  put : Put (Some block) img to f sealed
   put =
       record {
         found = copy_found block g gs img (mounted img) c;
@@ -117,13 +116,13 @@ module _ (block g : ℕ) (gs img : List ℕ) (b : Book) (o : ℕ → Origin) (no
   -- ---- up to byte k
   module _ (k : ℕ) where
     abbrev image : List ℕ
-    image = N.image (At block) img b o noise t s tight to f sealed put new k
+    image = N.image (Some block) img b o noise t s tight to f sealed put new k
 
     abbrev origin : ℕ → Origin
-    origin = N.origin (At block) img b o noise t s tight to f sealed put new k
+    origin = N.origin (Some block) img b o noise t s tight to f sealed put new k
 
     origins : (a : ℕ) → (origin a ≡ plain) ⊎ (origin a ≡ o a) ⊎ ((origin a ≡ cipher f.key (b.bringer f.key)) × (b.mark f.key ≡ free_letter → ⊥))
-    origins a = go (N.origins (At block) img b o noise t s tight to f sealed put new k a)
+    origins a = go (N.origins (Some block) img b o noise t s tight to f sealed put new k a)
       where
         go : (origin a ≡ plain) ⊎ (origin a ≡ o a) ⊎ ((origin a ≡ cipher f.key (b.bringer f.key)) × (header_size < k))
             → (origin a ≡ plain) ⊎ (origin a ≡ o a) ⊎ ((origin a ≡ cipher f.key (b.bringer f.key)) × (b.mark f.key ≡ free_letter → ⊥))
@@ -132,19 +131,19 @@ module _ (block g : ℕ) (gs img : List ℕ) (b : Book) (o : ℕ → Origin) (no
         go (inr (inr e)) = inr (inr (e.0, λ z. omega (arith, marked)))
 
     pages : (y : ℕ) → y < places → live m y ≡ true → (a : ℕ) → a / page_size ≡ page_of m y → origin a ≡ o a
-    pages = N.pages (At block) img b o noise t s tight to f sealed put new k
+    pages = N.pages (Some block) img b o noise t s tight to f sealed put new k
 
     -- ---- torn: mount sees the sequence, and no more
     module _ (h : header_size ≤ k) (l : k < page_size) where
       torn : Appended img image to (Torn f)
-      torn = N.torn_appended (At block) img b o noise t s tight to f sealed put new k h l
+      torn = N.torn_appended (Some block) img b o noise t s tight to f sealed put new k h l
 
       torn_ok : Mountable image
-      torn_ok = torn_mountable img image to f ok torn refl (N.event (At block) img b o noise t s tight to f sealed put new)
+      torn_ok = torn_mountable img image to f ok torn refl (N.event (Some block) img b o noise t s tight to f sealed put new)
 
       torn_record : mounted image ≡ with_numbers (mounted img) (next_sequence (mounted img).numbers)
       torn_record =
-          mounted_torn_copy img image to f ok torn refl (N.event (At block) img b o noise t s tight to f sealed put new)
+          mounted_torn_copy img image to f ok torn refl (N.event (Some block) img b o noise t s tight to f sealed put new)
           x c.lives.0.node here.0 (ap (λ (q : List ℕ). key_of q x) (sym (mounted-map img)) ∙ sym key_is)
 
       torn-content : (y : ℕ) → y < places → (v : Option Holding) → Holds img noise b.bringer y v → Holds image noise b.bringer y v
@@ -165,15 +164,15 @@ module _ (block g : ℕ) (gs img : List ℕ) (b : Book) (o : ℕ → Origin) (no
                 changed_anchored img image b b o origin ok s.anchored (N.append-keys img image to (Torn f) ok torn) (λ j. refl)
                 (λ y i. rw torn_record (under_same m m o origin b.bringer b.bringer y (b.content y) (λ v e. (refl, refl, pages y i (lives y i v e)))
                 (s.anchored.ciphered y i)))
-                (N.slots (At block) img b o noise t s tight to f sealed put new k)
-                (N.accounts (At block) img b o noise t s tight to f sealed put new k);
-            roomy = N.room (At block) img b o noise t s tight to f sealed put new k;
+                (N.slots (Some block) img b o noise t s tight to f sealed put new k)
+                (N.accounts (Some block) img b o noise t s tight to f sealed put new k);
+            roomy = N.room (Some block) img b o noise t s tight to f sealed put new k;
           }
 
     -- ---- whole: the place has the new page
     module _ (h : page_size ≤ k) where
       app : Appended img image to (Whole f)
-      app = N.whole_appended (At block) img b o noise t s tight to f sealed put new k h
+      app = N.whole_appended (Some block) img b o noise t s tight to f sealed put new k h
 
       whole_ok : Mountable image
       whole_ok = node_mountable img image to f x f.key ok app refl c.lives.0.node place_is refl here.0 below alone
@@ -199,7 +198,7 @@ module _ (block g : ℕ) (gs img : List ℕ) (b : Book) (o : ℕ → Origin) (no
           let there : form_of (page_at image to) ≡ Whole f = app.after in
           let first : form_of (page_at img g) ≡ Whole c.lives.0.header = c.lives.0.whole in
           deciphered-same key (page_at image to) (page_at img g) (ap second_of there ∙ sym (ap second_of first))
-          (N.page-here (At block) img b o noise t s tight to f sealed put new k h)
+          (N.page-here (Some block) img b o noise t s tight to f sealed put new k h)
 
       content_new : (v : Option Holding) → Holds img noise b.bringer x v → Holds image noise b.bringer x v
       content_new none e = absurd (let z : live m x ≡ false = rw e.0 in true-false here.1 z)
@@ -230,7 +229,7 @@ module _ (block g : ℕ) (gs img : List ℕ) (b : Book) (o : ℕ → Origin) (no
       under_new none e = tt
       under_new (some v) e = λ j l.
           let q : f.key ≡ v.position = key_is ∙ e.1 in
-          rw (whole_record, page_new, ← q) (N.node_under (At block) img b o noise t s tight to f sealed put new k h j l)
+          rw (whole_record, page_new, ← q) (N.node_under (Some block) img b o noise t s tight to f sealed put new k h j l)
 
       under_old : (y : ℕ) → y < places → (x ≡ y → ⊥) → UnderKey (mounted image).map origin b.bringer y (b.content y)
       under_old y i n =
@@ -255,15 +254,15 @@ module _ (block g : ℕ) (gs img : List ℕ) (b : Book) (o : ℕ → Origin) (no
                       (under_new (b.content x) (s.content x here.0))
                   | no e ↦ under_old y i e
                 ])
-                (N.slots (At block) img b o noise t s tight to f sealed put new k)
-                (N.accounts (At block) img b o noise t s tight to f sealed put new k);
-            roomy = N.room (At block) img b o noise t s tight to f sealed put new k;
+                (N.slots (Some block) img b o noise t s tight to f sealed put new k)
+                (N.accounts (Some block) img b o noise t s tight to f sealed put new k);
+            roomy = N.room (Some block) img b o noise t s tight to f sealed put new k;
           }
 
     -- ---- at every byte
     copy_sound : Sound image b origin noise t t
     copy_sound = elim (dec_lt k header_size) [
-      | yes h ↦ N.unheaded_sound (At block) img b o noise t s tight to f sealed put new k h
+      | yes h ↦ N.unheaded_sound (Some block) img b o noise t s tight to f sealed put new k h
       | no h ↦ elim (dec_lt k page_size) [
         | yes l ↦ written_sound img image b b o origin noise f.key t s tight (torn_written (omega arith) l)
         | no l ↦ written_sound img image b b o origin noise f.key t s tight (whole_written (omega arith))
@@ -314,11 +313,11 @@ module _ (block g : ℕ) (gs img : List ℕ) (b : Book) (o : ℕ → Origin) (no
   -- the commit stays, and what it covers
   pub step_covered : covered_now image' ≡ covered_now img
   step_covered =
-      let a = (N.appended (At block) img b o noise t s tight to f sealed put new block_size).aside in
+      let a = (N.appended (Some block) img b o noise t s tight to f sealed put new block_size).aside in
       let e = commit_aside img (image block_size) (to / pages_in_block) ok a in
       subst (λ (i : List ℕ). covered_now i ≡ covered_now img) image_is (rw e (covered_aside img (image block_size) (to / pages_in_block) ok a))
 
   pub step-some : SomeEmpty img → SomeEmpty image'
   step-some e =
-      subst SomeEmpty image_is (append-some (At block) img (mounted img) to ok fit put.found (image block_size) (cut_form block_size f)
-      (N.appended (At block) img b o noise t s tight to f sealed put new block_size) e)
+      subst SomeEmpty image_is (append-some (Some block) img (mounted img) to ok fit put.found (image block_size) (cut_form block_size f)
+      (N.appended (Some block) img b o noise t s tight to f sealed put new block_size) e)

@@ -25,7 +25,7 @@ use Rattle.store.specs.Record.{Record, has_live, is_dead}
 use Rattle.store.specs.Outcome.{Outcome, left}
 use Rattle.store.specs.Mount.{sequence_of, covered_in, has_above, is_stray, is_covered_dead, is_swept, mounted, mount_steps, mount_of}
 use Rattle.store.specs.Gather.{gather_of}
-use Rattle.store.specs.declared.Reply.TheVariants.{Done}
+use Rattle.store.specs.Reply.{Done}
 use Rattle.store.proofs.Views.{commit_at, mounted-commit}
 use Rattle.store.proofs.BlockKinds.{data_outside}
 use Rattle.store.proofs.Outcomes.{mount_outcome}

@@ -13,11 +13,10 @@ use Rattle.page.proofs.Pages.{padded_back}
 use Rattle.page.proofs.Ranges.{within-true}
 use Rattle.image.specs.Step.{AllLegal}
 use Rattle.store.specs.Record.{Record}
-use Rattle.store.specs.Reply.{is_done}
+use Rattle.store.specs.Reply.{Done, is_done}
 use Rattle.store.specs.Find.{new_page, lowest_free, found_at}
 use Rattle.store.specs.Write.{place_at, placed, append_steps, write_of}
 use Rattle.store.specs.Taken.{Filling, WriteTaken}
-use Rattle.store.specs.declared.Reply.TheVariants.{Done}
 use Rattle.store.proofs.Verdicts.{payload-filling, write_taken_lem}
 use Rattle.store.proofs.Outcomes.{taken, stepless, write_outcome, write-refused}
 use Rattle.store.proofs.Counts.{write-steps}

@@ -36,7 +36,7 @@ use Rattle.store.specs.Mount.{removes, mounted}
 use Rattle.store.specs.Commit.{Stage, begin, cleaned, keys_replaced, commit_replaced, dead_erased, commit_stages}
 use Rattle.store.specs.Wipe.{removed_first}
 use Rattle.store.specs.declared.Numbers.{Numbers}
-use Rattle.store.specs.declared.Reply.TheVariants.{Done}
+use Rattle.store.specs.Reply.{Done}
 use Rattle.store.proofs.Fits.{Fit, fits_is}
 use Rattle.store.proofs.Legals.{commit-legal, wipe-legal}
 use Rattle.store.proofs.Outcomes.{mounted-full, commit_outcome, wipe_outcome}

@@ -14,7 +14,7 @@ use Rattle.page.specs.Plan.{places}
 use Rattle.page.specs.Key.{positions}
 use Rattle.store.specs.Write.{file_right, offset_right, place_at}
 use Rattle.store.specs.Read.{read_of, read_length}
-use Rattle.store.specs.declared.Reply.TheVariants.{Done}
+use Rattle.store.specs.Reply.{Done}
 use Rattle.guarantee.specs.Call.{Given, payload_given, Call, mount, write, read, cut_off, commit, wipe, gather, Event, Fate, replied, made_whole, torn}
 use Rattle.guarantee.specs.Book.{Book, Holding, book_written, book_spent, book_removed, book_renewed, book_freed, only_if, keys_done, commit_done, removal_done, wipe_commit_at, book_committed, entered}
 use Rattle.guarantee.specs.Machine.{Machine, step, fate_of, outcome_at, left_at}

@@ -17,7 +17,7 @@ use Rattle.page.specs.Plan.{places}
 use Rattle.page.specs.Key.{positions}
 use Rattle.page.specs.Entry.{free_letter, used_letter, deleted_letter}
 use Rattle.store.specs.Mount.{removes, mounted}
-use Rattle.store.specs.declared.Reply.TheVariants.{Done}
+use Rattle.store.specs.Reply.{Done}
 use Rattle.store.proofs.Fits.{fits_is, used_live}
 use Rattle.guarantee.specs.Call.{Call, mount, write, read, cut_off, commit, wipe, gather, Event, is_mount, lent_right, Fate, replied, made_whole}
 use Rattle.guarantee.specs.Book.{Book, Holding, is_at_position, held_among, book_removed, book_renewed, book_freed, only_if, keys_done, commit_done, removal_done, book_committed, wipe_commit_at, entered}

@@ -14,9 +14,8 @@ use Rattle.base.proofs.Choice.{and-true, true-false}
 use Rattle.page.specs.Frame.{header_size, page_size}
 use Rattle.page.specs.Key.{positions}
 use Rattle.page.specs.Entry.{used_letter, deleted_letter}
-use Rattle.store.specs.Reply.{is_done}
+use Rattle.store.specs.Reply.{Done, is_done}
 use Rattle.store.specs.Outcome.{Outcome, left}
-use Rattle.store.specs.declared.Reply.TheVariants.{Done}
 use Rattle.store.proofs.Verdicts.{done-true}
 use Rattle.guarantee.specs.Call.{Given, second_given, bytes_given, write_given, Call, mount, write, read, cut_off, commit, wipe, gather, Event, outcome_of, is_mount, Fate}
 use Rattle.guarantee.specs.Book.{lowest_marked, book_written, book_spent, entered}

@@ -13,12 +13,11 @@ use lib.Seq.{take_all}
 use borrow.Author.Tests.{eq-eqb, le-leb, lt-leb, le-ltb}
 use Rattle.base.specs.Each.{Each}
 use Rattle.page.specs.Frame.{header_size, payload_size, page_size}
-use Rattle.store.specs.Reply.{is_done}
+use Rattle.store.specs.Reply.{Done, is_done}
 use Rattle.store.specs.Outcome.{left}
 use Rattle.store.specs.Mount.{removes}
 use Rattle.store.specs.Write.{file_right, offset_right, place_at}
 use Rattle.store.specs.Read.{read_of, read_length}
-use Rattle.store.specs.declared.Reply.TheVariants.{Done}
 use Rattle.store.proofs.Verdicts.{done-true}
 use Rattle.guarantee.specs.Call.{Given, theirs, payload_given, write_given, Call, mount, write, read, cut_off, commit, wipe, gather, Event, Fate, made_whole, torn}
 use Rattle.guarantee.specs.Book.{Book, Holding, lowest_marked, book_written, book_spent, book_removed, only_if, removal_done, wipe_commit_at, entered}

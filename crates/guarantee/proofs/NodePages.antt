@@ -25,8 +25,7 @@ use Rattle.image.proofs.Step.{page-program-up_to}
 use Rattle.store.specs.Record.{page_of, live}
 use Rattle.store.specs.Find.{new_page_but}
 use Rattle.store.specs.Mount.{mounted}
-use Rattle.store.specs.declared.Found.{Found}
-use Rattle.store.specs.declared.Found.TheVariants.{At}
+use Rattle.std.specs.Prelude.{Option, Some}
 use Rattle.store.proofs.Fits.{fits_is}
 use Rattle.store.proofs.Views.{keys_at}
 use Rattle.store.proofs.Quiets.{Mountable, keys_aside, quiet_still}
@@ -65,13 +64,13 @@ module _ (img img' : List ℕ) (at : ℕ) (m : Form) (ok : Mountable img) (app :
   append_slots q h a e = origin_unprogrammed of k o a at page (λ z. app.aside.unchosen.no_keys q h (omega arith))
 
 -- ---- a node's header and its enciphered payload, for the page that a search found
-pub record Put (but : Found) (img : List ℕ) (g : ℕ) (f : Frame) (sealed : List ℕ) : Type 0 where
-  pub found : new_page_but but img (mounted img).numbers ≡ At g
+pub record Put (but : Option ℕ) (img : List ℕ) (g : ℕ) (f : Frame) (sealed : List ℕ) : Type 0 where
+  pub found : new_page_but but img (mounted img).numbers ≡ Some g
   pub ranges : in_range f ≡ true
   pub full : length sealed ≡ payload_size
   pub node : f.kind ≡ node_letter
 
-module _ (but : Found) (img : List ℕ) (b : Book) (o : ℕ → Origin) (noise : ℕ → List ℕ) (t : ℕ) (s : Sound img b o noise t t) (tight : Tight img b o) (g : ℕ)
+module _ (but : Option ℕ) (img : List ℕ) (b : Book) (o : ℕ → Origin) (noise : ℕ → List ℕ) (t : ℕ) (s : Sound img b o noise t t) (tight : Tight img b o) (g : ℕ)
     (f : Frame) (sealed : List ℕ) (put : Put but img g f sealed)
     (new : ℕ → ℕ) where
   ok : Mountable img

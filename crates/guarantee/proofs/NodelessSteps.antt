@@ -20,8 +20,7 @@ use Rattle.page.specs.Key.{key_in_noise}
 use Rattle.page.specs.Entry.{parts}
 use Rattle.page.specs.Page.{page_bytes, cut_off_page, keys_page, commit_page}
 use Rattle.page.specs.declared.Frame.{Frame}
-use Rattle.page.specs.declared.Header.{Header}
-use Rattle.page.specs.declared.Header.TheVariants.{Is, Invalid}
+use Rattle.std.specs.Prelude.{Option, Some, None}
 use Rattle.page.proofs.HeaderLaws.{header_spelt}
 use Rattle.image.specs.Size.{pages_in_block, blocks}
 use Rattle.image.specs.Look.{block_at, lowest_empty}
@@ -45,27 +44,27 @@ use Rattle.guarantee.specs.Origin.{plain, cipher, key_byte, payload_origin, fram
 
 -- ---- which key a page's byte is under: that of the position in its header, as it then is
 module _ (now new : ℕ → ℕ) (j p c : ℕ) where
-  abbrev UnderKeyOf : Header → Type 0
-  UnderKeyOf h = (f : Frame) × (h ≡ Is f) × (f.kind ≡ node_letter) × (p ≡ f.key) × (c ≡ now f.key)
+  abbrev UnderKeyOf : Option Frame → Type 0
+  UnderKeyOf h = (f : Frame) × (h ≡ Some f) × (f.kind ≡ node_letter) × (p ≡ f.key) × (c ≡ now f.key)
 
-  frame_cipher : (h : Header) → frame_origin now new h j ≡ cipher p c → UnderKeyOf h
-  frame_cipher Invalid e = absurd (let z : ◌≡◌ {A = ℕ} 0 1 = cc in omega arith)
-  frame_cipher (Is f) e = inside (leb header_size j && ltb j closing_at) e
+  frame_cipher : (h : Option Frame) → frame_origin now new h j ≡ cipher p c → UnderKeyOf h
+  frame_cipher None e = absurd (let z : ◌≡◌ {A = ℕ} 0 1 = cc in omega arith)
+  frame_cipher (Some f) e = inside (leb header_size j && ltb j closing_at) e
     where
       kind : (s t : Bool) (q d i : ℕ) → eqb f.kind node_letter ≡ s → cond s (cipher f.key (now f.key)) (cond t (key_byte q d i) plain) ≡ cipher p c
-          → UnderKeyOf (Is f)
+          → UnderKeyOf (Some f)
       kind true t q d i is e = (f, refl, eqb-true _ _ is, cc, cc)
       kind false true q d i is e = absurd (let z : ◌≡◌ {A = ℕ} 0 1 = cc in omega arith)
       kind false false q d i is e = absurd (let z : ◌≡◌ {A = ℕ} 0 1 = cc in omega arith)
 
-      inside : (t : Bool) → cond t (payload_origin now new f (j - header_size)) plain ≡ cipher p c → UnderKeyOf (Is f)
+      inside : (t : Bool) → cond t (payload_origin now new f (j - header_size)) plain ≡ cipher p c → UnderKeyOf (Some f)
       inside true e = kind (eqb f.kind node_letter) (eqb f.kind keys_letter) _ _ _ refl e
       inside false e = absurd (let z : ◌≡◌ {A = ℕ} 0 1 = cc in omega arith)
 
   -- and it is a byte of the payload
-  frame_payload : (h : Header) → frame_origin now new h j ≡ cipher p c → (header_size ≤ j) × (j < closing_at)
-  frame_payload Invalid e = absurd (let z : ◌≡◌ {A = ℕ} 0 1 = cc in omega arith)
-  frame_payload (Is f) e = go (leb header_size j && ltb j closing_at) refl e
+  frame_payload : (h : Option Frame) → frame_origin now new h j ≡ cipher p c → (header_size ≤ j) × (j < closing_at)
+  frame_payload None e = absurd (let z : ◌≡◌ {A = ℕ} 0 1 = cc in omega arith)
+  frame_payload (Some f) e = go (leb header_size j && ltb j closing_at) refl e
     where
       go : (t : Bool) → leb header_size j && ltb j closing_at ≡ t → cond t (payload_origin now new f (j - header_size)) plain ≡ cipher p c
           → (header_size ≤ j) × (j < closing_at)
@@ -77,7 +76,7 @@ module _ (now new : ℕ → ℕ) (j p c : ℕ) where
   byte-payload page e = frame_payload (header_of (part page 0 header_size)) e
 
   pub byte-cipher : (page : List ℕ) → byte_origin now new page j ≡ cipher p c
-      → (f : Frame) × (header_of (part page 0 header_size) ≡ Is f) × (f.kind ≡ node_letter) × (p ≡ f.key) × (c ≡ now f.key)
+      → (f : Frame) × (header_of (part page 0 header_size) ≡ Some f) × (f.kind ≡ node_letter) × (p ≡ f.key) × (c ≡ now f.key)
   unfolding byte_origin
   byte-cipher page e = frame_cipher (header_of (part page 0 header_size)) e
 

@@ -18,7 +18,7 @@ use Rattle.page.specs.Header.{in_range, node_frame, with_number, header_of}
 use Rattle.page.specs.Key.{positions, key_in_noise}
 use Rattle.page.specs.Page.{page_bytes, enciphered, payload_of, node_page, cut_page}
 use Rattle.page.specs.declared.Frame.{Frame}
-use Rattle.page.specs.declared.Header.TheVariants.{Is}
+use Rattle.std.specs.Prelude.{Some}
 use Rattle.page.proofs.FormLaws.{whole_is}
 use Rattle.page.proofs.HeaderLaws.{header_read, no_kind}
 use Rattle.page.proofs.Pages.{enciphered-length, header_back, payload_back, cut-before}
@@ -29,13 +29,12 @@ use Rattle.image.specs.Step.{Step, program, erase, Legal, AllLegal, up_to, whole
 use Rattle.image.proofs.Plays.{play_all_lem}
 use Rattle.image.proofs.Step.{cleared, cleared-none, cleared-before, cleared-after, up_to-whole, page-length}
 use Rattle.image.proofs.Step.{page-program-up_to, page_program_up_to_other, page_up_to_other, page-erase-up_to}
-use Rattle.store.specs.Reply.{is_done}
+use Rattle.store.specs.Reply.{Done, is_done}
 use Rattle.store.specs.Record.{Record, page_of, live}
 use Rattle.store.specs.Outcome.{Outcome, left, left_whole}
 use Rattle.store.specs.Format.{noise_size, buffers_right, format_steps, format_of}
 use Rattle.store.specs.Find.{new_page, found_at}
 use Rattle.store.specs.Gather.{place_on, live_pages, copy_to, copy_step, copy_steps, gather_of}
-use Rattle.store.specs.declared.Reply.TheVariants.{Done}
 use Rattle.store.proofs.Fits.{fits_is}
 use Rattle.store.proofs.Gathers.{LiveIn, Copying, live-place, copy_is, payload-length, header_range, page-same, copying_next, gather_copying}
 use Rattle.store.proofs.LegalSteps.{legal_inside}
@@ -70,10 +69,10 @@ module _ (m : Machine) where
     node : Node
     noted : m.nodes p c ≡ some node
     byte : get_or page (header_size + j) erased ≡ get_or (enciphered (key_in_noise (m.noise c) p) node.bytes) j erased
-    names : (f : Frame) → header_of (part page 0 header_size) ≡ Is f → Names f p node
+    names : (f : Frame) → header_of (part page 0 header_size) ≡ Some f → Names f p node
 
   under_same : (page page' : List ℕ) (j p c : ℕ) → get_or page' (header_size + j) erased ≡ get_or page (header_size + j) erased
-      → ((f : Frame) → header_of (part page' 0 header_size) ≡ Is f → header_of (part page 0 header_size) ≡ Is f) → Under page j p c → Under page' j p c
+      → ((f : Frame) → header_of (part page' 0 header_size) ≡ Some f → header_of (part page 0 header_size) ≡ Some f) → Under page j p c → Under page' j p c
   under_same page page' j p c e h u =
       record { position = u.position; node = u.node; noted = u.noted; byte = e ∙ u.byte; names = λ f q. u.names f (h f q) }
 
@@ -114,8 +113,8 @@ module _ (m : Machine) where
             (ap (λ (i : ℕ). get_or img (i * page_size) erased) first ∙ empty_first img g legal.0.0 legal.1))
 
     -- where a byte of a header is erased, its first one is
-    headed : (n : ℕ) (page : List ℕ) → length page ≡ page_size → (f : Frame) → header_of (part (cleared n page) 0 header_size) ≡ Is f
-        → header_of (part page 0 header_size) ≡ Is f
+    headed : (n : ℕ) (page : List ℕ) → length page ≡ page_size → (f : Frame) → header_of (part (cleared n page) 0 header_size) ≡ Some f
+        → header_of (part page 0 header_size) ≡ Some f
     headed zero page long f q = rw (← cleared-none page) q
     headed (suc n) page long f q =
         let at = part_at (cleared (suc n) page) 0 header_size 0 0 (omega arith) in
@@ -200,9 +199,9 @@ module _ (m : Machine) where
       sealed_byte j l =
           sym (part_at (page_bytes f sealed) header_size payload_size j erased l) ∙ ap (λ (xs : List ℕ). get_or xs j erased) (payload_back f sealed long)
 
-      own_header : (h : Frame) → header_of (part (page_bytes f sealed) 0 header_size) ≡ Is h → h ≡ f
+      own_header : (h : Frame) → header_of (part (page_bytes f sealed) 0 header_size) ≡ Some h → h ≡ f
       own_header h e =
-          let q : Is f ≡ Is h = sym (header_read f ranges) ∙ ap header_of (sym (header_back f sealed long)) ∙ e in
+          let q : Some f ≡ Some h = sym (header_read f ranges) ∙ ap header_of (sym (header_back f sealed long)) ∙ e in
           let z : f ≡ h = cc in
           sym z
 
@@ -231,7 +230,7 @@ module _ (m : Machine) where
           })
 
     -- ---- the copy of a page whose bytes are all of the node of its key
-    module _ (page : List ℕ) (f : Frame) (headed : header_of (part page 0 header_size) ≡ Is f)
+    module _ (page : List ℕ) (f : Frame) (headed : header_of (part page 0 header_size) ≡ Some f)
         (known : (j : ℕ) → j < payload_size → Under page j f.key (now f.key))
         (s : ℕ) (ranges : in_range (with_number s f) ≡ true) (long : length (payload_of page) ≡ payload_size) where
       copy_puts : (g : ℕ) → AlwaysPuts of (program g (page_bytes (with_number s f) (payload_of page)))
@@ -252,7 +251,7 @@ module _ (m : Machine) where
       -- page g of that image: all its payload is of the node of the key in its header
       abbrev Source : ℕ → Type 0
       Source g =
-          (f : Frame) → header_of (part (page_at first g) 0 header_size) ≡ Is f → (j : ℕ) → j < payload_size → Under (page_at first g) j f.key (now f.key)
+          (f : Frame) → header_of (part (page_at first g) 0 header_size) ≡ Some f → (j : ℕ) → j < payload_size → Under (page_at first g) j f.key (now f.key)
 
       -- the pages of the block are as they were
       abbrev SameBlock : List ℕ → Type 0

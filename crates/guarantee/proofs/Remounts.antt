@@ -19,7 +19,7 @@ use Rattle.image.specs.Step.{erase, AllLegal, whole, play_all}
 use Rattle.image.proofs.Plays.{play_all_lem, play_all_nil}
 use Rattle.image.proofs.Forms.{form_program}
 use Rattle.store.specs.Kind.{headed}
-use Rattle.store.specs.Reply.{is_done}
+use Rattle.store.specs.Reply.{Done, is_done}
 use Rattle.store.specs.Record.{Record, page_of, live}
 use Rattle.store.specs.Outcome.{Outcome, left, left_whole}
 use Rattle.store.specs.Format.{noise_size, buffers_right, format_numbers}
@@ -28,7 +28,6 @@ use Rattle.store.specs.Write.{next_sequence, append_steps}
 use Rattle.store.specs.CutOff.{removed, cut_off_steps, cut_off_of}
 use Rattle.store.specs.Commit.{Stage, begin, cleaned, commit_stages, commit_of}
 use Rattle.store.specs.Wipe.{removed_first, wipe_of}
-use Rattle.store.specs.declared.Reply.TheVariants.{Done}
 use Rattle.store.proofs.Legals.{cut_off-legal, mount-legal, commit-legal, wipe-legal}
 use Rattle.store.proofs.Outcomes.{gather_outcome, gather-refused, mount_outcome, read_stepless, cut_off_outcome, cut_off-refused, commit_outcome, commit-refused, wipe_outcome, wipe-refused}
 use Rattle.store.proofs.Verdicts.{gather_taken_lem, done-true, cut_off_taken_lem, buffers-true}

@@ -27,7 +27,7 @@ use Rattle.image.proofs.Empties.{block_empty-same, erase_empties}
 use Rattle.image.proofs.Looks.{blocks-same, lowest_empty_lem}
 use Rattle.image.proofs.Plays.{play_all_nil}
 use Rattle.image.proofs.Step.{block_of, page-program, block_whole_other}
-use Rattle.store.specs.Reply.{is_done}
+use Rattle.store.specs.Reply.{Done, is_done}
 use Rattle.store.specs.Kind.{is_chosen, is_data}
 use Rattle.store.specs.Record.{Record, is_dead}
 use Rattle.store.specs.Outcome.{Outcome}
@@ -40,7 +40,6 @@ use Rattle.store.specs.Wipe.{removed_first}
 use Rattle.store.specs.Stages.{is_spare, erases}
 use Rattle.store.specs.Taken.{Ready}
 use Rattle.store.specs.declared.Numbers.{Numbers}
-use Rattle.store.specs.declared.Reply.TheVariants.{Done}
 use Rattle.store.proofs.Verdicts.{done-true, commit_taken_lem, wipe_taken_lem, gather_taken_lem}
 use Rattle.store.proofs.Outcomes.{read_stepless, cut_off_outcome, cut_off-refused, commit_outcome, commit-refused, wipe_outcome, wipe-refused}
 use Rattle.store.proofs.Outcomes.{gather_outcome, gather-refused}

@@ -18,7 +18,7 @@ use Rattle.store.specs.Outcome.{Outcome}
 use Rattle.store.specs.Mount.{removes, mount_of}
 use Rattle.store.specs.Write.{file_right, offset_right, place_at}
 use Rattle.store.specs.Read.{read_of, read_length}
-use Rattle.store.specs.declared.Reply.TheVariants.{Done}
+use Rattle.store.specs.Reply.{Done}
 use Rattle.store.proofs.Verdicts.{verdict-done}
 use Rattle.guarantee.specs.Call.{Given, write_given, mount, write, wipe, Event, lent_right}
 use Rattle.guarantee.specs.Book.{Book, Holding, lowest_marked, book_spent, book_removed, entered}
@@ -39,7 +39,7 @@ module _ (m : Machine) (h : History m) (on : T m.on) (file offset : ℕ) (given 
   pub taken_free : (key_taken < positions) × (m.book.mark key_taken ≡ free_letter)
   taken_free =
       let r = (at_call m h (record { call = write file offset given; n = 0; k = 0 }) (while_on m on false, tt)).replied in
-      let t = verdict-done (book_tests m.book m.store.map m.store.numbers m.image (write file offset given)) (refl, (refl, (refl, (refl, (refl, (refl, tt)))))) (sym r ∙ taken) in
+      let t = verdict-done (book_tests m.book m.store.map m.store.numbers m.image (write file offset given)) (sym r ∙ taken) in
       lowest_free_lem m.book t.1.1.1.1.0
 
   -- slip 1: no byte on the flash is under the key that a write takes; so no torn page's key is given out, nor any other that was used

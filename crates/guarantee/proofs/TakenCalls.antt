@@ -15,7 +15,7 @@ use Rattle.page.specs.Header.{last_number}
 use Rattle.image.specs.Size.{size_right, blocks}
 use Rattle.image.specs.Look.{block_empty, empty_blocks}
 use Rattle.image.proofs.Looks.{sized}
-use Rattle.store.specs.Reply.{Test, number_of, verdict}
+use Rattle.store.specs.Reply.{Reply, Done, Test, number_of, verdict}
 use Rattle.store.specs.Outcome.{Outcome, left, left_whole}
 use Rattle.store.specs.Format.{noise_size, buffers_right}
 use Rattle.store.specs.Mount.{mount_of}
@@ -23,8 +23,8 @@ use Rattle.store.specs.Write.{file_right, offset_right}
 use Rattle.store.specs.Record.{is_dead}
 use Rattle.store.specs.Commit.{commit_of}
 use Rattle.store.specs.Wipe.{wipe_of}
-use Rattle.store.specs.declared.Reply.{Reply}
-use Rattle.store.specs.declared.Reply.TheVariants.{Done, NoRoom}
+use Rattle.std.specs.Prelude.{Err}
+use Rattle.store.specs.declared.Error.TheVariants.{NoRoom}
 use Rattle.store.specs.Gather.{live_pages, gather_of}
 use Rattle.store.proofs.Gathers.{live-few, gathered_dead}
 use Rattle.store.proofs.Outcomes.{gather_outcome}
@@ -66,15 +66,15 @@ module _ (m : Machine) (h : History m) (on : T m.on) where
   is_ten : Reply → Bool
   is_ten r = eqb (number_of r) 10
 
-  never_ten : (call : Call) → verdict (tests call) ≡ NoRoom → not (is_ten (verdict (tests call))) ≡ true → ⊥
+  never_ten : (call : Call) → verdict (tests call) ≡ (Err NoRoom) → not (is_ten (verdict (tests call))) ≡ true → ⊥
   unfolding is_ten
   never_ten call e q = true-false (rw e at q) refl
 
-  pub commit_has_block : (noise : List ℕ) → (commit_of m.image m.store noise).reply ≡ NoRoom → ⊥
+  pub commit_has_block : (noise : List ℕ) → (commit_of m.image m.store noise).reply ≡ (Err NoRoom) → ⊥
   unfolding is_ten
   commit_has_block noise e = never_ten (commit noise) (sym (due (commit noise) refl) ∙ e) (verdict_among (λ r. not (is_ten r)) (tests (commit noise)) refl refl)
 
-  pub wipe_has_block : (noise : List ℕ) (file offset : ℕ) → (wipe_of m.image m.store noise file offset).reply ≡ NoRoom → ⊥
+  pub wipe_has_block : (noise : List ℕ) (file offset : ℕ) → (wipe_of m.image m.store noise file offset).reply ≡ (Err NoRoom) → ⊥
   unfolding is_ten
   wipe_has_block noise file offset e =
       never_ten (wipe noise file offset) (sym (due (wipe noise file offset) refl) ∙ e) (verdict_among (λ r. not (is_ten r)) (tests (wipe noise file offset)) refl refl)

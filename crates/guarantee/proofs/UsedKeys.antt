@@ -16,7 +16,7 @@ use Rattle.page.specs.Key.{positions, key_block}
 use Rattle.page.specs.Entry.{free_letter, used_letter, deleted_letter}
 use Rattle.store.specs.Mount.{removes}
 use Rattle.store.specs.Write.{place_at}
-use Rattle.store.specs.declared.Reply.TheVariants.{Done}
+use Rattle.store.specs.Reply.{Done}
 use Rattle.guarantee.specs.Call.{Given, second_given, bytes_given, payload_given, Call, mount, write, read, cut_off, commit, wipe, gather, Event, Fate, replied, cut, made_whole, torn}
 use Rattle.guarantee.specs.Book.{Book, held_among, lowest_marked, book_written, book_spent, book_removed, book_renewed, book_freed, only_if, keys_done, commit_done, removal_done, wipe_commit_at, book_committed, entered}
 use Rattle.guarantee.specs.Machine.{Node, began, nodes_after, Machine, start, step, fate_of, outcome_at, left_at}

@@ -15,7 +15,7 @@ use Rattle.store.specs.Kind.{is_chosen}
 use Rattle.store.specs.Record.{with_numbers}
 use Rattle.store.specs.Format.{formatted}
 use Rattle.store.specs.declared.Numbers.{Numbers}
-use Rattle.store.specs.declared.Reply.TheVariants.{Done}
+use Rattle.store.specs.Reply.{Done}
 use Rattle.guarantee.specs.Call.{Event}
 use Rattle.guarantee.specs.Book.{Book, held_among}
 use Rattle.guarantee.specs.Origin.{cipher, key_byte}

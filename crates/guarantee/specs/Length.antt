@@ -6,7 +6,7 @@ use Rattle.page.specs.Frame.{payload_size}
 use Rattle.store.specs.Mount.{removes}
 use Rattle.store.specs.Write.{place_at}
 use Rattle.store.specs.Read.{read_of, read_length}
-use Rattle.store.specs.declared.Reply.TheVariants.{Done}
+use Rattle.store.specs.Reply.{Done}
 use Rattle.guarantee.specs.Call.{Call, mount, write, read, cut_off, commit, wipe, gather, Event}
 use Rattle.guarantee.specs.Machine.{Machine}
 

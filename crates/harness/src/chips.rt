@@ -18,11 +18,10 @@ pub extern "C" fn harness_chip_program(
 {
     let before = numbers::set_of(registers, page);
     let sent = driver::program(before, image, g, bytes);
-    let after = sent.registers;
-    *registers = numbers::five_of(after);
-    let held = after.page;
+    *registers = numbers::five_of(sent.registers);
+    let held = sent.registers.page;
     *page = held;
-    sent.reply
+    numbers::reply_number(sent.reply)
 }
 
 // Erases a block.
@@ -38,9 +37,8 @@ pub extern "C" fn harness_chip_erase(
 {
     let before = numbers::set_of(registers, page);
     let sent = driver::erase(before, image, block);
-    let after = sent.registers;
-    *registers = numbers::five_of(after);
-    let held = after.page;
+    *registers = numbers::five_of(sent.registers);
+    let held = sent.registers.page;
     *page = held;
-    sent.reply
+    numbers::reply_number(sent.reply)
 }

@@ -1,32 +1,25 @@
 // C entry points into the crate `page`.
-ghost use Rattle.std.specs.Prelude.{◌≡◌, ◌<◌, length, get_or};
+ghost use Rattle.std.specs.Prelude.{◌≡◌, cond, ltb, get_or, Some, None};
 ghost use Rattle.harness.specs.Answer.{answer};
 ghost use Rattle.harness.specs.Page.{fields_in_frame, fields_of, frame_of, byte_range, form_answer, header_answer, entry_answer, write_entry_answer, cut_off_answer, commit_page_answer, commit_valid_reply};
 
 use crate::{DONE, REFUSED};
+use page::entries::ENTRY_SIZE;
+use page::keys::POSITIONS;
+use page::plan::MAP_SIZE;
 use page::{Entry, Form, Frame, entries, forms, headers, writers};
 
 // The fields of a header: kind, number, unit, part, key, second.
 const FIELDS_IN_FRAME: usize = 6;
 
-// An entry has 8 bytes and names two numbers.
-const ENTRY_SIZE: usize = 8;
-
+// An entry names two numbers.
 const FIELDS_IN_ENTRY: usize = 2;
 
-// Bytes are below 256, the numbers of a map below 65,536.
-const BYTE_RANGE: u32 = 256;
-
-const MAP_RANGE: u32 = 65_536;
-
-// A map has 224 pages and 224 keys; there are 448 letters. A commit has 10 parts.
-const MAP: usize = 448;
-
-const LETTERS: usize = 448;
-
+// A commit has 10 parts.
 const PARTS: u32 = entries::PARTS as u32;
 
 // The replies of a page's form.
+// Stays (1): C gets these numbers, and those below.
 const EMPTY: u32 = 0;
 
 const WHOLE: u32 = 1;
@@ -43,59 +36,41 @@ const VACANT: u32 = 1;
 
 const MISSPELT: u32 = 2;
 
-// The replies of a test.
-const NO: u32 = 0;
-
-const YES: u32 = 1;
-
-// Copies numbers over as many.
-fn copy_numbers(dst: &mut [u32], src: &[u32])
-    requires { length dst.old ≡ length src.now }
-    ensures { dst.new ≡ src.now }
-{
-    let mut i = 0;
-    while i < src.len() {
-        dst[i] = src[i];
-        i += 1;
-    }
-}
-
 // Sets six numbers to the fields of a header.
-fn put_fields(dst: &mut [u32], f: Frame)
-    requires { length dst.old ≡ fields_in_frame }
+fn put_fields(dst: &mut [u32; FIELDS_IN_FRAME], f: Frame)
     ensures { dst.new ≡ fields_of f }
 {
-    let fields = [f.kind as u32, f.number, f.unit, f.part, f.key, f.second];
-    copy_numbers(dst, &fields);
+    *dst = [f.kind as u32, f.number, f.unit, f.part, f.key, f.second];
 }
 
-// The header of six fields, of which the first is a byte.
-fn frame_of(fields: &[u32]) -> Frame
-    requires { (length fields.now ≡ fields_in_frame) × (get_or fields.now 0 0 < byte_range) }
-    ensures { result ≡ frame_of fields.now }
+// The header of six fields, where the first is a byte.
+fn frame_of(fields: &[u32; FIELDS_IN_FRAME]) -> Option<Frame>
+    ensures { result ≡ cond (ltb (get_or fields.now 0 0) byte_range) (Some (frame_of fields.now)) None }
 {
-    Frame {
-        kind: fields[0] as u8,
+    let kind = u8::try_from(fields[0]).ok()?;
+    Some(Frame {
+        kind,
         number: fields[1],
         unit: fields[2],
         part: fields[3],
         key: fields[4],
         second: fields[5],
-    }
+    })
 }
 
 // The form of a page of 256 bytes: 0 empty, 1 whole, 2 torn, 3 spoilt. The fields of a whole or torn page's header go
 // into six numbers.
 #[unsafe(no_mangle)]
+#[tactic(auto, unfolding(crate::specs::Page::form_answer))]
 pub extern "C" fn harness_form(page: &[u8], fields: &mut [u32]) -> u32
     ensures { answer result fields.new ≡ form_answer page.now fields.old }
 {
-    if page.len() != Frame::PAGE {
+    let Some(page) = page.as_array::<{ Frame::PAGE }>() else {
         return REFUSED;
-    }
-    if fields.len() != FIELDS_IN_FRAME {
+    };
+    let Some(fields) = fields.as_mut_array::<FIELDS_IN_FRAME>() else {
         return REFUSED;
-    }
+    };
     match forms::form(page) {
         Form::Empty => EMPTY,
         Form::Whole(f) => {
@@ -112,19 +87,19 @@ pub extern "C" fn harness_form(page: &[u8], fields: &mut [u32]) -> u32
 
 // Writes the 30 bytes of the header of six fields. The reply is 1 where a field is out of its range.
 #[unsafe(no_mangle)]
+#[tactic(auto, unfolding(crate::specs::Page::header_answer))]
 pub extern "C" fn harness_header(fields: &[u32], header: &mut [u8]) -> u32
     ensures { answer result header.new ≡ header_answer fields.now header.old }
 {
-    if fields.len() != FIELDS_IN_FRAME {
+    let Some(fields) = fields.as_array::<FIELDS_IN_FRAME>() else {
         return REFUSED;
-    }
-    if header.len() != Frame::HEADER {
+    };
+    let Some(header) = header.as_mut_array::<{ Frame::HEADER }>() else {
         return REFUSED;
-    }
-    if BYTE_RANGE <= fields[0] {
+    };
+    let Some(f) = frame_of(fields) else {
         return OUT_OF_RANGE;
-    }
-    let f = frame_of(fields);
+    };
     if !headers::in_range(f) {
         return OUT_OF_RANGE;
     }
@@ -134,19 +109,19 @@ pub extern "C" fn harness_header(fields: &[u32], header: &mut [u8]) -> u32
 
 // The entry that 8 bytes are: 0 with page and key, which go into two numbers; 1 vacant, 2 misspelt.
 #[unsafe(no_mangle)]
+#[tactic(auto, unfolding(crate::specs::Page::entry_answer))]
 pub extern "C" fn harness_entry(entry: &[u8], fields: &mut [u32]) -> u32
     ensures { answer result fields.new ≡ entry_answer entry.now fields.old }
 {
-    if entry.len() != ENTRY_SIZE {
+    let Some(entry) = entry.as_array::<ENTRY_SIZE>() else {
         return REFUSED;
-    }
-    if fields.len() != FIELDS_IN_ENTRY {
+    };
+    let Some(fields) = fields.as_mut_array::<FIELDS_IN_ENTRY>() else {
         return REFUSED;
-    }
+    };
     match entries::read_entry(entry) {
         Entry::At(page, key) => {
-            let numbers = [page, key];
-            copy_numbers(fields, &numbers);
+            *fields = [page, key];
             DONE
         }
         Entry::Vacant => VACANT,
@@ -156,24 +131,26 @@ pub extern "C" fn harness_entry(entry: &[u8], fields: &mut [u32]) -> u32
 
 // Writes the 8 bytes of the entry of a page and a key, as a map has them.
 #[unsafe(no_mangle)]
+#[tactic(auto, unfolding(crate::specs::Page::write_entry_answer))]
 pub extern "C" fn harness_write_entry(page: u32, key: u32, entry: &mut [u8]) -> u32
     ensures { answer result entry.new ≡ write_entry_answer page key entry.old }
 {
-    if MAP_RANGE <= page {
+    let Ok(page) = u16::try_from(page) else {
         return REFUSED;
-    }
-    if MAP_RANGE <= key {
+    };
+    let Ok(key) = u16::try_from(key) else {
         return REFUSED;
-    }
-    if entry.len() != ENTRY_SIZE {
+    };
+    let Some(entry) = entry.as_mut_array::<ENTRY_SIZE>() else {
         return REFUSED;
-    }
-    entries::write_entry(entry, page as u16, key as u16);
+    };
+    entries::write_entry(entry, page, key);
     DONE
 }
 
 // Writes the page of a cut-off up to byte k.
 #[unsafe(no_mangle)]
+#[tactic(auto, unfolding(crate::specs::Page::cut_off_answer))]
 pub extern "C" fn harness_cut_off(
     page: &mut [u8],
     sequence: u32,
@@ -183,9 +160,9 @@ pub extern "C" fn harness_cut_off(
 ) -> u32
     ensures { answer result page.new ≡ cut_off_answer page.old sequence file offset k }
 {
-    if page.len() != Frame::PAGE {
+    let Some(page) = page.as_mut_array::<{ Frame::PAGE }>() else {
         return REFUSED;
-    }
+    };
     let spaces = [b' '; Frame::PAYLOAD];
     writers::write_page(page, Frame::cut_off(sequence, file, offset), &spaces, k);
     DONE
@@ -193,6 +170,7 @@ pub extern "C" fn harness_cut_off(
 
 // Writes a part of a commit up to byte k, from a map of 448 numbers and 448 letters.
 #[unsafe(no_mangle)]
+#[tactic(auto, unfolding(crate::specs::Page::commit_page_answer))]
 pub extern "C" fn harness_commit_page(
     page: &mut [u8],
     epoch: u32,
@@ -205,18 +183,18 @@ pub extern "C" fn harness_commit_page(
     ensures { answer result page.new
         ≡ commit_page_answer page.old epoch part covered map.now letters.now k }
 {
-    if page.len() != Frame::PAGE {
+    let Some(page) = page.as_mut_array::<{ Frame::PAGE }>() else {
         return REFUSED;
-    }
+    };
     if PARTS <= part {
         return REFUSED;
     }
-    if map.len() != MAP {
+    let Some(map) = map.as_array::<MAP_SIZE>() else {
         return REFUSED;
-    }
-    if letters.len() != LETTERS {
+    };
+    let Some(letters) = letters.as_array::<POSITIONS>() else {
         return REFUSED;
-    }
+    };
     let mut payload = [0u8; Frame::PAYLOAD];
     entries::write_commit_payload(&mut payload, map, letters, part as usize);
     writers::write_page(page, Frame::commit(epoch, part, covered), &payload, k);
@@ -225,17 +203,15 @@ pub extern "C" fn harness_commit_page(
 
 // Whether 224 bytes are valid as the payload of a part of a commit: 1 or 0.
 #[unsafe(no_mangle)]
+#[tactic(auto, unfolding(crate::specs::Page::commit_valid_reply))]
 pub extern "C" fn harness_commit_valid(payload: &[u8], part: u32) -> u32
     ensures { result ≡ commit_valid_reply payload.now part }
 {
-    if payload.len() != Frame::PAYLOAD {
+    let Some(payload) = payload.as_array::<{ Frame::PAYLOAD }>() else {
         return REFUSED;
-    }
+    };
     if PARTS <= part {
         return REFUSED;
     }
-    if entries::valid_payload(payload, part as usize) {
-        return YES;
-    }
-    NO
+    entries::valid_payload(payload, part as usize) as u32
 }

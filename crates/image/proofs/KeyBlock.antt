@@ -31,10 +31,12 @@ use Rattle.image.proofs.Step.{block_length_lem, page_of_block}
 use Rattle.image.proofs.Rows.{row_steps, row_inside, row-page-done}
 
 -- ---- the key of a position in a key block of the image
-pub key_in_block_at : (img : List ℕ) (b p : ℕ) → key_in_page (part img (b * block_size + page_size * key_page p) page_size) (key_slot p) ≡ key_in_block (block_at img b) p
-unfolding key_in_block block_at
+pub key_in_block_at : (img : List ℕ) (b p : ℕ) → key_in_page (page_at img (b * pages_in_block + key_page p)) (key_slot p) ≡ key_in_block (block_at img b) p
+unfolding key_in_block block_at page_at
 key_in_block_at img b p =
-    ap (λ (page : List ℕ). key_in_page page (key_slot p)) (sym (part-part img (b * block_size) block_size (page_size * key_page p) page_size (omega arith)))
+    let k : (b * pages_in_block + key_page p) * page_size ≡ b * block_size + page_size * key_page p = omega arith in
+    rw k
+    (ap (λ (page : List ℕ). key_in_page page (key_slot p)) (sym (part-part img (b * block_size) block_size (page_size * key_page p) page_size (omega arith))))
 
 -- ---- a key has 16 bytes
 pub key_in_block-length : (block : List ℕ) (p : ℕ) → length block ≡ block_size → length (key_in_block block p) ≡ key_size

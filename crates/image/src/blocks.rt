@@ -11,7 +11,9 @@ ghost use Rattle.image.specs.Power.{device, act, run};
 ghost use Rattle.image.specs.Block.{erases_from, keys_from, renewed_key, key_block_steps, commit_block_steps};
 
 use crate::{Power, keys, look, steps};
-use page::keys::{KEYS_IN_BLOCK, KEYS_IN_PAGE};
+use page::frames::Header;
+use page::keys::{KEYS_IN_BLOCK, KEYS_IN_PAGE, Letters, Noise};
+use page::plan::Map;
 use page::{Frame, entries, headers};
 
 // Erases every block, in order.
@@ -20,10 +22,8 @@ pub fn erase_all(image: &mut [u8], p: Power) -> Power
 {
     let n = image.len() / look::BLOCK_SIZE;
     let mut q = p;
-    let mut b = 0;
-    while b < n {
+    for b in 0..n {
         q = steps::erase_block(image, b, q);
-        b += 1;
     }
     q
 }
@@ -32,17 +32,16 @@ pub fn erase_all(image: &mut [u8], p: Power) -> Power
 fn program_next_keys(
     image: &mut [u8],
     b: usize,
-    header: &[u8],
+    header: &Header,
     block: u32,
     i: usize,
     last: usize,
-    letters: &[u8],
-    noise: &[u8],
+    letters: &Letters,
+    noise: &Noise,
     p: Power,
 ) -> Power
-    requires block_size_in_bounds { (b * block_size + block_size ≤ length image.old) × (length header.now ≡ header_size)
+    requires { (b * block_size + block_size ≤ length image.old)
         × (last * block_size + block_size ≤ length image.old) × (block < 2) × (i < pages_in_block) }
-    requires letters_len { (length letters.now ≡ positions) × (length noise.now ≡ noise_size) }
     ensures { device result image.new ≡ act (program (b * pages_in_block + i) (page_like header.now i (keys_from
         (renewed_key (block_at image.old last) letters.now noise.now) keys_in_page
         (keys_in_block * block + keys_in_page * i)))) (device p image.old) }
@@ -67,27 +66,20 @@ pub fn program_key_block(
     epoch: u32,
     block: u32,
     last: usize,
-    letters: &[u8],
-    noise: &[u8],
+    letters: &Letters,
+    noise: &Noise,
     p: Power,
 ) -> Power
-    requires block_size_in_bounds { (b * block_size + block_size ≤ length image.old)
+    requires { (b * block_size + block_size ≤ length image.old)
         × (last * block_size + block_size ≤ length image.old) × (block < 2) × (b ≡ last → ⊥) }
-    requires letters_len { (length letters.now ≡ positions) × (length noise.now ≡ noise_size) }
     ensures { device result image.new ≡ run (key_block_steps epoch block b
         (renewed_key (block_at image.old last) letters.now noise.now)) (device p image.old) }
 {
     let mut header = [0u8; Frame::HEADER];
     headers::write_header(&mut header, Frame::keys(epoch, block, 0));
-    let mut q = Power {
-        steps: p.steps,
-        bytes: p.bytes,
-        on: p.on,
-    };
-    let mut i = 0;
-    while i < look::PAGES_IN_BLOCK {
+    let mut q = p;
+    for i in 0..look::PAGES_IN_BLOCK {
         q = program_next_keys(image, b, &header, block, i, last, letters, noise, q);
-        i += 1;
     }
     q
 }
@@ -98,27 +90,20 @@ pub fn program_commit_block(
     b: usize,
     epoch: u32,
     covered: u32,
-    map: &[u16],
-    letters: &[u8],
+    map: &Map,
+    letters: &Letters,
     p: Power,
 ) -> Power
-    requires block_size_in_bounds { b * block_size + block_size ≤ length image.old }
-    requires map_len { (length map.now ≡ map_size) × (length letters.now ≡ positions) }
+    requires { b * block_size + block_size ≤ length image.old }
     ensures { device result image.new
         ≡ run (commit_block_steps epoch covered b map.now letters.now) (device p image.old) }
 {
     let mut header = [0u8; Frame::HEADER];
     headers::write_header(&mut header, Frame::commit(epoch, 0, covered));
-    let mut q = Power {
-        steps: p.steps,
-        bytes: p.bytes,
-        on: p.on,
-    };
-    let mut i = 0;
-    while i < entries::PARTS {
+    let mut q = p;
+    for i in 0..entries::PARTS {
         let g = b * look::PAGES_IN_BLOCK + i;
         q = steps::program_part(image, g, &header, i, map, letters, q);
-        i += 1;
     }
     q
 }

@@ -7,7 +7,8 @@ ghost use Rattle.image.specs.Look.{block_at};
 ghost use Rattle.image.specs.Block.{key_in_block, keys_from, kept_key, renewed_key};
 
 use crate::look;
-use page::keys::{KEY_SIZE, KEYS_IN_PAGE};
+use page::frames::{Page, Payload};
+use page::keys::{KEY_SIZE, KEYS_IN_PAGE, Letters, Noise};
 use page::{Frame, bytes, entries, keys};
 
 // The key of position p in the key block at block b.
@@ -15,8 +16,8 @@ pub fn key_in_block(image: &[u8], b: usize, p: usize) -> [u8; 16]
     requires { b * block_size + block_size ≤ length image.now }
     ensures { result ≡ key_in_block (block_at image.now b) p }
 {
-    let start = b * look::BLOCK_SIZE + Frame::PAGE * keys::page_of(p);
-    keys::key_in_page(&image[start..start + Frame::PAGE], keys::slot_of(p))
+    let page = look::page_at(image, b * look::PAGES_IN_BLOCK + keys::page_of(p));
+    keys::key_in_page(page, keys::slot_of(p))
 }
 
 // Writes the key over dst where its position is used.
@@ -30,13 +31,11 @@ fn keep_if(dst: &mut [u8], key: &[u8], used: bool)
 }
 
 // Writes the keys of a key page over those in dst where their position is used, the positions from first on.
-fn keep_used(dst: &mut [u8], page: &[u8], letters: &[u8], first: usize)
-    requires dst_len { (length dst.old ≡ payload_size) × (length page.now ≡ page_size) }
-    requires letters_len { (length letters.now ≡ positions) × (first + keys_in_page ≤ positions) }
+fn keep_used(dst: &mut Payload, page: &Page, letters: &Letters, first: usize)
+    requires { first + keys_in_page ≤ positions }
     ensures { dst.new ≡ keys_from (kept_key page.now letters.now dst.old first) keys_in_page 0 }
 {
-    let mut j = 0;
-    while j < KEYS_IN_PAGE {
+    for j in 0..KEYS_IN_PAGE {
         let to = KEY_SIZE * j;
         let from = Frame::HEADER + to;
         let used = letters[first + j] == entries::USED;
@@ -45,23 +44,21 @@ fn keep_used(dst: &mut [u8], page: &[u8], letters: &[u8], first: usize)
             &page[from..from + KEY_SIZE],
             used,
         );
-        j += 1;
     }
 }
 
 // Writes the next keys of page i of a key block, the positions from first on: those of used positions stay, all others
 // are noise.
 pub(crate) fn renew_keys(
-    dst: &mut [u8],
+    dst: &mut Payload,
     image: &[u8],
     last: usize,
     i: usize,
-    letters: &[u8],
-    noise: &[u8],
+    letters: &Letters,
+    noise: &Noise,
     first: usize,
 )
-    requires dst_len { (length dst.old ≡ payload_size) × (last * block_size + block_size ≤ length image.now) }
-    requires letters_len { (length letters.now ≡ positions) × (length noise.now ≡ noise_size) }
+    requires last_in_bounds { last * block_size + block_size ≤ length image.now }
     requires first_lt_positions { (first < positions) × (first % keys_in_block ≡ keys_in_page * i) }
     ensures { dst.new
         ≡ keys_from (renewed_key (block_at image.now last) letters.now noise.now) keys_in_page first }

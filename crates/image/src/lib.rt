@@ -7,6 +7,7 @@ pub mod look;
 pub mod steps;
 
 // What is left of the power: so many whole steps, then the first bytes of the next, then none.
+// Stays (1): the definition `act` keeps the bytes of a power that is off, and theorems speak of what it leaves.
 #[derive(Clone, Copy)]
 pub struct Power {
     pub steps: u64,

@@ -9,8 +9,8 @@ use borrow.Author.Tests.{ltb-true, ltb-false}
 use Rattle.base.specs.Search.{first_from}
 use Rattle.base.proofs.Searches.{first_bounds, first_holds, first_least}
 use Rattle.page.specs.Plan.{file_plan, last_file, places, count_of, start_of, place_of}
-use Rattle.page.specs.declared.Place.TheVariants.{At}
-use Rattle.page.proofs.Plans.{start_next, start-after, plan_sum, from_places}
+use Rattle.std.specs.Prelude.{Some}
+use Rattle.page.proofs.Plans.{place_unique, start_next, start-after, plan_sum, from_places}
 use Rattle.listing.specs.Listing.{file_of, offset_of}
 
 -- the places of a file end within all places
@@ -45,6 +45,11 @@ file_ends x h = go (first_from p last_file 0) refl
         ]
 
 -- so they are the file and the offset of the place
-pub file-place : (x : ℕ) → x < places → place_of file_plan (file_of x) (offset_of x) ≡ At x
+pub file-place : (x : ℕ) → x < places → place_of file_plan (file_of x) (offset_of x) ≡ Some x
 unfolding offset_of
 file-place x h = (from_places file_plan (file_of x) 0 x (omega (arith, file-start x)) (file_ends x h)).1
+
+-- and the only file that has it
+pub file-found : (x file : ℕ) → x < places → start_of file_plan file ≤ x → x < start_of file_plan file + count_of file_plan file → file ≡ file_of x
+file-found x file h a b =
+    (place_unique file_plan file _ (file_of x) (offset_of x) x (from_places file_plan file 0 x (omega arith) b).1 (file-place x h)).0

@@ -5,10 +5,10 @@ use Rattle.std.proofs.Math.Decide.{dec_lt}
 use Rattle.std.specs.Io.KnownBytes.{Appends}
 use borrow.Author.Tests.{lt-ltb}
 use Rattle.store.specs.Reply.{number_of}
-use Rattle.store.specs.declared.Reply.TheVariants.{ImageSize}
+use Rattle.store.specs.declared.Error.TheVariants.{ImageSize}
 use Rattle.listing.specs.Listing.{longest, refusal, listed}
 
-refused : (input : List ℕ) → longest < length input → listed input ≡ refusal (number_of ImageSize)
+refused : (input : List ℕ) → longest < length input → listed input ≡ refusal (number_of (Err ImageSize))
 unfolding listed
 refused input h = rw (lt-ltb longest (length input) h)
 

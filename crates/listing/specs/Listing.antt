@@ -4,7 +4,7 @@
 --   totals             the line of the letters' counts
 --   refusal            the line of a refused mount
 --   listing_of, listed  the text for an image, and for any input
-use Rattle.std.specs.Prelude.{ℕ, zero, suc, ◌+◌, ◌*◌, ◌-◌, cond, List, [], ◌∷◌, ◌++◌, length, get_or, replicate, eqb, ltb}
+use Rattle.std.specs.Prelude.{ℕ, zero, suc, ◌+◌, ◌*◌, ◌-◌, cond, List, [], ◌∷◌, ◌++◌, length, get_or, replicate, eqb, ltb, Err}
 use Rattle.base.specs.Search.{first_from, count_from}
 use Rattle.page.specs.Column.{spell}
 use Rattle.page.specs.Plan.{file_plan, last_file, places, count_of, start_of}
@@ -14,7 +14,7 @@ use Rattle.store.specs.Reply.{number_of}
 use Rattle.store.specs.Record.{map_size, page_of, key_of, live}
 use Rattle.store.specs.Outcome.{Left, left_whole}
 use Rattle.store.specs.Mount.{mount_of}
-use Rattle.store.specs.declared.Reply.TheVariants.{ImageSize}
+use Rattle.store.specs.declared.Error.TheVariants.{ImageSize}
 
 -- a line ends in 0Ah
 abbrev pub line_end : List ℕ
@@ -71,7 +71,7 @@ abbrev pub longest : ℕ
 longest = 65536
 
 unfoldable pub listed : List ℕ → List ℕ
-listed input = cond (ltb longest (length input)) (refusal (number_of ImageSize)) (listing_of input)
+listed input = cond (ltb longest (length input)) (refusal (number_of (Err ImageSize))) (listing_of input)
 
 -- ---- sizes: of a row, of the line of totals, and of the longest text, which has a row for each place
 abbrev pub row_size : ℕ

@@ -6,47 +6,37 @@ mod text;
 ghost use Rattle.std.specs.Prelude.{◌≡◌, ◌≤◌, length, take, IfOk, OnOk, IfSome};
 ghost use Rattle.std.specs.Io.KnownBytes.{Appends};
 ghost use Rattle.listing.specs.Listing.{listing_of, listed, text_size};
+ghost use Rattle.listing.specs.Text.{written};
 
 use page::keys::POSITIONS;
-use page::plan::PLACES;
+use page::plan::{MAP_SIZE, PLACES};
 use std::io;
 use std::io::{Read, Write};
-use store::{mount, replies};
+use store::{Error, mount};
+use text::Text;
 
 // The most bytes that are taken as an image.
 const LONGEST: usize = 65_536;
 
-// A map has the pages of all places, then their keys.
-const MAP: usize = 448;
-
-// The longest text: a row of 21 bytes for each place, then the totals.
-const TEXT: usize = 4_723;
-
-// The number of document 01 for an image of wrong size.
-const IMAGE_SIZE: u32 = 1;
-
-// Mounts an image and writes its listing.
-fn list_image(image: &mut [u8], out: &mut [u8]) -> usize
-    requires { text_size ≤ length out.old }
-    ensures { (result ≤ text_size) × (take result out.new ≡ listing_of image.old) }
+// The listing of an image, which is mounted for it.
+fn list_image(image: &mut [u8]) -> Text
+    ensures { (result.length ≤ text_size) × (written result ≡ listing_of image.old) }
 {
-    let mut map = [0u16; MAP];
+    let mut map = [0u16; MAP_SIZE];
     let mut letters = [0u8; POSITIONS];
     let mut scratch = [0u32; PLACES];
     let answer = mount::mount(image, &mut map, &mut letters, &mut scratch);
-    let reply = answer.reply;
-    text::put_text(out, replies::number(reply), &map, &letters)
+    text::text_of(answer.reply, &map, &letters)
 }
 
-// Writes the listing of what was read.
-fn list(input: &mut [u8], out: &mut [u8]) -> usize
-    requires { text_size ≤ length out.old }
-    ensures { (result ≤ text_size) × (take result out.new ≡ listed input.old) }
+// The listing of what was read.
+fn list(input: &mut [u8]) -> Text
+    ensures { (result.length ≤ text_size) × (written result ≡ listed input.old) }
 {
     if LONGEST < input.len() {
-        return text::put_refusal(out, IMAGE_SIZE);
+        return text::refusal(Error::ImageSize);
     }
-    list_image(input, out)
+    list_image(input)
 }
 
 // Reads until the buffer is full or the input ends, and gives how many bytes it put at the front.
@@ -56,6 +46,7 @@ fn read_full<R: Read>(reader: &mut R, buf: &mut [u8]) -> io::Result<usize>
         (λ input. take n buf.new ≡ take (length buf.new) input)) }
 {
     let mut done: usize = 0;
+    // Stays (3): a read says itself how far it came, so no range has the steps.
     while done < buf.len() {
         let n = reader.read(&mut buf[done..])?;
         if n == 0 {
@@ -73,9 +64,8 @@ fn list_input<R: Read, W: Write>(reader: &mut R, writer: &mut W) -> io::Result<(
 {
     let mut input = [0u8; LONGEST + 1];
     let n = read_full(reader, &mut input)?;
-    let mut out = [0u8; TEXT];
-    let r = list(&mut input[..n], &mut out);
-    writer.write_all(&out[..r])
+    let text = list(&mut input[..n]);
+    writer.write_all(text.as_bytes())
 }
 
 fn main(rt: HostRuntime) -> io::Result<()> {

@@ -1,60 +1,114 @@
-// The text of a listing, written from the front of a buffer. Each function takes the number of bytes written so far,
-// and gives it afterwards.
-ghost use Rattle.std.specs.Prelude.{◌≡◌, cond, ◌++◌, ◌≤◌, ◌<◌, ◌+◌, ◌*◌, length, take, eqb};
+// The text of a listing.
+ghost use Rattle.std.specs.Prelude.{◌≡◌, ◌++◌, ◌≤◌, ◌<◌, ◌+◌, ◌*◌};
 ghost use Rattle.page.specs.Column.{spell};
 ghost use Rattle.page.specs.Plan.{last_file, places};
-ghost use Rattle.page.specs.Key.{positions};
-ghost use Rattle.store.specs.Record.{map_size};
+ghost use Rattle.store.specs.Reply.{error_number, number_of};
 ghost use Rattle.listing.specs.Listing.{line_end, file_of, offset_of, row, row_of, rows_from, row_size, total, totals, totals_size, refusal, text_of, text_size};
+ghost use Rattle.listing.specs.Text.{written};
 
-use page::keys::POSITIONS;
-use page::plan::PLACES;
+use page::keys::Letters;
+use page::plan::{Map, PLACES};
 use page::{columns, entries, plan};
+use store::Error;
+
+// The longest text: a row of 21 bytes for each place, then the totals.
+const LONGEST: usize = 4_723;
 
 const LINE_END: u8 = b'\n';
 
-// Writes n in w columns.
-fn put_number(out: &mut [u8], at: usize, w: usize, n: u32) -> usize
-    requires { (at + w ≤ length out.old) × (1 ≤ w) }
-    ensures { (result ≡ at + w) × (take result out.new ≡ take at out.old ++ spell w n) }
-{
-    columns::put_at(out, at, w, n);
-    at + w
+// A text as far as it is written: the first bytes, so many.
+// Stays (6): memory is fixed, and a String would ask for more as it grows.
+#[derive(Drop)]
+pub struct Text {
+    bytes: [u8; LONGEST],
+    length: usize,
 }
 
-// Ends the line.
-fn put_line_end(out: &mut [u8], at: usize) -> usize
-    requires { at < length out.old }
-    ensures { (result ≡ at + 1) × (take result out.new ≡ take at out.old ++ line_end) }
-{
-    out[at] = LINE_END;
-    at + 1
-}
-
-// Writes the row of a node.
-fn put_row(out: &mut [u8], at: usize, file: u32, offset: u32, page: u16, key: u16) -> usize
-    requires { at + row_size ≤ length out.old }
-    ensures { (result ≡ at + row_size) × (take result out.new ≡ take at out.old ++ row file offset page key) }
-{
-    let after_file = put_number(out, at, 4, file);
-    let after_offset = put_number(out, after_file, 4, offset);
-    let after_page = put_number(out, after_offset, 6, page as u32);
-    let after_key = put_number(out, after_page, 6, key as u32);
-    put_line_end(out, after_key)
-}
-
-// The file of place x.
-fn file_of(x: usize) -> u32
-    ensures { (result ≡ file_of x) × (result ≤ last_file) }
-{
-    let mut file: u32 = 0;
-    while file < plan::LAST_FILE {
-        if x < (plan::start(file) + plan::count(file)) as usize {
-            return file;
+impl Text {
+    // A text of which nothing is written.
+    fn empty() -> Text
+        ensures { result.length ≡ 0 }
+    {
+        Text {
+            bytes: [0; LONGEST],
+            length: 0,
         }
-        file += 1;
     }
-    file
+
+    // What is written.
+    pub fn as_bytes(&self) -> &[u8]
+        requires { self.now.length ≤ text_size }
+        ensures { result.now ≡ written self.now }
+    {
+        &self.bytes[..self.length]
+    }
+
+    // Writes n in w columns.
+    fn put_number(&mut self, w: usize, n: u32)
+        requires { (self.old.length + w ≤ text_size) × (1 ≤ w) }
+        ensures { (self.new.length ≡ self.old.length + w) × (written self.new ≡ written self.old ++ spell w n) }
+    {
+        columns::put_at(&mut self.bytes, self.length, w, n);
+        self.length += w;
+    }
+
+    // Ends the line.
+    fn put_line_end(&mut self)
+        requires { self.old.length < text_size }
+        ensures { (self.new.length ≡ self.old.length + 1) × (written self.new ≡ written self.old ++ line_end) }
+    {
+        self.bytes[self.length] = LINE_END;
+        self.length += 1;
+    }
+
+    // Writes the row of a node.
+    fn put_row(&mut self, file: u32, offset: u32, page: u16, key: u16)
+        requires { self.old.length + row_size ≤ text_size }
+        ensures { (self.new.length ≡ self.old.length + row_size)
+            × (written self.new ≡ written self.old ++ row file offset page key) }
+    {
+        self.put_number(4, file);
+        self.put_number(4, offset);
+        self.put_number(6, page as u32);
+        self.put_number(6, key as u32);
+        self.put_line_end();
+    }
+
+    // Writes the row of place x, if it has a node.
+    fn put_place(&mut self, map: &Map, x: usize)
+        requires { (self.old.length + row_size ≤ text_size) × (x < places) }
+        ensures { (self.new.length ≤ self.old.length + row_size)
+            × (written self.new ≡ written self.old ++ row_of map.now x) }
+    {
+        if map[x] == entries::NONE {
+            return;
+        }
+        let file = plan::file_at(x);
+        self.put_row(file, offset_of(x, file), map[x], map[PLACES + x]);
+    }
+
+    // Writes the rows of all places.
+    fn put_rows(&mut self, map: &Map)
+        requires { self.old.length + row_size * places ≤ text_size }
+        ensures { (self.new.length ≤ self.old.length + row_size * places)
+            × (written self.new ≡ written self.old ++ rows_from map.now places 0) }
+    {
+        for x in 0..PLACES {
+            self.put_place(map, x);
+        }
+    }
+
+    // Writes the line of totals.
+    fn put_totals(&mut self, letters: &Letters)
+        requires { self.old.length + totals_size ≤ text_size }
+        ensures { (self.new.length ≡ self.old.length + totals_size)
+            × (written self.new ≡ written self.old ++ totals letters.now) }
+    {
+        self.put_number(6, count(letters, entries::USED));
+        self.put_number(6, count(letters, entries::FREE));
+        self.put_number(6, count(letters, entries::DELETED));
+        self.put_line_end();
+    }
 }
 
 // The offset of place x in its file.
@@ -65,82 +119,39 @@ fn offset_of(x: usize, file: u32) -> u32
     x as u32 - plan::start(file)
 }
 
-// Writes the row of place x, if it has a node.
-fn put_place(out: &mut [u8], at: usize, map: &[u16], x: usize) -> usize
-    requires { (at + row_size ≤ length out.old) × (length map.now ≡ map_size) × (x < places) }
-    ensures { (result ≤ at + row_size) × (take result out.new ≡ take at out.old ++ row_of map.now x) }
-{
-    if map[x] == entries::NONE {
-        return at;
-    }
-    let file = file_of(x);
-    put_row(out, at, file, offset_of(x, file), map[x], map[PLACES + x])
-}
-
-// Writes the rows of all places.
-fn put_rows(out: &mut [u8], map: &[u16]) -> usize
-    requires { (text_size ≤ length out.old) × (length map.now ≡ map_size) }
-    ensures { (result ≤ row_size * places) × (take result out.new ≡ rows_from map.now places 0) }
-{
-    let mut at: usize = 0;
-    let mut x: usize = 0;
-    while x < PLACES {
-        at = put_place(out, at, map, x);
-        x += 1;
-    }
-    at
-}
-
-// 1 if the two letters are the same, else 0.
-fn one_if_same(a: u8, b: u8) -> u32
-    ensures { (result ≡ cond (eqb a b) 1 0) × (result ≤ 1) }
-{
-    if a == b { 1 } else { 0 }
-}
-
 // How many positions have letter l.
-fn count(letters: &[u8], l: u8) -> u32
-    requires { length letters.now ≡ positions }
+fn count(letters: &Letters, l: u8) -> u32
     ensures { result ≡ total l letters.now }
 {
-    let mut n: u32 = 0;
-    let mut p: usize = 0;
-    while p < POSITIONS {
-        n += one_if_same(letters[p], l);
-        p += 1;
-    }
-    n
+    letters.iter().filter(|x| **x == l).count() as u32
 }
 
-// Writes the line of totals.
-fn put_totals(out: &mut [u8], at: usize, letters: &[u8]) -> usize
-    requires { (at + totals_size ≤ length out.old) × (length letters.now ≡ positions) }
-    ensures { (result ≡ at + totals_size) × (take result out.new ≡ take at out.old ++ totals letters.now) }
+// The rows and the totals of a record.
+fn listed_record(map: &Map, letters: &Letters) -> Text
+    ensures { (result.length ≤ text_size) × (written result ≡ rows_from map.now places 0 ++ totals letters.now) }
 {
-    let after_used = put_number(out, at, 6, count(letters, entries::USED));
-    let after_free = put_number(out, after_used, 6, count(letters, entries::FREE));
-    let after_deleted = put_number(out, after_free, 6, count(letters, entries::DELETED));
-    put_line_end(out, after_deleted)
+    let mut text = Text::empty();
+    text.put_rows(map);
+    text.put_totals(letters);
+    text
 }
 
-// Writes the line of a refusal.
-pub fn put_refusal(out: &mut [u8], n: u32) -> usize
-    requires { text_size ≤ length out.old }
-    ensures { (result ≤ text_size) × (take result out.new ≡ refusal n) }
+// The line of a refusal.
+pub fn refusal(error: Error) -> Text
+    ensures { (result.length ≤ text_size) × (written result ≡ refusal (error_number error)) }
 {
-    let after_number = put_number(out, 0, 6, n);
-    put_line_end(out, after_number)
+    let mut text = Text::empty();
+    text.put_number(6, error.number());
+    text.put_line_end();
+    text
 }
 
-// Writes the text for the number of mount's reply and the record that mount left.
-pub fn put_text(out: &mut [u8], n: u32, map: &[u16], letters: &[u8]) -> usize
-    requires { (text_size ≤ length out.old) × (length map.now ≡ map_size) × (length letters.now ≡ positions) }
-    ensures { (result ≤ text_size) × (take result out.new ≡ text_of n map.now letters.now) }
+// The text for mount's reply and the record that mount left.
+pub fn text_of(reply: Result<(), Error>, map: &Map, letters: &Letters) -> Text
+    ensures { (result.length ≤ text_size) × (written result ≡ text_of (number_of reply) map.now letters.now) }
 {
-    if n == 0 {
-        let at = put_rows(out, map);
-        put_totals(out, at, letters)
-    } else {
-        put_refusal(out, n)
+    match reply {
+        Ok(()) => listed_record(map, letters),
+        Err(error) => refusal(error),
     }
 }

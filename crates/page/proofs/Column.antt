@@ -17,10 +17,7 @@ use Rattle.base.proofs.Parts.{part_length}
 use Rattle.base.proofs.Eachs.{same_true, same_refl}
 use Rattle.page.specs.Frame.{space}
 use Rattle.page.specs.Column.{zero_digit, column, columns, spell, digit, is_digit, value_after, number_in, number_then, pair_in}
-use Rattle.page.specs.declared.Number.{Number}
-use Rattle.page.specs.declared.Number.TheVariants.{Is, Misspelt}
-use Rattle.page.specs.declared.Pair.{Pair}
-use Rattle.page.specs.declared.Pair.TheVariants.{Are, Misspelt as NoPair}
+use Rattle.std.specs.Prelude.{Option, Some, None}
 
 -- ---- columns, from the right
 pub length-columns : (i m : ℕ) (t : List ℕ) → length (columns i m t) ≡ i + length t
@@ -157,31 +154,31 @@ module _ (w n : ℕ) (some : 1 ≤ w) where
       value_columns (w - 1) (n / 10) _ (omega arith) ∙ rw (digit_of_digit (n % 10) (omega arith)) (omega arith)
 
   -- what is written is what is read
-  pub number_spell : n < 10 ^ w → number_in (spell w n) ≡ Is n
+  pub number_spell : n < 10 ^ w → number_in (spell w n) ≡ Some n
   unfolding number_in
   number_spell h = rw (length-spell, value_spell h, same_refl)
 
 -- one spelling: what is read as n is n's spelling, and no other
-pub number_is : (xs : List ℕ) (n : ℕ) → number_in xs ≡ Is n → xs ≡ spell (length xs) n
+pub number_is : (xs : List ℕ) (n : ℕ) → number_in xs ≡ Some n → xs ≡ spell (length xs) n
 unfolding number_in
 number_is xs n h = go (same (spell (length xs) (value_after 0 xs)) xs) refl h
   where
-    go : (b : Bool) → same (spell (length xs) (value_after 0 xs)) xs ≡ b → cond b (Is (value_after 0 xs)) Misspelt ≡ Is n → xs ≡ spell (length xs) n
+    go : (b : Bool) → same (spell (length xs) (value_after 0 xs)) xs ≡ b → cond b (Some (value_after 0 xs)) None ≡ Some n → xs ≡ spell (length xs) n
     go true e k = cc (same_true (spell (length xs) (value_after 0 xs)) xs e)
     go false e k = absurd (let z : ◌≡◌ {A = ℕ} 0 1 = cc in omega arith)
 
 -- the same of a part that is read as n
-pub number_part : (xs : List ℕ) (a w n : ℕ) → a + w ≤ length xs → number_in (part xs a w) ≡ Is n → part xs a w ≡ spell w n
+pub number_part : (xs : List ℕ) (a w n : ℕ) → a + w ≤ length xs → number_in (part xs a w) ≡ Some n → part xs a w ≡ spell w n
 number_part xs a w n h e = number_is (part xs a w) n e ∙ rw (part_length xs a w h)
 
-pub one_spelling : (xs ys : List ℕ) (n : ℕ) → length xs ≡ length ys → number_in xs ≡ Is n → number_in ys ≡ Is n → xs ≡ ys
+pub one_spelling : (xs ys : List ℕ) (n : ℕ) → length xs ≡ length ys → number_in xs ≡ Some n → number_in ys ≡ Some n → xs ≡ ys
 one_spelling xs ys n l p q = number_is xs n p ∙ rw l (sym (number_is ys n q))
 
 -- ---- two numbers side by side
 -- what is made of the two, or of columns of which one holds none
-abbrev pub pair_then : {A : Type 0} → Pair → A → (ℕ → ℕ → A) → A
-pair_then (Are a b) otherwise f = f a b
-pair_then NoPair otherwise f = otherwise
+abbrev pub pair_then : {A : Type 0} → Option (ℕ × ℕ) → A → (ℕ → ℕ → A) → A
+pair_then (Some (a, b)) otherwise f = f a b
+pair_then None otherwise f = otherwise
 
 -- two numbers that are read one after the other are their pair
 pub pair_then_lem : {A : Type 0} (xs ys : List ℕ) (z : A) (f : ℕ → ℕ → A)
@@ -189,10 +186,10 @@ pub pair_then_lem : {A : Type 0} (xs ys : List ℕ) (z : A) (f : ℕ → ℕ →
 unfolding pair_in
 pair_then_lem xs ys z f = go (number_in xs) (number_in ys)
   where
-    go : (m n : Number) → number_then m z (λ a. number_then n z (f a)) ≡ pair_then (number_then m NoPair λ a. number_then n NoPair λ b. Are a b) z f
-    go (Is a) (Is b) = refl
-    go (Is a) Misspelt = refl
-    go Misspelt n = refl
+    go : (m n : Option ℕ) → number_then m z (λ a. number_then n z (f a)) ≡ pair_then (number_then m None λ a. number_then n None λ b. Some (a, b)) z f
+    go (Some a) (Some b) = refl
+    go (Some a) None = refl
+    go None n = refl
 
 -- ---- what a space has and every digit, each column of a spelling has
 module _ (P : ℕ → Type 0) (blank : P space) (ten : (d : ℕ) → d < 10 → P (zero_digit + d)) where
@@ -212,7 +209,7 @@ module _ (P : ℕ → Type 0) (blank : P space) (ten : (d : ℕ) → d < 10 → 
   unfolding spell
   each-spell w n = each-columns (w - 1) (n / 10) ((zero_digit + n % 10) ∷ []) (ten (n % 10) (omega arith), tt)
 
-  pub each_read : (xs : List ℕ) (n : ℕ) → number_in xs ≡ Is n → Each P xs
+  pub each_read : (xs : List ℕ) (n : ℕ) → number_in xs ≡ Some n → Each P xs
   each_read xs n e = subst (Each P) (sym (number_is xs n e)) (each-spell (length xs) n)
 
 pub bytes-spell : (w n : ℕ) → Bytes (spell w n)

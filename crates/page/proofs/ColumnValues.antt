@@ -1,25 +1,22 @@
 -- Laws of eight columns as one word: by few operations on the word, the number that they hold.
-use Prim.Native.Nat.{ℕ, ◌+◌, ◌*◌, ◌/◌, ◌%◌, ◌<◌, ◌≤◌}
+use Prim.Native.Nat.{ℕ, ◌+◌, ◌-◌, ◌*◌, ◌/◌, ◌%◌, ◌<◌, ◌≤◌}
 use native.Mathlib.Omega.{arith}
 use mathlib.Core.Path.{◌≡◌, refl, sym, ap, ◌∙◌}
 use mathlib.Core.List.{List, [], ◌∷◌, ◌++◌}
 use mathlib.Core.Bool.{true, false}
 use lib.Bits.{bit_and, and_le_r, and_mask}
-use lib.ListN.{length, get_or}
+use lib.ListN.{length, get_or, replicate}
 use lib.Dec.{leb}
 use borrow.Author.Tests.{leb-false}
 use Rattle.base.specs.Part.{part}
 use Rattle.base.specs.Each.{Each, same}
 use Rattle.page.specs.Frame.{space}
 use Rattle.page.specs.Column.{columns, spell, digit, value_after, number_in, number_then, pair_in}
-use Rattle.page.specs.declared.Number.{Number}
-use Rattle.page.specs.declared.Number.TheVariants.{Is, Misspelt}
-use Rattle.page.specs.declared.Pair.{Pair}
-use Rattle.page.specs.declared.Pair.TheVariants.{Are, Misspelt as NoPair}
+use Rattle.std.specs.Prelude.{Option, Some, None}
 use Rattle.page.specs.Word.{word_bytes}
 use Rattle.page.proofs.Column.{digit_lt, digit_of_digit, number_is, each_read, value_lt}
 use Rattle.page.proofs.Counted.{counted, read_from_one, number_space, number_spaces}
-use Rattle.page.proofs.WordLaws.{word_is, part_three, part-four}
+use Rattle.page.proofs.WordLaws.{word_is, part_three}
 use Rattle.page.proofs.Lanes.{lanes, mask_lanes, lanes_same, word_lanes, bytes_word}
 
 -- two numbers in each lane are joined to one: digits to pairs of them, pairs to fours
@@ -155,7 +152,7 @@ abbrev pub digits_of : ℕ → ℕ
 digits_of v = bit_and v 0x0f0f0f0f0f0f0f0f
 
 -- a digit's value is its lower half, and a space's lower half is 0
-low_half : (cs : List ℕ) (n : ℕ) → number_in cs ≡ Is n → Each (λ (c : ℕ). c % 16 ≡ digit c) cs
+low_half : (cs : List ℕ) (n : ℕ) → number_in cs ≡ Some n → Each (λ (c : ℕ). c % 16 ≡ digit c) cs
 low_half = each_read (λ c. c % 16 ≡ digit c) refl (λ d h. rw (digit_of_digit d h) (omega arith))
 
 pub value_is : (v : ℕ) → v < 0x10000000000000000 → number_then (number_in (word_bytes 8 v)) false (leb 1) ≡ true → eight_of (fours_of (pairs_of (digits_of v))) ≡ value_after 0 (word_bytes 8 v)
@@ -177,7 +174,7 @@ value_small v = value_lt (word_bytes 8 v) 0 0 (omega arith)
 abbrev spelt_zero : ℕ
 spelt_zero = 0x3020202020202020
 
-pub number_zero : number_in (word_bytes 8 spelt_zero) ≡ Is 0
+pub number_zero : number_in (word_bytes 8 spelt_zero) ≡ Some 0
 unfolding number_in value_after spell columns same word_bytes
 number_zero = refl
 
@@ -185,32 +182,21 @@ zero_spelt : (v : ℕ) → spell (length (word_bytes 8 v)) 0 ≡ word_bytes 8 sp
 unfolding spell columns word_bytes
 zero_spelt v = refl
 
-pub number_none : (v : ℕ) → v < 0x10000000000000000 → (v ≡ spelt_zero → ⊥) → number_then (number_in (word_bytes 8 v)) false (leb 1) ≡ false → number_in (word_bytes 8 v) ≡ Misspelt
+pub number_none : (v : ℕ) → v < 0x10000000000000000 → (v ≡ spelt_zero → ⊥) → number_then (number_in (word_bytes 8 v)) false (leb 1) ≡ false → number_in (word_bytes 8 v) ≡ None
 number_none v h z t = go (number_in (word_bytes 8 v)) refl t
   where
-    go : (x : Number) → number_in (word_bytes 8 v) ≡ x → number_then x false (leb 1) ≡ false → x ≡ Misspelt
-    go (Is n) e t =
+    go : (x : Option ℕ) → number_in (word_bytes 8 v) ≡ x → number_then x false (leb 1) ≡ false → x ≡ None
+    go (Some n) e t =
         let none : n ≡ 0 = omega (arith, leb-false 1 n t) in
         absurd (z (word_is 8 v spelt_zero h (omega arith) (number_is (word_bytes 8 v) n e ∙ rw none (zero_spelt v))))
-    go Misspelt e t = refl
+    go None e t = refl
 
--- ---- fewer columns are eight with spaces before them
--- a word v whose lower half is spaces and whose upper half, w, is four columns of a list, or a space and three columns
-module _ (xs : List ℕ) (at v w : ℕ) (e : word_bytes 8 v ≡ word_bytes 4 0x20202020 ++ word_bytes 4 w) where
-  pub number_four : at + 4 ≤ length xs → word_bytes 4 w ≡ part xs at 4 → number_in (word_bytes 8 v) ≡ number_in (part xs at 4)
-  unfolding word_bytes
-  number_four h f = rw (e, f, part-four xs at h) (number_spaces 4 (get_or xs at 0) (get_or xs (at + 1) 0 ∷ get_or xs (at + 2) 0 ∷ get_or xs (at + 3) 0 ∷ []))
-
-  pub number_three : at + 3 ≤ length xs → word_bytes 4 w ≡ space ∷ get_or xs at 0 ∷ get_or xs (at + 1) 0 ∷ get_or xs (at + 2) 0 ∷ [] → number_in (word_bytes 8 v) ≡ number_in (part xs at 3)
-  unfolding word_bytes
-  number_three h f = rw (e, f, part_three xs at h) (number_spaces 5 (get_or xs at 0) (get_or xs (at + 1) 0 ∷ get_or xs (at + 2) 0 ∷ []))
+-- ---- fewer columns than eight, with spaces before them
+pub number_short : (n : ℕ) (xs ys : List ℕ) → 1 ≤ n → length ys ≡ n → xs ≡ replicate (8 - n) space ++ ys → number_in xs ≡ number_in ys
+number_short n xs [] h l e = absurd (omega arith)
+number_short n xs (y ∷ ys) h l e = rw e (number_spaces (8 - n) y ys)
 
 -- ---- two numbers in words of four columns
--- the number 0 in four columns
-pub spelt_zero_four : word_bytes 4 0x30202020 ≡ spell 4 0
-unfolding word_bytes spell columns
-spelt_zero_four = refl
-
 -- of the first only three columns are of a list, with a space before them
 pub pair_three : (xs ys : List ℕ) (at v : ℕ) → at + 3 ≤ length xs → word_bytes 4 v ≡ space ∷ get_or xs at 0 ∷ get_or xs (at + 1) 0 ∷ get_or xs (at + 2) 0 ∷ []
     → pair_in (word_bytes 4 v) ys ≡ pair_in (part xs at 3) ys
@@ -218,28 +204,28 @@ unfolding pair_in
 pair_three xs ys at v h e = rw (e, part_three xs at h, number_space (get_or xs at 0) (get_or xs (at + 1) 0 ∷ get_or xs (at + 2) 0 ∷ []))
 
 -- ---- four columns beside others that hold a number
-zero_beside : number_in (word_bytes 4 0x30202020) ≡ Is 0
+zero_beside : number_in (word_bytes 4 0x30202020) ≡ Some 0
 unfolding number_in value_after spell columns same word_bytes
 zero_beside = refl
 
-pub longest_beside : number_in (word_bytes 4 0x34323220) ≡ Is 224
+pub longest_beside : number_in (word_bytes 4 0x34323220) ≡ Some 224
 unfolding number_in value_after spell columns same word_bytes
 longest_beside = refl
 
-pub pair_beside : (xs ys : List ℕ) (m : ℕ) → number_in ys ≡ Is m → pair_in xs ys ≡ number_then (number_in xs) NoPair (λ n. Are n m)
+pub pair_beside : (xs ys : List ℕ) (m : ℕ) → number_in ys ≡ Some m → pair_in xs ys ≡ number_then (number_in xs) None (λ n. Some (n, m))
 unfolding pair_in
 pair_beside xs ys m e = rw e
 
-abbrev pub first_of : Pair → Number
-first_of (Are n m) = Is n
-first_of NoPair = Misspelt
+abbrev pub first_of : Option (ℕ × ℕ) → Option ℕ
+first_of (Some (n, m)) = Some n
+first_of None = None
 
-first_beside : (xs ys : List ℕ) (m : ℕ) → number_in ys ≡ Is m → number_in xs ≡ first_of (pair_in xs ys)
+first_beside : (xs ys : List ℕ) (m : ℕ) → number_in ys ≡ Some m → number_in xs ≡ first_of (pair_in xs ys)
 first_beside xs ys m e = go (number_in xs) ∙ sym (ap first_of (pair_beside xs ys m e))
   where
-    go : (a : Number) → a ≡ first_of (number_then a NoPair (λ n. Are n m))
-    go (Is n) = refl
-    go Misspelt = refl
+    go : (a : Option ℕ) → a ≡ first_of (number_then a None (λ n. Some (n, m)))
+    go (Some n) = refl
+    go None = refl
 
-pub read_beside : (xs : List ℕ) (w : ℕ) (r : Pair) → word_bytes 4 w ≡ xs → r ≡ pair_in (word_bytes 4 w) (word_bytes 4 0x30202020) → number_in xs ≡ first_of r
+pub read_beside : (xs : List ℕ) (w : ℕ) (r : Option (ℕ × ℕ)) → word_bytes 4 w ≡ xs → r ≡ pair_in (word_bytes 4 w) (word_bytes 4 0x30202020) → number_in xs ≡ first_of r
 read_beside xs w r e p = ap number_in (sym e) ∙ first_beside (word_bytes 4 w) (word_bytes 4 0x30202020) 0 zero_beside ∙ ap first_of (sym p)

@@ -6,12 +6,11 @@ use native.Mathlib.Decide.{dec_lt}
 use mathlib.Core.Path.{◌≡◌, refl, sym, ap, ◌∙◌}
 use mathlib.Core.Logic.{◌⊎◌, ⊎_elim}
 use mathlib.Core.Bool.{Bool, true, false, cond, ◌&&◌}
-use mathlib.Core.List.{List, [], ◌++◌, append_assoc, append-nil}
-use lib.ListN.{length, drop, get_or, length-append}
+use mathlib.Core.List.{List, ◌++◌, append_assoc, append-nil}
+use lib.ListN.{length, take, drop, get_or, length-append}
 use lib.Seq.{drop-drop}
 use lib.Dec.{eqb, leb}
 use borrow.Author.Tests.{ne_eqb, lt-ltb, le-ltb, le-leb, leb-true}
-use borrow.Rule.Slice.PartMut.{put_mid}
 use Rattle.base.specs.Part.{part}
 use Rattle.base.specs.Each.{same}
 use Rattle.base.specs.Search.{all_from}
@@ -25,8 +24,7 @@ use Rattle.page.specs.Key.{positions}
 use Rattle.page.specs.Header.{last_position}
 use Rattle.page.specs.Column.{spell, columns, number_in, number_then, pair_in}
 use Rattle.page.specs.Entry.{is_letter, entry_size, entries_in_part, last_page, first_entry_part, parts, none, vacant_entry, entry_bytes, entry_of, is_entry, entry_part, entry_at, entries_from, commit_payload, valid_payload}
-use Rattle.page.specs.declared.Number.{Number}
-use Rattle.page.specs.declared.Number.TheVariants.{Is as IsNumber, Misspelt as NoNumber}
+use Rattle.std.specs.Prelude.{Option, Some, None}
 use Rattle.page.specs.declared.Entry.{Entry}
 use Rattle.page.specs.declared.Entry.TheVariants.{At, Vacant, Misspelt}
 use Rattle.page.proofs.Slices.{part_front, part_past, part_back, part_halves}
@@ -77,7 +75,7 @@ unfolding entry_of
 entry_by_pair xs e = rw e (pair_then_lem (part xs 0 4) (part xs 4 4) Misspelt entry_with)
 
 -- one spelling: what is read as an entry is that entry's bytes, and no others
-abbrev read : Bool → Number → Number → Entry
+abbrev read : Bool → Option ℕ → Option ℕ → Entry
 read b m n = cond b Vacant (number_then m Misspelt λ page. number_then n Misspelt λ key. entry_with page key)
 
 module _ (xs : List ℕ) where
@@ -86,7 +84,7 @@ module _ (xs : List ℕ) where
   unfolding entry_of entry_bytes
   entry_is page key l = go (same xs vacant_entry) (number_in (part xs 0 4)) (number_in (part xs 4 4)) refl refl
     where
-      within : (m n : ℕ) (t : Bool) → leb m last_page && leb n last_position ≡ t → number_in (part xs 0 4) ≡ IsNumber m → number_in (part xs 4 4) ≡ IsNumber n
+      within : (m n : ℕ) (t : Bool) → leb m last_page && leb n last_position ≡ t → number_in (part xs 0 4) ≡ Some m → number_in (part xs 4 4) ≡ Some n
           → cond t (At m n) Misspelt ≡ At page key → (xs ≡ entry_bytes page key) × (page ≤ last_page) × (key ≤ last_position)
       within m n false t p q e = absurd (let z : ◌≡◌ {A = ℕ} 0 1 = cc in omega arith)
       within m n true t p q e =
@@ -100,12 +98,12 @@ module _ (xs : List ℕ) where
             rw (← b) (leb-true n last_position r.1),
           )
 
-      go : (b : Bool) (m n : Number) → number_in (part xs 0 4) ≡ m → number_in (part xs 4 4) ≡ n
+      go : (b : Bool) (m n : Option ℕ) → number_in (part xs 0 4) ≡ m → number_in (part xs 4 4) ≡ n
           → read b m n ≡ At page key → (xs ≡ entry_bytes page key) × (page ≤ last_page) × (key ≤ last_position)
       go true m n p q e = absurd (let z : ◌≡◌ {A = ℕ} 0 1 = cc in omega arith)
-      go false NoNumber n p q e = absurd (let z : ◌≡◌ {A = ℕ} 0 1 = cc in omega arith)
-      go false (IsNumber m) NoNumber p q e = absurd (let z : ◌≡◌ {A = ℕ} 0 1 = cc in omega arith)
-      go false (IsNumber m) (IsNumber n) p q e = within m n (leb m last_page && leb n last_position) refl p q e
+      go false None n p q e = absurd (let z : ◌≡◌ {A = ℕ} 0 1 = cc in omega arith)
+      go false (Some m) None p q e = absurd (let z : ◌≡◌ {A = ℕ} 0 1 = cc in omega arith)
+      go false (Some m) (Some n) p q e = within m n (leb m last_page && leb n last_position) refl p q e
 
   pub entry_vacant : entry_of xs ≡ Vacant → xs ≡ vacant_entry
   unfolding entry_of
@@ -115,11 +113,11 @@ module _ (xs : List ℕ) where
       within m n true e = absurd (let z : ◌≡◌ {A = ℕ} 0 1 = cc in omega arith)
       within m n false e = absurd (let z : ◌≡◌ {A = ℕ} 0 1 = cc in omega arith)
 
-      go : (b : Bool) (m n : Number) → same xs vacant_entry ≡ b → read b m n ≡ Vacant → xs ≡ vacant_entry
+      go : (b : Bool) (m n : Option ℕ) → same xs vacant_entry ≡ b → read b m n ≡ Vacant → xs ≡ vacant_entry
       go true m n s e = same_true xs vacant_entry s
-      go false NoNumber n s e = absurd (let z : ◌≡◌ {A = ℕ} 0 1 = cc in omega arith)
-      go false (IsNumber m) NoNumber s e = absurd (let z : ◌≡◌ {A = ℕ} 0 1 = cc in omega arith)
-      go false (IsNumber m) (IsNumber n) s e = within m n (leb m last_page && leb n last_position) e
+      go false None n s e = absurd (let z : ◌≡◌ {A = ℕ} 0 1 = cc in omega arith)
+      go false (Some m) None s e = absurd (let z : ◌≡◌ {A = ℕ} 0 1 = cc in omega arith)
+      go false (Some m) (Some n) s e = within m n (leb m last_page && leb n last_position) e
 
 -- ---- vacant entries
 pub vacant-entries : (payload : List ℕ) → all_from (λ j. same (part payload (entry_size * j) entry_size) vacant_entry) entries_in_part 0 ≡ true
@@ -168,26 +166,13 @@ module _ (map : List ℕ) where
       (part_past (entry_for map x) (entries_from map n (suc x)) entry_size (entry_size * j) entry_size (entry_length (get_or map x none) (get_or map (places + x) none))
       ∙ part-entries n (suc x) j (omega arith) ∙ ap (entry_for map) m)
 
--- one more entry written, after those before it
--- entries of places without a page are vacant
-unfoldable pub vacants : ℕ → List ℕ
-vacants zero = []
-vacants (suc n) = vacant_entry ++ vacants n
-
-pub entries-vacant : (map : List ℕ) (n x : ℕ) → all_from (λ i. eqb (get_or map i none) none) n x ≡ true → entries_from map n x ≡ vacants n
-unfolding entries_from entry_bytes all_from vacants
-entries-vacant map zero x h = refl
-entries-vacant map (suc n) x h =
-    let a = and-true (eqb (get_or map x none) none) _ h in
-    rw (a.0, entries-vacant map n (suc x) a.1)
-
 -- n entries more are written
-pub write_next : (map dst dst₀ ys : List ℕ) (n j x : ℕ) → dst ≡ entries_from map j x ++ drop (entry_size * j) dst₀ → ys ≡ entries_from map n (x + j)
-    → put_mid (entry_size * j) ((entry_size * j + entry_size * n) - entry_size * j) dst ys ≡ entries_from map (j + n) x ++ drop (entry_size * (j + n)) dst₀
-write_next map dst dst₀ ys n j x d e =
-    let k : (entry_size * j + entry_size * n) - entry_size * j ≡ entry_size * n = omega arith in
+pub write_next : (map dst dst₀ front rest ys : List ℕ) (n j x : ℕ) → dst ≡ entries_from map j x ++ drop (entry_size * j) dst₀
+    → front ≡ take (entry_size * j) dst → rest ≡ drop (entry_size * j) dst → ys ≡ entries_from map n (x + j)
+    → front ++ (ys ++ drop (entry_size * n) rest) ≡ entries_from map (j + n) x ++ drop (entry_size * (j + n)) dst₀
+write_next map dst dst₀ front rest ys n j x d f r e =
     let m : entry_size * (j + n) ≡ entry_size * j + entry_size * n = omega arith in
-    rw (d, e, k, m, entries_join map j n x)
+    rw (f, r, d, e, m, entries_join map j n x)
     (put_next (entries_from map j x) (drop (entry_size * j) dst₀) (entries_from map n (x + j)) (entry_size * j) (entry_size * n) (entries-length map j x)
     ∙ ap (λ (t : List ℕ). (entries_from map j x ++ entries_from map n (x + j)) ++ t) (drop-drop (entry_size * n) (entry_size * j) dst₀))
 

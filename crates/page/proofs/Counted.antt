@@ -14,7 +14,7 @@ use Rattle.base.proofs.Choice.{and-true, and_intro, and-passed, true-false, both
 use Rattle.base.proofs.Eachs.{same_true, same_refl}
 use Rattle.page.specs.Frame.{space}
 use Rattle.page.specs.Column.{zero_digit, column, columns, spell, digit, is_digit, value_after, number_in, number_then}
-use Rattle.page.specs.declared.Number.TheVariants.{Is, Misspelt}
+use Rattle.std.specs.Prelude.{Some, None}
 use Rattle.page.proofs.Column.{digit_lt, digit_of_digit, digit-byte, digit_is, column-some, value_lt}
 
 -- all columns are digits
@@ -120,7 +120,7 @@ spell_from_one (suc w) n h k =
 unfoldable pub spelt : List ℕ → Bool
 spelt cs = same (spell (length cs) (value_after 0 cs)) cs
 
-pub read : (cs : List ℕ) → number_in cs ≡ cond (spelt cs) (Is (value_after 0 cs)) Misspelt
+pub read : (cs : List ℕ) → number_in cs ≡ cond (spelt cs) (Some (value_after 0 cs)) None
 unfolding number_in spelt
 read cs = refl
 
@@ -144,7 +144,7 @@ from_one_spelt cs t h =
     let v = value_after 0 cs in
     subst (λ (l : List ℕ). from_one l ≡ true) (spelt_true cs t) (spell_from_one (length cs) v h (value_fits cs))
 
-pub read_from_one : (cs : List ℕ) → from_one cs ≡ true → number_in cs ≡ Is (value_after 0 cs)
+pub read_from_one : (cs : List ℕ) → from_one cs ≡ true → number_in cs ≡ Some (value_after 0 cs)
 read_from_one cs h = read cs ∙ rw (spelt_from_one cs h).0
 
 pub counted : (cs : List ℕ) → number_then (number_in cs) false (leb 1) ≡ from_one cs
@@ -152,7 +152,7 @@ counted cs =
     both_ways _ _ (λ t. go (spelt cs) refl (rw read at t))
     (λ t. rw (read_from_one cs t) (le-leb 1 (value_after 0 cs) (spelt_from_one cs t).1))
   where
-    go : (b : Bool) → spelt cs ≡ b → number_then (cond b (Is (value_after 0 cs)) Misspelt) false (leb 1) ≡ true → from_one cs ≡ true
+    go : (b : Bool) → spelt cs ≡ b → number_then (cond b (Some (value_after 0 cs)) None) false (leb 1) ≡ true → from_one cs ≡ true
     go true e t = from_one_spelt cs e (leb-true 1 (value_after 0 cs) t)
     go false e t = absurd (true-false t refl)
 

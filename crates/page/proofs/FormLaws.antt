@@ -16,13 +16,11 @@ use Rattle.base.proofs.Parts.{part-part, part_length}
 use Rattle.base.proofs.Eachs.{same_true, same_refl, same_false, all_are-true, all_are-replicate}
 use Rattle.page.specs.Frame.{header_size, payload_size, closing_size, page_size, closing_at, erased, closing, space}
 use Rattle.page.specs.Column.{number_in}
-use Rattle.page.specs.declared.Number.TheVariants.{Is as IsNumber, Misspelt}
+use Rattle.std.specs.Prelude.{Option, Some, None}
 use Rattle.page.specs.Header.{node_letter, cut_off_letter, keys_letter, commit_letter, node_frame, cut_off_frame, keys_frame, commit_frame, in_range, header_bytes, is_event_letter, header_of}
 use Rattle.page.specs.Form.{is_empty, closed, form_by, form_of}
 use Rattle.page.specs.Page.{page_bytes, enciphered, node_page, cut_off_page, keys_page, commit_page, payload_of, cut_page}
 use Rattle.page.specs.declared.Frame.{Frame}
-use Rattle.page.specs.declared.Header.{Header}
-use Rattle.page.specs.declared.Header.TheVariants.{Is, Invalid}
 use Rattle.page.specs.declared.Form.{Form}
 use Rattle.page.specs.declared.Form.TheVariants.{Empty, Whole, Torn, Spoilt}
 use Rattle.page.proofs.Slices.{part-replicate, part_halves}
@@ -31,35 +29,35 @@ use Rattle.page.proofs.HeaderLaws.{header_spelt, small_spaces, last_columns, hea
 use Rattle.page.proofs.Pages.{enciphered-length, page-length, header_back, closing_back, cut-length, cut-whole, cut-before, cut-after}
 
 -- ---- a form goes by the header, by whether the page is closed and whether it is empty
-abbrev pub form_from : Header → Bool → Bool → Form
-form_from (Is f) closed empty = cond closed (Whole f) (Torn f)
-form_from Invalid closed empty = cond empty Empty Spoilt
+abbrev pub form_from : Option Frame → Bool → Bool → Form
+form_from (Some f) closed empty = cond closed (Whole f) (Torn f)
+form_from None closed empty = cond empty Empty Spoilt
 
 pub form_from_lem : (page : List ℕ) → form_of page ≡ form_from (header_of (part page 0 header_size)) (closed page) (is_empty page)
 unfolding form_of
 form_from_lem page = go (header_of (part page 0 header_size))
   where
-    go : (h : Header) → form_by h page ≡ form_from h (closed page) (is_empty page)
-    go (Is f) = refl
-    go Invalid = refl
+    go : (h : Option Frame) → form_by h page ≡ form_from h (closed page) (is_empty page)
+    go (Some f) = refl
+    go None = refl
 
-from_whole : (h : Header) (c e : Bool) (f : Frame) → form_from h c e ≡ Whole f → (h ≡ Is f) × (c ≡ true)
-from_whole (Is g) true e f t = (cc, refl)
-from_whole (Is g) false e f t = absurd (let z : ◌≡◌ {A = ℕ} 0 1 = cc in omega arith)
-from_whole Invalid c true f t = absurd (let z : ◌≡◌ {A = ℕ} 0 1 = cc in omega arith)
-from_whole Invalid c false f t = absurd (let z : ◌≡◌ {A = ℕ} 0 1 = cc in omega arith)
+from_whole : (h : Option Frame) (c e : Bool) (f : Frame) → form_from h c e ≡ Whole f → (h ≡ Some f) × (c ≡ true)
+from_whole (Some g) true e f t = (cc, refl)
+from_whole (Some g) false e f t = absurd (let z : ◌≡◌ {A = ℕ} 0 1 = cc in omega arith)
+from_whole None c true f t = absurd (let z : ◌≡◌ {A = ℕ} 0 1 = cc in omega arith)
+from_whole None c false f t = absurd (let z : ◌≡◌ {A = ℕ} 0 1 = cc in omega arith)
 
-from_torn : (h : Header) (c e : Bool) (f : Frame) → form_from h c e ≡ Torn f → (h ≡ Is f) × (c ≡ false)
-from_torn (Is g) true e f t = absurd (let z : ◌≡◌ {A = ℕ} 0 1 = cc in omega arith)
-from_torn (Is g) false e f t = (cc, refl)
-from_torn Invalid c true f t = absurd (let z : ◌≡◌ {A = ℕ} 0 1 = cc in omega arith)
-from_torn Invalid c false f t = absurd (let z : ◌≡◌ {A = ℕ} 0 1 = cc in omega arith)
+from_torn : (h : Option Frame) (c e : Bool) (f : Frame) → form_from h c e ≡ Torn f → (h ≡ Some f) × (c ≡ false)
+from_torn (Some g) true e f t = absurd (let z : ◌≡◌ {A = ℕ} 0 1 = cc in omega arith)
+from_torn (Some g) false e f t = (cc, refl)
+from_torn None c true f t = absurd (let z : ◌≡◌ {A = ℕ} 0 1 = cc in omega arith)
+from_torn None c false f t = absurd (let z : ◌≡◌ {A = ℕ} 0 1 = cc in omega arith)
 
-from_empty : (h : Header) (c e : Bool) → form_from h c e ≡ Empty → e ≡ true
-from_empty (Is g) true e t = absurd (let z : ◌≡◌ {A = ℕ} 0 1 = cc in omega arith)
-from_empty (Is g) false e t = absurd (let z : ◌≡◌ {A = ℕ} 0 1 = cc in omega arith)
-from_empty Invalid c true t = refl
-from_empty Invalid c false t = absurd (let z : ◌≡◌ {A = ℕ} 0 1 = cc in omega arith)
+from_empty : (h : Option Frame) (c e : Bool) → form_from h c e ≡ Empty → e ≡ true
+from_empty (Some g) true e t = absurd (let z : ◌≡◌ {A = ℕ} 0 1 = cc in omega arith)
+from_empty (Some g) false e t = absurd (let z : ◌≡◌ {A = ℕ} 0 1 = cc in omega arith)
+from_empty None c true t = refl
+from_empty None c false t = absurd (let z : ◌≡◌ {A = ℕ} 0 1 = cc in omega arith)
 
 -- pages with the same header, the same closing and emptiness have the same form
 pub form_agree : (p q : List ℕ) → part p 0 header_size ≡ part q 0 header_size → closed p ≡ closed q → is_empty p ≡ is_empty q → form_of p ≡ form_of q
@@ -67,16 +65,16 @@ form_agree p q h c e = form_from_lem p ∙ rw (h, c, e) (sym (form_from_lem q))
 
 -- ---- what a form says of a page's bytes
 module _ (page : List ℕ) (f : Frame) where
-  pub whole_is : form_of page ≡ Whole f → (header_of (part page 0 header_size) ≡ Is f) × (closed page ≡ true)
+  pub whole_is : form_of page ≡ Whole f → (header_of (part page 0 header_size) ≡ Some f) × (closed page ≡ true)
   whole_is e = from_whole (header_of (part page 0 header_size)) (closed page) (is_empty page) f (sym (form_from_lem page) ∙ e)
 
-  pub torn_is : form_of page ≡ Torn f → (header_of (part page 0 header_size) ≡ Is f) × (closed page ≡ false)
+  pub torn_is : form_of page ≡ Torn f → (header_of (part page 0 header_size) ≡ Some f) × (closed page ≡ false)
   torn_is e = from_torn (header_of (part page 0 header_size)) (closed page) (is_empty page) f (sym (form_from_lem page) ∙ e)
 
-  pub is_whole : header_of (part page 0 header_size) ≡ Is f → closed page ≡ true → form_of page ≡ Whole f
+  pub is_whole : header_of (part page 0 header_size) ≡ Some f → closed page ≡ true → form_of page ≡ Whole f
   is_whole h c = form_from_lem page ∙ rw (h, c)
 
-  pub is_torn : header_of (part page 0 header_size) ≡ Is f → closed page ≡ false → form_of page ≡ Torn f
+  pub is_torn : header_of (part page 0 header_size) ≡ Some f → closed page ≡ false → form_of page ≡ Torn f
   is_torn h c = form_from_lem page ∙ rw (h, c)
 
   -- its header is that of f, and f is in range
@@ -110,7 +108,7 @@ module _ (page : List ℕ) (f : Frame) where
 
 -- ---- the second number of a whole node: its last four columns hold it
 module _ (page : List ℕ) (f : Frame) (l : length page ≡ page_size) (whole : form_of page ≡ Whole f) (node : f.kind ≡ node_letter) where
-  node-second : (number_in (part page 24 4) ≡ IsNumber f.second) × (f.second ≤ payload_size)
+  node-second : (number_in (part page 24 4) ≡ Some f.second) × (f.second ≤ payload_size)
   node-second =
       let xs = part page 0 header_size in
       let n : length xs ≡ header_size = part_length page 0 header_size (omega arith) in
@@ -118,14 +116,14 @@ module _ (page : List ℕ) (f : Frame) (l : length page ≡ page_size) (whole : 
       let few = ((node_range f node).0 s.ranges).second in
       (ap number_in (sym (part-part page 0 header_size 24 4 (omega arith))) ∙ sym (last_columns xs n (small_spaces xs f.second n (omega arith) s.second)) ∙ s.second, few)
 
-  pub whole-second : (n : ℕ) → number_in (part page 24 4) ≡ IsNumber n → (n ≡ f.second) × (n ≤ payload_size)
+  pub whole-second : (n : ℕ) → number_in (part page 24 4) ≡ Some n → (n ≡ f.second) × (n ≤ payload_size)
   whole-second n e =
-      let q : IsNumber n ≡ IsNumber f.second = sym e ∙ node-second.0 in
+      let q : Some n ≡ Some f.second = sym e ∙ node-second.0 in
       let z : n ≡ f.second = cc in
       (z, omega (arith, node-second.1))
 
-  pub no_misspelt : number_in (part page 24 4) ≡ Misspelt → ⊥
-  no_misspelt e = let q : Misspelt ≡ IsNumber f.second = sym e ∙ node-second.0 in let z : ◌≡◌ {A = ℕ} 0 1 = cc in omega arith
+  pub no_misspelt : number_in (part page 24 4) ≡ None → ⊥
+  no_misspelt e = let q : None ≡ Some f.second = sym e ∙ node-second.0 in let z : ◌≡◌ {A = ℕ} 0 1 = cc in omega arith
 
 -- ---- empty pages
 pub empty_part : (page : List ℕ) (a n : ℕ) → is_empty page ≡ true → a + n ≤ length page → part page a n ≡ replicate n erased
@@ -133,7 +131,7 @@ unfolding is_empty
 empty_part page a n e h = rw (all_are-true erased page e) (part-replicate (length page) a n erased h)
 
 -- an erased byte starts no header
-pub empty_header : (page : List ℕ) → is_empty page ≡ true → header_of (part page 0 header_size) ≡ Invalid
+pub empty_header : (page : List ℕ) → is_empty page ≡ true → header_of (part page 0 header_size) ≡ None
 unfolding is_empty all_are part
 empty_header [] e = no_kind [] refl
 empty_header (x ∷ xs) e =
@@ -156,7 +154,7 @@ event_used (x ∷ xs) h = go (eqb x erased) refl
     go true e = absurd (true-false (rw (eqb-true x erased e) at h) refl)
     go false e = refl
 
-pub event_spoilt : (page : List ℕ) → is_event_letter (get_or page 0 0) ≡ true → header_of (part page 0 header_size) ≡ Invalid → form_of page ≡ Spoilt
+pub event_spoilt : (page : List ℕ) → is_event_letter (get_or page 0 0) ≡ true → header_of (part page 0 header_size) ≡ None → form_of page ≡ Spoilt
 event_spoilt page h e = form_from_lem page ∙ rw (e, event_used page h)
 
 -- ---- the form of what a program leaves
@@ -220,7 +218,7 @@ module _ (f : Frame) (payload : List ℕ) (ranges : in_range f ≡ true) (l : le
       m : length p ≡ page_size
       m = page-length f payload l
 
-      no_header : header_of (part cut 0 header_size) ≡ Invalid
+      no_header : header_of (part cut 0 header_size) ≡ None
       no_header =
           no_colon (part cut 0 header_size)
           (rw (part-part cut 0 header_size 28 2 (omega arith)) (last_erased_lem cut 28 0x3a 0x20 (cut-after k p m 29 1 (omega arith) (omega arith)) (λ e. omega arith)))

@@ -16,17 +16,20 @@ use Rattle.page.specs.Frame.{header_size, colon_space, space}
 use Rattle.page.specs.Column.{spell, number_in, number_then, pair_in}
 use Rattle.page.specs.Word.{word_bytes}
 use Rattle.page.specs.Header.{in_range, header_bytes, is_kind, is_event_letter, header_of}
-use Rattle.page.specs.declared.Number.{Number}
-use Rattle.page.specs.declared.Number.TheVariants.{Is as IsNumber, Misspelt}
+use Rattle.std.specs.Prelude.{Option, Some, None}
+use Rattle.std.specs.Bool.{then_some}
 use Rattle.page.specs.declared.Frame.{Frame}
-use Rattle.page.specs.declared.Header.{Header}
-use Rattle.page.specs.declared.Header.TheVariants.{Is, Invalid}
 use Rattle.page.proofs.Slices.{part_front, part_past, part_back}
 use Rattle.page.proofs.Column.{length-spell, number_spell, number_part, pair_then, pair_then_lem, bytes-spell}
 use Rattle.page.proofs.Counted.{number_spaces}
 use Rattle.page.proofs.Spellings.{high_spaces}
 use Rattle.page.proofs.WordLaws.{part-four, part_join}
 use Rattle.page.proofs.Ranges.{other_kind, event-second, in_range-fits}
+
+-- ---- an option by a test
+pub then_if : {A : Type 0} (b : Bool) (x : A) → then_some b x ≡ cond b (Some x) None
+then_if true x = refl
+then_if false x = refl
 
 -- ---- lengths
 module _ (f : Frame) where
@@ -102,51 +105,51 @@ header_written x f h =
 
 -- ---- the fields of a header read again
 -- what a header's columns hold, from the second number back to the first
-abbrev with_second : List ℕ → ℕ → ℕ → ℕ → ℕ → ℕ → Header
+abbrev with_second : List ℕ → ℕ → ℕ → ℕ → ℕ → ℕ → Option Frame
 with_second xs number unit part' key second =
     let f : Frame = record { kind = get_or xs 0 0; number = number; unit = unit; part = part'; key = key; second = second } in
-    cond (same (part xs 28 2) colon_space && in_range f) (Is f) Invalid
+    cond (same (part xs 28 2) colon_space && in_range f) (Some f) None
 
-abbrev with_key : List ℕ → ℕ → ℕ → ℕ → ℕ → Header
-with_key xs number unit part' key = number_then (number_in (part xs 20 8)) Invalid (with_second xs number unit part' key)
+abbrev with_key : List ℕ → ℕ → ℕ → ℕ → ℕ → Option Frame
+with_key xs number unit part' key = number_then (number_in (part xs 20 8)) None (with_second xs number unit part' key)
 
-abbrev with_part : List ℕ → ℕ → ℕ → ℕ → Header
-with_part xs number unit part' = number_then (number_in (part xs 16 4)) Invalid (with_key xs number unit part')
+abbrev with_part : List ℕ → ℕ → ℕ → ℕ → Option Frame
+with_part xs number unit part' = number_then (number_in (part xs 16 4)) None (with_key xs number unit part')
 
-abbrev with_unit : List ℕ → ℕ → ℕ → Header
-with_unit xs number unit = number_then (number_in (part xs 12 4)) Invalid (with_part xs number unit)
+abbrev with_unit : List ℕ → ℕ → ℕ → Option Frame
+with_unit xs number unit = number_then (number_in (part xs 12 4)) None (with_part xs number unit)
 
-abbrev with_number : List ℕ → ℕ → Header
-with_number xs number = number_then (number_in (part xs 9 3)) Invalid (with_unit xs number)
+abbrev with_number : List ℕ → ℕ → Option Frame
+with_number xs number = number_then (number_in (part xs 9 3)) None (with_unit xs number)
 
-then_is : (n : Number) (g : ℕ → Header) (f : Frame) → number_then n Invalid g ≡ Is f → (k : ℕ) × (n ≡ IsNumber k) × (g k ≡ Is f)
-then_is (IsNumber k) g f e = (k, refl, e)
-then_is Misspelt g f e = absurd (let z : ◌≡◌ {A = ℕ} 0 1 = cc in omega arith)
+then_is : (n : Option ℕ) (g : ℕ → Option Frame) (f : Frame) → number_then n None g ≡ Some f → (k : ℕ) × (n ≡ Some k) × (g k ≡ Some f)
+then_is (Some k) g f e = (k, refl, e)
+then_is None g f e = absurd (let z : ◌≡◌ {A = ℕ} 0 1 = cc in omega arith)
 
-then_invalid : (n : Number) (g : ℕ → Header) → ((k : ℕ) → g k ≡ Invalid) → number_then n Invalid g ≡ Invalid
-then_invalid (IsNumber k) g h = h k
-then_invalid Misspelt g h = refl
+then_invalid : (n : Option ℕ) (g : ℕ → Option Frame) → ((k : ℕ) → g k ≡ None) → number_then n None g ≡ None
+then_invalid (Some k) g h = h k
+then_invalid None g h = refl
 
-cond_is : (b : Bool) (g f : Frame) → cond b (Is g) Invalid ≡ Is f → (b ≡ true) × (g ≡ f)
+cond_is : (b : Bool) (g f : Frame) → cond b (Some g) None ≡ Some f → (b ≡ true) × (g ≡ f)
 cond_is true g f e = (refl, cc)
 cond_is false g f e = absurd (let z : ◌≡◌ {A = ℕ} 0 1 = cc in omega arith)
 
 -- ---- bytes are the header f exactly where each field is spelt and in range
 pub record Spelt (xs : List ℕ) (f : Frame) : Type 0 where
   pub kind : get_or xs 0 0 ≡ f.kind
-  pub number : number_in (part xs 1 8) ≡ IsNumber f.number
-  pub unit : number_in (part xs 9 3) ≡ IsNumber f.unit
-  pub part' : number_in (part xs 12 4) ≡ IsNumber f.part
-  pub key : number_in (part xs 16 4) ≡ IsNumber f.key
-  pub second : number_in (part xs 20 8) ≡ IsNumber f.second
+  pub number : number_in (part xs 1 8) ≡ Some f.number
+  pub unit : number_in (part xs 9 3) ≡ Some f.unit
+  pub part' : number_in (part xs 12 4) ≡ Some f.part
+  pub key : number_in (part xs 16 4) ≡ Some f.key
+  pub second : number_in (part xs 20 8) ≡ Some f.second
   pub colon : same (part xs 28 2) colon_space ≡ true
   pub ranges : in_range f ≡ true
 
-pub spelt_header : (xs : List ℕ) (f : Frame) → Spelt xs f → header_of xs ≡ Is f
+pub spelt_header : (xs : List ℕ) (f : Frame) → Spelt xs f → header_of xs ≡ Some f
 unfolding header_of
 spelt_header xs f s = rw (s.number, s.unit, s.part', s.key, s.second, s.colon, s.kind, s.ranges)
 
-pub header_spelt : (xs : List ℕ) (f : Frame) → header_of xs ≡ Is f → Spelt xs f
+pub header_spelt : (xs : List ℕ) (f : Frame) → header_of xs ≡ Some f → Spelt xs f
 unfolding header_of
 header_spelt xs f e =
     let a = then_is (number_in (part xs 1 8)) (with_number xs) f e in
@@ -160,17 +163,17 @@ header_spelt xs f e =
     let q = i.1 in
     record {
       kind = ap (λ (f : Frame). f.kind) q;
-      number = a.1 ∙ ap (λ (f : Frame). IsNumber f.number) q;
-      unit = b.1 ∙ ap (λ (f : Frame). IsNumber f.unit) q;
-      part' = c.1 ∙ ap (λ (f : Frame). IsNumber f.part) q;
-      key = d.1 ∙ ap (λ (f : Frame). IsNumber f.key) q;
-      second = g.1 ∙ ap (λ (f : Frame). IsNumber f.second) q;
+      number = a.1 ∙ ap (λ (f : Frame). Some f.number) q;
+      unit = b.1 ∙ ap (λ (f : Frame). Some f.unit) q;
+      part' = c.1 ∙ ap (λ (f : Frame). Some f.part) q;
+      key = d.1 ∙ ap (λ (f : Frame). Some f.key) q;
+      second = g.1 ∙ ap (λ (f : Frame). Some f.second) q;
       colon = t.0;
       ranges = rw q at t.1;
     }
 
 -- ---- what is no header, by the kind letter or the end alone
-invalid_by : (xs : List ℕ) → ((n u p k s : ℕ) → with_second xs n u p k s ≡ Invalid) → header_of xs ≡ Invalid
+invalid_by : (xs : List ℕ) → ((n u p k s : ℕ) → with_second xs n u p k s ≡ None) → header_of xs ≡ None
 unfolding header_of
 invalid_by xs h =
     then_invalid (number_in (part xs 1 8)) (with_number xs) λ n.
@@ -179,24 +182,24 @@ invalid_by xs h =
     then_invalid (number_in (part xs 16 4)) (with_key xs n u p) λ k.
     then_invalid (number_in (part xs 20 8)) (with_second xs n u p k) (h n u p k)
 
-pub no_kind : (xs : List ℕ) → is_kind (get_or xs 0 0) ≡ false → header_of xs ≡ Invalid
+pub no_kind : (xs : List ℕ) → is_kind (get_or xs 0 0) ≡ false → header_of xs ≡ None
 no_kind xs h =
     invalid_by xs λ n u p k s.
     let f : Frame = record { kind = get_or xs 0 0; number = n; unit = u; part = p; key = k; second = s } in
-    rw (other_kind f h) (neither (same (part xs 28 2) colon_space) (Is f))
+    rw (other_kind f h) (neither (same (part xs 28 2) colon_space) (Some f))
   where
-    neither : (b : Bool) (h : Header) → cond (b && false) h Invalid ≡ Invalid
+    neither : (b : Bool) (h : Option Frame) → cond (b && false) h None ≡ None
     neither true h = refl
     neither false h = refl
 
-pub no_colon : (xs : List ℕ) → same (part xs 28 2) colon_space ≡ false → header_of xs ≡ Invalid
+pub no_colon : (xs : List ℕ) → same (part xs 28 2) colon_space ≡ false → header_of xs ≡ None
 no_colon xs h = invalid_by xs λ n u p k s. rw h
 
 -- ---- a second number of at most four digits: spaces stand in the first four of its columns, and the others hold it
 abbrev pub four_spaces : List ℕ
 four_spaces = replicate 4 space
 
-pub small_spaces : (xs : List ℕ) (n : ℕ) → length xs ≡ header_size → n < 10_000 → number_in (part xs 20 8) ≡ IsNumber n → part xs 20 4 ≡ four_spaces
+pub small_spaces : (xs : List ℕ) (n : ℕ) → length xs ≡ header_size → n < 10_000 → number_in (part xs 20 8) ≡ Some n → part xs 20 4 ≡ four_spaces
 unfolding word_bytes
 small_spaces xs n l h e =
     sym (part-part xs 20 8 0 4 (omega arith))
@@ -210,35 +213,35 @@ last_columns xs l e =
 
 -- ---- the header of a node or a cut-off: its second number is small
 pub no_second : (xs : List ℕ) → length xs ≡ header_size → is_event_letter (get_or xs 0 0) ≡ true → same (part xs 20 4) four_spaces ≡ false
-    → header_of xs ≡ Invalid
+    → header_of xs ≡ None
 no_second xs l k e = go (header_of xs) refl
   where
-    go : (h : Header) → header_of xs ≡ h → h ≡ Invalid
-    go Invalid q = refl
-    go (Is f) q =
+    go : (h : Option Frame) → header_of xs ≡ h → h ≡ None
+    go None q = refl
+    go (Some f) q =
         let s = header_spelt xs f q in
         let few = event-second f (rw s.kind at k) s.ranges in
         absurd (true-false (rw (small_spaces xs f.second l (omega arith) s.second) (same_refl four_spaces)) e)
 
 -- its numbers but the first are read by pairs, the second number by its last four columns
-abbrev event_with : List ℕ → ℕ → ℕ → ℕ → ℕ → ℕ → Header
+abbrev event_with : List ℕ → ℕ → ℕ → ℕ → ℕ → ℕ → Option Frame
 event_with xs number unit part' key second =
     let f : Frame = record { kind = get_or xs 0 0; number = number; unit = unit; part = part'; key = key; second = second } in
-    cond (in_range f) (Is f) Invalid
+    cond (in_range f) (Some f) None
 
-abbrev pub event_header : List ℕ → Header
+abbrev pub event_header : List ℕ → Option Frame
 event_header xs =
-    number_then (number_in (part xs 1 8)) Invalid λ number.
-    pair_then (pair_in (part xs 9 3) (part xs 12 4)) Invalid λ unit part'.
-    pair_then (pair_in (part xs 16 4) (part xs 24 4)) Invalid (event_with xs number unit part')
+    number_then (number_in (part xs 1 8)) None λ number.
+    pair_then (pair_in (part xs 9 3) (part xs 12 4)) None λ unit part'.
+    pair_then (pair_in (part xs 16 4) (part xs 24 4)) None (event_with xs number unit part')
 
 pub event-read : (xs : List ℕ) → length xs ≡ header_size → same (part xs 20 4) four_spaces ≡ true → same (part xs 28 2) colon_space ≡ true → header_of xs ≡ event_header xs
 unfolding header_of
 event-read xs l s t =
     rw (last_columns xs l (same_true (part xs 20 4) four_spaces s), t)
     (λ i.
-    number_then (number_in (part xs 1 8)) Invalid λ number.
-    pair_then_lem (part xs 9 3) (part xs 12 4) Invalid (λ unit part'. pair_then_lem (part xs 16 4) (part xs 24 4) Invalid (event_with xs number unit part') i) i)
+    number_then (number_in (part xs 1 8)) None λ number.
+    pair_then_lem (part xs 9 3) (part xs 12 4) None (λ unit part'. pair_then_lem (part xs 16 4) (part xs 24 4) None (event_with xs number unit part') i) i)
 
 -- ---- what is written is what is read
 module _ (k : ℕ) (a b c d e g : List ℕ) (la : length a ≡ 8) (lb : length b ≡ 3) (lc : length c ≡ 4) (ld : length d ≡ 4) (le : length e ≡ 8) (lg : length g ≡ 2) where
@@ -290,7 +293,7 @@ module _ (f : Frame) where
         ranges = e;
       }
 
-  pub header_read : in_range f ≡ true → header_of (header_bytes f) ≡ Is f
+  pub header_read : in_range f ≡ true → header_of (header_bytes f) ≡ Some f
   header_read e = spelt_header (header_bytes f) f (written_spelt e)
 
 -- ---- one spelling
@@ -319,11 +322,11 @@ spelt_bytes xs f h s =
       same_true (part xs 28 2) colon_space s.colon,
     )
 
-pub header_is : (xs : List ℕ) (f : Frame) → length xs ≡ header_size → header_of xs ≡ Is f → xs ≡ header_bytes f
+pub header_is : (xs : List ℕ) (f : Frame) → length xs ≡ header_size → header_of xs ≡ Some f → xs ≡ header_bytes f
 header_is xs f h e = spelt_bytes xs f h (header_spelt xs f e)
 
-pub header_range : (xs : List ℕ) (f : Frame) → header_of xs ≡ Is f → in_range f ≡ true
+pub header_range : (xs : List ℕ) (f : Frame) → header_of xs ≡ Some f → in_range f ≡ true
 header_range xs f e = (header_spelt xs f e).ranges
 
-pub one_header : (xs ys : List ℕ) (f : Frame) → length xs ≡ header_size → length ys ≡ header_size → header_of xs ≡ Is f → header_of ys ≡ Is f → xs ≡ ys
+pub one_header : (xs ys : List ℕ) (f : Frame) → length xs ≡ header_size → length ys ≡ header_size → header_of xs ≡ Some f → header_of ys ≡ Some f → xs ≡ ys
 one_header xs ys f h k p q = header_is xs f h p ∙ sym (header_is ys f k q)

@@ -17,11 +17,8 @@ use Rattle.page.specs.Frame.{header_size, payload_size, page_size, colon_space}
 use Rattle.page.specs.Column.{spell, columns, value_after, number_in, number_then}
 use Rattle.page.specs.Word.{word_bytes}
 use Rattle.page.specs.Header.{node_letter, node_frame, in_range, header_bytes, header_of, node_with, node_spelt, second_right, with_part, header_like}
-use Rattle.page.specs.declared.Number.{Number}
-use Rattle.page.specs.declared.Number.TheVariants.{Is as IsNumber, Misspelt}
+use Rattle.std.specs.Prelude.{Option, Some, None}
 use Rattle.page.specs.declared.Frame.{Frame}
-use Rattle.page.specs.declared.Header.{Header}
-use Rattle.page.specs.declared.Header.TheVariants.{Is, Invalid}
 use Rattle.page.proofs.Slices.{part_all, part_front, part_back}
 use Rattle.page.proofs.Column.{value_lt, length-spell, number_spell, number_part}
 use Rattle.page.specs.Plan.{file_plan}
@@ -79,7 +76,7 @@ parts_decide xs ys l m = both_ways _ _ joined apart
         (same_refl (part ys 28 2)))
 
 -- ---- a header that is another but for its part
-module _ (xs first : List ℕ) (n : ℕ) (f : Frame) (l : length xs ≡ header_size) (m : length first ≡ header_size) (e : header_of first ≡ Is f) (r : in_range (with_part n f) ≡ true) where
+module _ (xs first : List ℕ) (n : ℕ) (f : Frame) (l : length xs ≡ header_size) (m : length first ≡ header_size) (e : header_of first ≡ Some f) (r : in_range (with_part n f) ≡ true) where
   abbrev ys : List ℕ
   ys = header_bytes (with_part n f)
 
@@ -154,17 +151,17 @@ module _ (xs : List ℕ) (file offset p : ℕ) (l : length xs ≡ header_size) w
 
 -- ---- a node of given fields, whatever its sequence and its second number
 -- the number of eight columns is a sequence
-number_value : (xs : List ℕ) (n : ℕ) → number_in xs ≡ IsNumber n → value_after 0 xs ≡ n
+number_value : (xs : List ℕ) (n : ℕ) → number_in xs ≡ Some n → value_after 0 xs ≡ n
 unfolding number_in
 number_value xs n e = go (same (spell (length xs) (value_after 0 xs)) xs) e
   where
-    go : (b : Bool) → cond b (IsNumber (value_after 0 xs)) Misspelt ≡ IsNumber n → value_after 0 xs ≡ n
+    go : (b : Bool) → cond b (Some (value_after 0 xs)) None ≡ Some n → value_after 0 xs ≡ n
     go true t = cc
     go false t = absurd (let z : ◌≡◌ {A = ℕ} 0 1 = cc in omega arith)
 
-from_one : (m : Number) → number_then m false (leb 1) ≡ true → (n : ℕ) × (m ≡ IsNumber n) × (1 ≤ n)
-from_one (IsNumber n) e = (n, refl, leb-true 1 n e)
-from_one Misspelt e = absurd (true-false e refl)
+from_one : (m : Option ℕ) → number_then m false (leb 1) ≡ true → (n : ℕ) × (m ≡ Some n) × (1 ≤ n)
+from_one (Some n) e = (n, refl, leb-true 1 n e)
+from_one None e = absurd (true-false e refl)
 
 -- a second number that a node may have; 224 is one
 pub longest-right : second_right (word_bytes 8 0x3432322020202020) ≡ true
@@ -175,17 +172,17 @@ longest-right = refl
 pub unspaced_wrong : (xs : List ℕ) → length xs ≡ header_size → same (part xs 20 4) four_spaces ≡ false → second_right (part xs 20 8) ≡ false
 unspaced_wrong xs l e = go (number_in (part xs 20 8)) refl
   where
-    go : (m : Number) → number_in (part xs 20 8) ≡ m → number_then m false (λ n. leb n payload_size) ≡ false
-    go Misspelt q = refl
-    go (IsNumber n) q = at_most (leb n payload_size) refl
+    go : (m : Option ℕ) → number_in (part xs 20 8) ≡ m → number_then m false (λ n. leb n payload_size) ≡ false
+    go None q = refl
+    go (Some n) q = at_most (leb n payload_size) refl
       where
         at_most : (b : Bool) → leb n payload_size ≡ b → leb n payload_size ≡ false
         at_most false f = f
         at_most true f = absurd (true-false (rw (small_spaces xs n l (omega (arith, leb-true n payload_size f)) q) (same_refl four_spaces)) e)
 
-second_held : (m : Number) → number_then m false (λ n. leb n payload_size) ≡ true → (n : ℕ) × (m ≡ IsNumber n) × (n ≤ payload_size)
-second_held (IsNumber n) e = (n, refl, leb-true n payload_size e)
-second_held Misspelt e = absurd (true-false e refl)
+second_held : (m : Option ℕ) → number_then m false (λ n. leb n payload_size) ≡ true → (n : ℕ) × (m ≡ Some n) × (n ≤ payload_size)
+second_held (Some n) e = (n, refl, leb-true n payload_size e)
+second_held None e = absurd (true-false e refl)
 
 module _ (xs : List ℕ) (file offset p : ℕ) (l : length xs ≡ header_size) where
   abbrev h : Frame
@@ -225,9 +222,9 @@ module _ (xs : List ℕ) (file offset p : ℕ) (l : length xs ≡ header_size) w
       } in
       rw (spelt_header xs f s) (rw (eq-eqb file file refl, eq-eqb offset offset refl, eq-eqb p p refl))
 
-  with_fields : (m : Header) → header_of xs ≡ m → node_with file offset p m ≡ true → node_spelt file offset p xs && second_right (part xs 20 8) ≡ true
-  with_fields Invalid e t = absurd (true-false t refl)
-  with_fields (Is f) e t =
+  with_fields : (m : Option Frame) → header_of xs ≡ m → node_with file offset p m ≡ true → node_spelt file offset p xs && second_right (part xs 20 8) ≡ true
+  with_fields None e t = absurd (true-false t refl)
+  with_fields (Some f) e t =
       let a = and-true _ (eqb f.key p) t in
       let b = and-true _ (eqb f.part offset) a.0 in
       let c = and-true (eqb f.kind node_letter) (eqb f.unit file) b.0 in

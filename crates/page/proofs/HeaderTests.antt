@@ -17,8 +17,7 @@ use Rattle.page.specs.Header.{in_range, header_bytes, header_of, same_frame, hea
 use Rattle.page.specs.Page.{page_bytes, page_like}
 use Rattle.page.specs.Form.{is_empty, closed, form_of, whole_with, whole_node}
 use Rattle.page.specs.declared.Frame.{Frame}
-use Rattle.page.specs.declared.Header.{Header}
-use Rattle.page.specs.declared.Header.TheVariants.{Is, Invalid}
+use Rattle.std.specs.Prelude.{Option, Some, None}
 use Rattle.page.specs.declared.Form.{Form}
 use Rattle.page.specs.declared.Form.TheVariants.{Empty, Whole, Torn, Spoilt}
 use Rattle.page.proofs.Slices.{splice_middle}
@@ -88,14 +87,14 @@ unfolding page_like page_bytes
 page_like_lem f n payload = ap (λ (xs : List ℕ). xs ++ (payload ++ closing)) (put_part_lem f n)
 
 -- ---- a given header, by its spelling
-header_with_lem : (h : Frame) (m : Header) → header_with h m ≡ true → m ≡ Is h
-header_with_lem h (Is f) e = ap Is (same_frame_lem f h e)
-header_with_lem h Invalid e = absurd (true-false e refl)
+header_with_lem : (h : Frame) (m : Option Frame) → header_with h m ≡ true → m ≡ Some h
+header_with_lem h (Some f) e = ap Some (same_frame_lem f h e)
+header_with_lem h None e = absurd (true-false e refl)
 
 pub spelling_decides : (xs : List ℕ) (f : Frame) → length xs ≡ header_size → in_range f ≡ true → same xs (header_bytes f) ≡ header_with f (header_of xs)
 spelling_decides xs f l r =
     both_ways _ _
-    (λ t. let q : header_of xs ≡ Is f = ap header_of (same_true xs (header_bytes f) t) ∙ header_read f r in rw q (frame_same f f refl))
+    (λ t. let q : header_of xs ≡ Some f = ap header_of (same_true xs (header_bytes f) t) ∙ header_read f r in rw q (frame_same f f refl))
     (λ t. rw (header_is xs f l (header_with_lem f (header_of xs) t)) (same_refl (header_bytes f)))
 
 -- ---- whole pages
@@ -104,18 +103,18 @@ and-failed true = refl
 and-failed false = refl
 
 -- a test of the header that holds of no other than a header, and the closing
-module _ (test : Header → Bool) (none : test Invalid ≡ false) where
+module _ (test : Option Frame → Bool) (none : test None ≡ false) where
   abbrev test_whole : Form → Bool
   test_whole Empty = false
-  test_whole (Whole f) = test (Is f)
+  test_whole (Whole f) = test (Some f)
   test_whole (Torn f) = false
   test_whole Spoilt = false
 
-  by_closing : (h : Header) (c e : Bool) → test h && c ≡ test_whole (form_from h c e)
-  by_closing (Is g) true e = and-passed (test (Is g))
-  by_closing (Is g) false e = and-failed (test (Is g))
-  by_closing Invalid c true = rw none
-  by_closing Invalid c false = rw none
+  by_closing : (h : Option Frame) (c e : Bool) → test h && c ≡ test_whole (form_from h c e)
+  by_closing (Some g) true e = and-passed (test (Some g))
+  by_closing (Some g) false e = and-failed (test (Some g))
+  by_closing None c true = rw none
+  by_closing None c false = rw none
 
   closing_decides : (page : List ℕ) → test (header_of (part page 0 header_size)) && closed page ≡ test_whole (form_of page)
   closing_decides page = rw (form_from_lem page) (by_closing (header_of (part page 0 header_size)) (closed page) (is_empty page))

@@ -46,10 +46,10 @@ put_closing page l =
     rw (drop_of_length-le (drop closing_at page) {i = closing_size} (simp length-drop (omega arith))) (ap (λ (xs : List ℕ). take closing_at page ++ xs) (append-nil closing))
 
 -- the three parts, written one after the other
-pub closed_parts : (head payload x : List ℕ) → length head ≡ header_size → length payload ≡ payload_size
-    → take closing_at (put_mid header_size payload_size (head ++ drop header_size x) payload) ++ closing ≡ head ++ (payload ++ closing)
-closed_parts head payload x l h =
-    rw (put_next head (drop header_size x) payload header_size payload_size l, take_at (head ++ payload) (drop payload_size (drop header_size x)) closing_at (simp length-append (omega arith)))
+pub closed_parts : (head payload rest : List ℕ) → length head ≡ header_size → length payload ≡ payload_size
+    → take closing_at (head ++ (payload ++ rest)) ++ closing ≡ head ++ (payload ++ closing)
+closed_parts head payload rest l h =
+    rw (← append_assoc, take_at (head ++ payload) rest closing_at (simp length-append (omega arith)))
     (append_assoc head payload closing)
 
 module _ (f : Frame) (payload : List ℕ) (h : length payload ≡ payload_size) where
@@ -71,9 +71,9 @@ module _ (f : Frame) (payload : List ℕ) (h : length payload ≡ payload_size) 
       rw (← append_assoc)
       (part_back (header_bytes f ++ payload) closing closing_at closing_size (let l = length-header f in simp length-append (omega arith)) refl)
 
-  pub page_written : (x : List ℕ) → take closing_at (put_mid header_size payload_size (header_bytes f ++ drop header_size x) payload) ++ closing ≡ page_bytes f payload
+  pub page_written : (rest : List ℕ) → take closing_at (header_bytes f ++ (payload ++ rest)) ++ closing ≡ page_bytes f payload
   unfolding page_bytes
-  page_written x = closed_parts (header_bytes f) payload x (length-header f) h
+  page_written rest = closed_parts (header_bytes f) payload rest (length-header f) h
 
   -- another payload in the place of this one
   pub page-splice : (ys : List ℕ) → length ys ≡ payload_size → splice (page_bytes f payload) header_size ys ≡ page_bytes f ys
@@ -89,9 +89,9 @@ module _ (header : List ℕ) (n : ℕ) (payload : List ℕ) (l : length header �
   unfolding page_like
   like_length = let w = put_part_length in simp length-append (omega arith)
 
-  pub like_written : (x : List ℕ) → take closing_at (put_mid header_size payload_size (splice header part_at (spell part_width n) ++ drop header_size x) payload) ++ closing ≡ page_like header n payload
+  pub like_written : (rest : List ℕ) → take closing_at (splice header part_at (spell part_width n) ++ (payload ++ rest)) ++ closing ≡ page_like header n payload
   unfolding page_like
-  like_written x = closed_parts (splice header part_at (spell part_width n)) payload x put_part_length h
+  like_written rest = closed_parts (splice header part_at (spell part_width n)) payload rest put_part_length h
 
 -- ---- the pages of each kind
 pub node-length : (sequence file offset position second : ℕ) (key bytes : List ℕ) → length bytes ≡ payload_size → length (node_page sequence file offset position second key bytes) ≡ page_size
@@ -119,6 +119,11 @@ module _ (payload : List ℕ) where
   pub padded-length : length payload ≤ payload_size → length (padded payload) ≡ payload_size
   unfolding padded
   padded-length h = simp (length-append, length-replicate) (omega arith)
+
+  -- nothing comes after a whole payload
+  pub padded_whole : length payload ≡ payload_size → padded payload ≡ payload
+  unfolding padded
+  padded_whole h = rw h (append-nil payload)
 
   -- what is read back of a padded payload
   pub padded_back : 1 ≤ length payload → take (length_of (length payload)) (padded payload) ≡ payload
@@ -208,8 +213,8 @@ module _ (k : ℕ) (page : List ℕ) (h : length page ≡ page_size) where
       ∙ part-replicate (page_size - k) (a - k) n erased (omega arith))
 
   -- the rest of a page filled
-  pub cut-filled : (zs : List ℕ) → zs ≡ replicate (length (take (length page - k) (drop k page))) erased → k < page_size → put_mid k (length page - k) page zs ≡ cut_page k page
+  pub cut-filled : (zs : List ℕ) → zs ≡ replicate (length (take (page_size - k) (drop k page))) erased → k < page_size → put_mid k (page_size - k) page zs ≡ cut_page k page
   unfolding cut_page
   cut-filled zs e l =
-      let m : length (take (length page - k) (drop k page)) ≡ page_size - k = simp (length-take, length-drop) (omega arith) in
-      rw (e, m, drop_of_length-le (drop k page) {i = length page - k} (simp length-drop (omega arith))) (simp append-nil)
+      let m : length (take (page_size - k) (drop k page)) ≡ page_size - k = simp (length-take, length-drop) (omega arith) in
+      rw (e, m, drop_of_length-le (drop k page) {i = page_size - k} (simp length-drop (omega arith))) (simp append-nil)

@@ -15,10 +15,7 @@ use Rattle.base.proofs.Choice.{and-true, true-false, both_ways}
 use Rattle.base.proofs.Eachs.{table_rule, each_append, same_true, same_refl}
 use Rattle.page.specs.Frame.{space}
 use Rattle.page.specs.Column.{zero_digit, spell, digit, is_digit, value_after, number_in, number_then, pair_in}
-use Rattle.page.specs.declared.Pair.{Pair}
-use Rattle.page.specs.declared.Pair.TheVariants.{Are, Misspelt}
-use Rattle.page.specs.declared.Number.{Number}
-use Rattle.page.specs.declared.Number.TheVariants.{Is, Misspelt as NoNumber}
+use Rattle.std.specs.Prelude.{Option, Some, None}
 use Rattle.page.specs.Word.{word_bytes}
 use Rattle.page.proofs.Column.{digit_of_digit, each_read, value_lt, number_spell, number_is, pair_then, pair_then_lem}
 use Rattle.page.proofs.WordLaws.{word-length}
@@ -80,13 +77,13 @@ rests_spelt cs t =
     cs (value_after 0 cs) (read cs ∙ rw t)
 
 -- two numbers side by side are read where both are
-read-pair : (xs ys : List ℕ) → pair_in xs ys ≡ cond (spelt xs && spelt ys) (Are (value_after 0 xs) (value_after 0 ys)) Misspelt
+read-pair : (xs ys : List ℕ) → pair_in xs ys ≡ cond (spelt xs && spelt ys) (Some (value_after 0 xs, value_after 0 ys)) None
 unfolding pair_in
 read-pair xs ys = rw (read xs, read ys) (go (spelt xs) (spelt ys) (value_after 0 xs) (value_after 0 ys))
   where
     go : (s t : Bool) (m n : ℕ)
-        → number_then (cond s (Is m) NoNumber) Misspelt (λ a. number_then (cond t (Is n) NoNumber) Misspelt λ b. Are a b)
-        ≡ cond (s && t) (Are m n) Misspelt
+        → number_then {A = Option (ℕ × ℕ)} (cond s (Some m) None) None (λ a. number_then (cond t (Some n) None) None λ b. Some (a, b))
+        ≡ cond (s && t) (Some (m, n)) None
     go true true m n = refl
     go true false m n = refl
     go false t m n = refl
@@ -202,23 +199,23 @@ module _ (v low high : ℕ) (h : v < 0x10000000000000000) (e : word_bytes 8 v �
       rests_in_lem v h ∙ ap (lanes 8 rest) e ∙ lanes_same 8 rest digit (xs ++ ys) each in
       ap (λ (n : ℕ). fours_of (pairs_of n)) s ∙ fours_value _ _ _ _ _ _ _ _
 
-  pub no_pair : right_in v ≡ false → Misspelt ≡ pair_in (word_bytes 4 low) (word_bytes 4 high)
+  pub no_pair : right_in v ≡ false → None ≡ pair_in (word_bytes 4 low) (word_bytes 4 high)
   no_pair t = sym (read-pair (word_bytes 4 low) (word_bytes 4 high) ∙ rw (sym right_in_lem ∙ t))
 
   pub pair_is : right_in v ≡ true
-      → Are (bit_and (fours_of (pairs_of (rests_in v))) 0xffffffff) (fours_of (pairs_of (rests_in v)) / 0x100000000)
+      → Some (bit_and (fours_of (pairs_of (rests_in v))) 0xffffffff, fours_of (pairs_of (rests_in v)) / 0x100000000)
       ≡ pair_in (word_bytes 4 low) (word_bytes 4 high)
   pair_is t =
       let n = fours_of (pairs_of (rests_in v)) in
       let a : bit_and n 0xffffffff ≡ value_after 0 (word_bytes 4 low) = and_mask n 32 ∙ omega (arith, pair_values t, four_lt low) in
       let b : n / 0x100000000 ≡ value_after 0 (word_bytes 4 high) = omega (arith, pair_values t, four_lt low) in
-      ap₂ Are a b ∙ sym (read-pair (word_bytes 4 low) (word_bytes 4 high) ∙ rw (sym right_in_lem ∙ t))
+      ap₂ (λ x y. Some (x, y)) a b ∙ sym (read-pair (word_bytes 4 low) (word_bytes 4 high) ∙ rw (sym right_in_lem ∙ t))
 
 -- ---- columns that hold a given number
 module _ (w n : ℕ) (xs : List ℕ) (some : 1 ≤ w) (l : length xs ≡ w) (h : n < 10 ^ w) where
-  held_spelt : (m : Number) → number_in xs ≡ m → number_then m false (λ k. eqb k n) ≡ true → same xs (spell w n) ≡ true
-  held_spelt (Is k) e t = rw (number_is xs k e, l, eqb-true k n t) (same_refl (spell w n))
-  held_spelt NoNumber e t = absurd (true-false t refl)
+  held_spelt : (m : Option ℕ) → number_in xs ≡ m → number_then m false (λ k. eqb k n) ≡ true → same xs (spell w n) ≡ true
+  held_spelt (Some k) e t = rw (number_is xs k e, l, eqb-true k n t) (same_refl (spell w n))
+  held_spelt None e t = absurd (true-false t refl)
 
   spelt_held : same xs (spell w n) ≡ true → number_then (number_in xs) false (λ k. eqb k n) ≡ true
   spelt_held t = rw (same_true xs (spell w n) t, number_spell w n some h) (eq-eqb n n refl)
@@ -228,24 +225,24 @@ module _ (w n : ℕ) (xs : List ℕ) (some : 1 ≤ w) (l : length xs ≡ w) (h :
   number_decides = both_ways _ _ (held_spelt (number_in xs) refl) spelt_held
 
 -- two numbers that are read one after the other, each compared with one
-each_number : (p q : Number) (a b : ℕ)
+each_number : (p q : Option ℕ) (a b : ℕ)
     → number_then p false (λ m. number_then q false (λ n. eqb m a && eqb n b))
     ≡ number_then p false (λ m. eqb m a) && number_then q false (λ n. eqb n b)
-each_number (Is m) (Is n) a b = refl
-each_number (Is m) NoNumber a b = failed (eqb m a)
+each_number (Some m) (Some n) a b = refl
+each_number (Some m) None a b = failed (eqb m a)
   where
     failed : (t : Bool) → false ≡ t && false
     failed true = refl
     failed false = refl
-each_number NoNumber q a b = refl
+each_number None q a b = refl
 
 -- the pair that is read is of these numbers where each four columns are the spelling of one
-pub pair-holds : (low high a b : ℕ) (r : Pair) → r ≡ pair_in (word_bytes 4 low) (word_bytes 4 high) → a < 10_000 → b < 10_000
+pub pair-holds : (low high a b : ℕ) (r : Option (ℕ × ℕ)) → r ≡ pair_in (word_bytes 4 low) (word_bytes 4 high) → a < 10_000 → b < 10_000
     → pair_then r false (λ m n. eqb m a && eqb n b) ≡ same (word_bytes 4 low) (spell 4 a) && same (word_bytes 4 high) (spell 4 b)
 pair-holds low high a b r e g h =
     let xs = word_bytes 4 low in
     let ys = word_bytes 4 high in
-    ap (λ (p : Pair). pair_then p false (λ m n. eqb m a && eqb n b)) e
+    ap (λ (p : Option (ℕ × ℕ)). pair_then p false (λ m n. eqb m a && eqb n b)) e
     ∙ sym (pair_then_lem xs ys false (λ m n. eqb m a && eqb n b))
     ∙ each_number (number_in xs) (number_in ys) a b
     ∙ ap₂ ◌&&◌ (number_decides 4 a xs (omega arith) (word-length 4 low) g) (number_decides 4 b ys (omega arith) (word-length 4 high) h)

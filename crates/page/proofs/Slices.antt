@@ -1,13 +1,14 @@
 -- Parts of lists that are joined, and parts that are lent: what the borrow checker leaves of them.
 use Prim.Native.Nat.{ℕ, zero, suc, ◌+◌, ◌-◌, ◌<◌, ◌≤◌}
 use native.Mathlib.Omega.{arith}
-use mathlib.Core.Path.{◌≡◌, refl}
+use native.Mathlib.Decide.{dec_lt}
+use mathlib.Core.Path.{◌≡◌, refl, sym, ap, ◌∙◌}
 use mathlib.Core.List.{List, [], ◌∷◌, ◌++◌, append-nil}
-use lib.ListN.{length, take, drop, get_or, replicate, length-replicate, replicate-append-replicate, length-drop, drop_of_length-le, take-append-drop}
+use lib.ListN.{length, take, drop, get_or, get_or-eq_default, replicate, length-take, length-replicate, replicate-append-replicate, length-drop, drop_of_length-le, take-append-drop}
 use lib.Seq.{take_at, drop_at, take_all, drop-append-add}
 use borrow.Rule.Slice.PartMut.{put_mid}
 use Rattle.base.specs.Part.{part, splice}
-use Rattle.base.proofs.Parts.{put_next}
+use Rattle.base.proofs.Parts.{put_next, part_at}
 
 -- an element that is there does not go by the default
 pub get_d_there : (xs : List ℕ) (i d e : ℕ) → i < length xs → get_or xs i d ≡ get_or xs i e
@@ -63,3 +64,39 @@ module _ (x a b : List ℕ) (i j : ℕ) (la : length a ≡ i) (lb : length b ≡
   pub two_parts : length x ≡ i + j → put_mid i j (a ++ drop i x) b ≡ a ++ b
   two_parts h =
       rw (put_next a (drop i x) b i j la, drop_of_length-le (drop i x) {i = j} (simp length-drop (omega arith))) (append-nil (a ++ b))
+
+-- a list written over the end of one value throughout
+pub last_written : (m n v : ℕ) (ys : List ℕ) → n ≤ m → length ys ≡ n → put_mid (m - n) (m - (m - n)) (replicate m v) ys ≡ replicate (m - n) v ++ ys
+last_written m n v ys h l =
+    let i = m - n in
+    let e : replicate m v ≡ replicate i v ++ replicate n v = ap (λ (k : ℕ). replicate k v) (omega arith) ∙ sym (replicate-append-replicate i n v) in
+    let z : drop (m - i) (replicate n v) ≡ [] = drop_of_length-le (replicate n v) {i = m - i} (omega (arith, length-replicate n v)) in
+    ap (λ (xs : List ℕ). put_mid i (m - i) xs ys) e
+    ∙ put_next (replicate i v) (replicate n v) ys i (m - i) (length-replicate i v)
+    ∙ rw z (append-nil (replicate i v ++ ys))
+
+-- and one written over the start
+pub first_written : (m n v : ℕ) (ys : List ℕ) → n ≤ m → length ys ≡ n → put_mid 0 n (replicate m v) ys ≡ ys ++ replicate (m - n) v
+first_written m n v ys h l =
+    let e : replicate m v ≡ replicate n v ++ replicate (m - n) v = ap (λ (k : ℕ). replicate k v) (omega arith) ∙ sym (replicate-append-replicate n (m - n) v) in
+    put_next [] (replicate m v) ys 0 n refl
+    ∙ ap (λ (xs : List ℕ). ys ++ xs) (ap (drop n) e ∙ drop_at (replicate n v) (replicate (m - n) v) n (length-replicate n v))
+
+-- bytes after one byte throughout are bytes, and before it
+pub fits_after : (k v : ℕ) (ys : List ℕ) → v < 256 → ((i : ℕ) → get_or ys i 0 < 256) → (i : ℕ) → get_or (replicate k v ++ ys) i 0 < 256
+fits_after zero v ys h f i = f i
+fits_after (suc k) v ys h f zero = h
+fits_after (suc k) v ys h f (suc i) = fits_after k v ys h f i
+
+pub fits_before : (k v : ℕ) (ys : List ℕ) → v < 256 → ((i : ℕ) → get_or ys i 0 < 256) → (i : ℕ) → get_or (ys ++ replicate k v) i 0 < 256
+fits_before k v [] h f i = rw (← append-nil (replicate k v)) (fits_after k v [] h f i)
+fits_before k v (y ∷ ys) h f zero = f zero
+fits_before k v (y ∷ ys) h f (suc i) = fits_before k v ys h (λ j. f (suc j)) i
+
+pub fits_part : (xs : List ℕ) (a n : ℕ) → ((i : ℕ) → get_or xs i 0 < 256) → (i : ℕ) → get_or (part xs a n) i 0 < 256
+unfolding part
+fits_part xs a n f i =
+    elim (dec_lt i n) [
+      | yes h ↦ rw (part_at xs a n i 0 h) (f (a + i))
+      | no h ↦ let l : length (part xs a n) ≤ i = simp length-take (omega arith) in rw (get_or-eq_default (part xs a n) 0 l) (omega arith)
+    ]

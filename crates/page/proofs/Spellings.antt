@@ -3,7 +3,6 @@ use Prim.Native.Nat.{ℕ, ◌+◌, ◌*◌, ◌-◌, ◌/◌, ◌%◌, ◌<◌, 
 use native.Mathlib.Omega.{arith}
 use mathlib.Core.Path.{◌≡◌, refl, sym, ap, ◌∙◌}
 use mathlib.Core.List.{List, [], ◌∷◌, ◌++◌}
-use lib.Bits.{bit_and}
 use lib.ListN.{length, take, drop, replicate, length-append, length-drop, length-replicate}
 use lib.Seq.{take_all, length-take-le}
 use borrow.Rule.Slice.PartMut.{put_mid}
@@ -14,7 +13,6 @@ use Rattle.page.specs.Word.{word_bytes}
 use Rattle.page.proofs.Slices.{two_parts}
 use Rattle.page.proofs.Column.{column-none, column-some, length-spell, spell_last, spell_spaces, spell_joined}
 use Rattle.page.proofs.WordLaws.{four_bytes}
-use Rattle.page.proofs.Countdown.{not_more, room_left_lem, counted_above, upper, lower, times_lt, left_above}
 
 -- four columns of which each is known
 four-columns : (n a b c d : ℕ) → a ≡ column (n / 10 / 10 / 10) → b ≡ column (n / 10 / 10) → c ≡ column (n / 10) → d ≡ zero_digit + n % 10 → a ∷ b ∷ c ∷ d ∷ [] ≡ spell 4 n
@@ -36,97 +34,7 @@ three n = n / 100 * 0x100 + n % 100 / 10 * 0x10000 + n % 10 * 0x1000000
 abbrev pub four : ℕ → ℕ
 four n = n / 1000 + n % 1000 / 100 * 0x100 + n % 100 / 10 * 0x10000 + n % 10 * 0x1000000
 
--- what is left for the last two digits
-tens_most : (n : ℕ) → n % 100 < 10 * 10
-tens_most n = omega arith
-
--- three digits: hundreds are counted, moved to their column, and tens counted of what is left
-module _ (n x : ℕ) (h : n < 1000) (e : x ≡ n * 0x10000 % (100 * 0x10000) + n * 0x10000 / (100 * 0x10000) * 1) where
-  few_hundreds : n / 100 < 10
-  few_hundreds = times_lt n 100 x h e
-
-  hundreds_moved : x * 0x100 ≡ n % 100 * 0x1000000 + n / 100 * 0x100
-  hundreds_moved = omega (arith, left_above n 100 x h e)
-
-  hundreds_room : n / 100 * 0x100 + 15 * 0x10000 < 0x1000000
-  hundreds_room = omega (arith, few_hundreds)
-
-  pub three_asks : (x * 0x100 < 16 * (10 * 0x1000000)) × (x * 0x100 % (10 * 0x1000000) + 15 * 0x10000 < 10 * 0x1000000)
-  three_asks = (
-    not_more 0x1000000 (n % 100) 10 (n / 100 * 0x100) 0x10000 (x * 0x100) hundreds_moved hundreds_room (tens_most n),
-    room_left_lem 0x1000000 (n % 100) 10 (n / 100 * 0x100) 0x10000 (x * 0x100) hundreds_moved hundreds_room (tens_most n),
-  )
-
-  pub three_counted : (r : ℕ) → r ≡ x * 0x100 % (10 * 0x1000000) + x * 0x100 / (10 * 0x1000000) * 0x10000 → r ≡ three n
-  three_counted r f =
-      let g : n % 100 % 10 ≡ n % 10 = omega arith in
-      counted_above 0x1000000 (n % 100) 10 (n / 100 * 0x100) 0x10000 (x * 0x100) hundreds_moved hundreds_room (tens_most n) r f
-      ∙ rw g (sums (n / 100) (n % 100 / 10) (n % 10))
-    where
-      sums : (a b c : ℕ) → c * 0x1000000 + (a * 0x100 + b * 0x10000) ≡ a * 0x100 + b * 0x10000 + c * 0x1000000
-      sums a b c = omega arith
-
--- four digits: thousands, then hundreds of what is left beside them, then tens
-below_hundred : (n : ℕ) → n % 1000 % 100 ≡ n % 100
-below_hundred n = omega arith
-
-module _ (n x : ℕ) (h : n < 10_000) (e : x ≡ n * 0x10000 % (1000 * 0x10000) + n * 0x10000 / (1000 * 0x10000) * 1) where
-  few_thousands : n / 1000 < 10
-  few_thousands = times_lt n 1000 x h e
-
-  thousands_room : n / 1000 + 15 * 0x100 < 0x10000
-  thousands_room = omega (arith, few_thousands)
-
-  hundreds_most : n % 1000 < 10 * 100
-  hundreds_most = omega arith
-
-  pub hundreds_asks : (x < 16 * (100 * 0x10000)) × (x % (100 * 0x10000) + 15 * 0x100 < 100 * 0x10000)
-  hundreds_asks = (
-    not_more 0x10000 (n % 1000) 100 (n / 1000) 0x100 x (left_above n 1000 x h e) thousands_room hundreds_most,
-    room_left_lem 0x10000 (n % 1000) 100 (n / 1000) 0x100 x (left_above n 1000 x h e) thousands_room hundreds_most,
-  )
-
-  module _ (y : ℕ) (f : y ≡ x % (100 * 0x10000) + x / (100 * 0x10000) * 0x100) where
-    abbrev digits : ℕ
-    digits = n / 1000 + n % 1000 / 100 * 0x100
-
-    few_digits : digits < 0x1000
-    few_digits = let l : n % 1000 / 100 < 10 = omega arith in omega (arith, few_thousands, l)
-
-    both : y ≡ n % 100 * 0x10000 + digits
-    both =
-        counted_above 0x10000 (n % 1000) 100 (n / 1000) 0x100 x (left_above n 1000 x h e) thousands_room hundreds_most y f
-        ∙ ap (λ (m : ℕ). m * 0x10000 + digits) (below_hundred n)
-
-    digits_moved : bit_and y 0xffff + y / 0x10000 * 0x1000000 ≡ n % 100 * 0x1000000 + digits
-    digits_moved = rw (lower (n % 100) digits y both (omega (arith, few_digits)), upper (n % 100) digits y both (omega (arith, few_digits))) (omega arith)
-
-    digits_room : digits + 15 * 0x10000 < 0x1000000
-    digits_room = omega (arith, few_digits)
-
-    pub four_asks : (bit_and y 0xffff + y / 0x10000 * 0x1000000 < 16 * (10 * 0x1000000))
-        × ((bit_and y 0xffff + y / 0x10000 * 0x1000000) % (10 * 0x1000000) + 15 * 0x10000 < 10 * 0x1000000)
-    four_asks = (
-      not_more 0x1000000 (n % 100) 10 digits 0x10000 _ digits_moved digits_room (tens_most n),
-      room_left_lem 0x1000000 (n % 100) 10 digits 0x10000 _ digits_moved digits_room (tens_most n),
-    )
-
-    pub four-counted : (z r : ℕ) → z ≡ bit_and y 0xffff + y / 0x10000 * 0x1000000 → r ≡ z % (10 * 0x1000000) + z / (10 * 0x1000000) * 0x10000 → r ≡ four n
-    four-counted z r k g =
-        let t : n % 100 % 10 ≡ n % 10 = omega arith in
-        counted_above 0x1000000 (n % 100) 10 digits 0x10000 z (k ∙ digits_moved) digits_room (tens_most n) r g
-        ∙ rw t (sums (n / 1000) (n % 1000 / 100) (n % 100 / 10) (n % 10))
-      where
-        sums : (a b c d : ℕ) → d * 0x1000000 + (a + b * 0x100 + c * 0x10000) ≡ a + b * 0x100 + c * 0x10000 + d * 0x1000000
-        sums a b c d = omega arith
-
 -- there is room in a word for them as characters
-pub three_room : (n : ℕ) → n < 1000 → three n ≤ 0x9090900
-three_room n h = go (n / 100) (n % 100 / 10) (n % 10) (omega arith) (omega arith) (omega arith)
-  where
-    go : (a b c : ℕ) → a < 10 → b < 10 → c < 10 → a * 0x100 + b * 0x10000 + c * 0x1000000 ≤ 0x9090900
-    go a b c g h k = omega arith
-
 pub four-room : (n : ℕ) → n < 10_000 → four n ≤ 0x9090909
 four-room n h = go (n / 1000) (n % 1000 / 100) (n % 100 / 10) (n % 10) (omega arith) (omega arith) (omega arith) (omega arith)
   where
@@ -275,12 +183,12 @@ module _ (n : ℕ) where
   unfolding splice spell columns
   twelve_columns m e h = spell_joined 8 4 n m (omega arith) (omega arith) e (λ (z : m ≡ 0). omega arith)
 
--- ---- any other number of columns, by twelve
+-- ---- any other number of columns, by more of them
 module _ (w n : ℕ) where
-  pub last_of_twelve : (k : ℕ) (xs : List ℕ) → xs ≡ spell 12 n → 1 ≤ w → w ≤ 12 → w ≤ k → take k (drop (12 - w) xs) ≡ spell w n
-  last_of_twelve k xs e some most room =
-      let f : w + (12 - w) ≡ 12 = omega arith in
-      let g : drop (12 - w) xs ≡ spell w n = ap (drop (12 - w)) (e ∙ ap (λ (i : ℕ). spell i n) (sym f)) ∙ spell_last w (12 - w) n some in
+  pub last_of : (m k : ℕ) (xs : List ℕ) → xs ≡ spell m n → 1 ≤ w → w ≤ m → w ≤ k → take k (drop (m - w) xs) ≡ spell w n
+  last_of m k xs e some most room =
+      let f : w + (m - w) ≡ m = omega arith in
+      let g : drop (m - w) xs ≡ spell w n = ap (drop (m - w)) (e ∙ ap (λ (i : ℕ). spell i n) (sym f)) ∙ spell_last w (m - w) n some in
       ap (take k) g ∙ take_all k (spell w n) (omega (arith, length-spell w n some))
 
   pub past_twelve : (x a b : List ℕ) → 12 < w → length x ≡ w → a ≡ replicate (length (take (w - 12) x)) space → b ≡ spell 12 n → n < 1_000_000_000_000

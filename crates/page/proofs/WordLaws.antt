@@ -5,11 +5,13 @@ use native.Mathlib.Nat.{pow-suc, zero-add, suc-add}
 use mathlib.Core.Path.{◌≡◌, refl, sym, ap, ◌∙◌}
 use mathlib.Core.Bool.{Bool, ◌&&◌}
 use mathlib.Core.List.{List, [], ◌∷◌, ◌++◌, append_assoc}
-use lib.ListN.{length, get_or, set, take, drop, length-append}
-use lib.Seq.{drop-cons, drop-drop, take-nil, take_at, drop_at, length-take-le, sets-eq}
+use lib.ListN.{length, get_or, take, drop, length-append}
+use lib.Seq.{drop-cons, drop-drop, take-nil, take_at, drop_at, length-take-le}
 use lib.Dec.{eqb}
-use lib.Bits.{bit_and, and_mask, mask_lt}
+use lib.Bits.{bit_and, mask_lt}
 use borrow.Author.Tests.{eqb-true, eq-eqb}
+use Rattle.std.specs.Int.{w32, w64, to_le_bytes, from_le_bytes}
+use Rattle.std.proofs.lemmas.Nat.{le_bytes_8}
 use Rattle.base.specs.Part.{part, splice}
 use Rattle.base.specs.Each.{same}
 use Rattle.base.proofs.Choice.{and_assoc, both_ways}
@@ -20,28 +22,22 @@ cons_eq : {x y : ℕ} {xs ys : List ℕ} → x ≡ y → xs ≡ ys → x ∷ xs 
 cons_eq p q = λ i. p i ∷ q i
 
 -- ---- the number of some bytes
-pub two_bytes : (a b : ℕ) → a < 256 → b < 256 → word_bytes 2 (a + b * 0x100) ≡ a ∷ b ∷ []
-unfolding word_bytes
-two_bytes a b g h = cons_eq (omega arith) (cons_eq (omega arith) refl)
-
 pub four_bytes : (a b c d : ℕ) → a < 256 → b < 256 → c < 256 → d < 256 → word_bytes 4 (a + b * 0x100 + c * 0x10000 + d * 0x1000000) ≡ a ∷ b ∷ c ∷ d ∷ []
 unfolding word_bytes
 four_bytes a b c d g h k l = cons_eq (omega arith) (cons_eq (omega arith) (cons_eq (omega arith) (cons_eq (omega arith) refl)))
 
--- the lowest byte of a number, as code takes it
-byte_of : (w : ℕ) → bit_and w 0xff ≡ w % 0x100
-byte_of w = and_mask w 8
-
-pub byte_lt : (w : ℕ) → bit_and w 0xff < 0x100
-byte_lt w = mask_lt w 8
-
-pub bytes_of_three : (w : ℕ) → bit_and w 0xff ∷ bit_and (w / 0x100) 0xff ∷ bit_and (w / 0x10000) 0xff ∷ [] ≡ word_bytes 3 w
+-- the bytes of a number of four or eight, as the library gives them
+pub four_le_bytes : (w : ℕ) → to_le_bytes w32 w ≡ word_bytes 4 w
 unfolding word_bytes
-bytes_of_three w = cons_eq (byte_of w) (cons_eq (byte_of (w / 0x100)) (cons_eq (byte_of (w / 0x10000) ∙ omega arith) refl))
+four_le_bytes w = cons_eq (omega arith) (cons_eq (omega arith) (cons_eq (omega arith) (cons_eq (omega arith) refl)))
 
-pub bytes_of-four : (w : ℕ) → w < 0x100000000 → bit_and w 0xff ∷ bit_and (w / 0x100) 0xff ∷ bit_and (w / 0x10000) 0xff ∷ w / 0x1000000 ∷ [] ≡ word_bytes 4 w
+pub eight_le_bytes : (w : ℕ) → to_le_bytes w64 w ≡ word_bytes 8 w
 unfolding word_bytes
-bytes_of-four w h = cons_eq (byte_of w) (cons_eq (byte_of (w / 0x100)) (cons_eq (byte_of (w / 0x10000) ∙ omega arith) (cons_eq (omega arith) refl)))
+eight_le_bytes w = cons_eq (omega arith) (cons_eq (omega arith) (cons_eq (omega arith) (cons_eq (omega arith) (cons_eq (omega arith) (cons_eq (omega arith) (cons_eq (omega arith) (cons_eq (omega arith) refl)))))))
+
+-- eight bytes as a number, as the library makes it
+pub bytes_of_eight : (xs : List ℕ) (v : ℕ) → length xs ≡ 8 → ((i : ℕ) → get_or xs i 0 < 256) → v ≡ from_le_bytes w64 xs → word_bytes 8 v ≡ xs
+bytes_of_eight xs v l h e = sym (eight_le_bytes v) ∙ le_bytes_8 xs v l h e
 
 -- the bytes of a number in two parts
 pub bytes_joined : (n m k low high : ℕ) → k ≡ n + m → low < 256 ^ n → word_bytes k (low + high * 256 ^ n) ≡ word_bytes n low ++ word_bytes m high
@@ -58,14 +54,6 @@ bytes_joined (suc n) m k low high e h =
 -- the bytes of a number of eight, by its halves
 pub half_lt : (w : ℕ) → bit_and w 0xffffffff < 0x100000000
 half_lt w = mask_lt w 32
-
-pub bytes_of_halves : (w : ℕ) → word_bytes 4 (bit_and w 0xffffffff) ++ word_bytes 4 (w / 0x100000000) ≡ word_bytes 8 w
-bytes_of_halves w =
-    let low = w % 0x100000000 in
-    let high = w / 0x100000000 in
-    ap (λ (l : ℕ). word_bytes 4 l ++ word_bytes 4 high) (and_mask w 32)
-    ∙ sym (bytes_joined 4 4 8 low high refl (omega arith))
-    ∙ ap (word_bytes 8) (omega arith)
 
 pub word-length : (n w : ℕ) → length (word_bytes n w) ≡ n
 unfolding word_bytes
@@ -92,10 +80,6 @@ module _ (xs : List ℕ) (at : ℕ) where
   next : (i j : ℕ) → j ≡ suc i → i < length xs → drop i xs ≡ get_or xs i 0 ∷ drop j xs
   next i j e h = drop-cons xs i 0 h ∙ rw e
 
-  pub part_two : at + 2 ≤ length xs → part xs at 2 ≡ get_or xs at 0 ∷ get_or xs (at + 1) 0 ∷ []
-  unfolding part
-  part_two h = ap (take 2) (next at (at + 1) (omega arith) (omega arith) ∙ cons_eq refl (next (at + 1) (at + 2) (omega arith) (omega arith)))
-
   pub part_three : at + 3 ≤ length xs → part xs at 3 ≡ get_or xs at 0 ∷ get_or xs (at + 1) 0 ∷ get_or xs (at + 2) 0 ∷ []
   unfolding part
   part_three h =
@@ -113,24 +97,6 @@ module _ (xs : List ℕ) (at : ℕ) where
       (next (at + 1) (at + 2) (omega arith) (omega arith)
       ∙ cons_eq refl
       (next (at + 2) (at + 3) (omega arith) (omega arith) ∙ cons_eq refl (next (at + 3) (at + 4) (omega arith) (omega arith)))))
-
-  -- and written one after the other
-  pub put_three : (a b c : ℕ) → at + 3 ≤ length xs → set (set (set xs at a) (at + 1) b) (at + 2) c ≡ splice xs at (a ∷ b ∷ c ∷ [])
-  unfolding splice
-  put_three a b c h =
-      let e : at + 1 ≡ suc at = omega arith in
-      let f : at + 2 ≡ suc (suc at) = omega arith in
-      rw (e, f, drop-drop 3 at xs)
-      (sets-eq (a ∷ b ∷ c ∷ []) xs at h ∙ append_assoc (take at xs) (a ∷ b ∷ c ∷ []) (drop (at + 3) xs))
-
-  pub put_four : (a b c d : ℕ) → at + 4 ≤ length xs → set (set (set (set xs at a) (at + 1) b) (at + 2) c) (at + 3) d ≡ splice xs at (a ∷ b ∷ c ∷ d ∷ [])
-  unfolding splice
-  put_four a b c d h =
-      let e : at + 1 ≡ suc at = omega arith in
-      let f : at + 2 ≡ suc (suc at) = omega arith in
-      let g : at + 3 ≡ suc (suc (suc at)) = omega arith in
-      rw (e, f, g, drop-drop 4 at xs)
-      (sets-eq (a ∷ b ∷ c ∷ d ∷ []) xs at h ∙ append_assoc (take at xs) (a ∷ b ∷ c ∷ d ∷ []) (drop (at + 4) xs))
 
 -- ---- a part in two parts
 take_join : (m n : ℕ) (ys : List ℕ) → take m ys ++ take n (drop m ys) ≡ take (m + n) ys

@@ -1,11 +1,7 @@
 -- Document 01, "Page forms": a number in columns is decimal, right-justified with spaces, without leading zeros.
-use Rattle.std.specs.Prelude.{ℕ, zero, suc, ◌+◌, ◌*◌, ◌-◌, ◌/◌, ◌%◌, List, [], ◌∷◌, Bool, cond, ◌&&◌, length, eqb, leb, ltb}
+use Rattle.std.specs.Prelude.{ℕ, zero, suc, ◌+◌, ◌*◌, ◌-◌, ◌/◌, ◌%◌, List, [], ◌∷◌, Bool, cond, ◌&&◌, length, eqb, leb, ltb, Option, Some, None}
 use Rattle.base.specs.Each.{same}
 use Rattle.page.specs.Frame.{space}
-use Rattle.page.specs.declared.Number.{Number}
-use Rattle.page.specs.declared.Number.TheVariants.{Is, Misspelt}
-use Rattle.page.specs.declared.Pair.{Pair}
-use Rattle.page.specs.declared.Pair.TheVariants.{Are, Misspelt as NoPair}
 
 -- the digits 0 to 9 are the bytes 30h to 39h
 abbrev pub zero_digit : ℕ
@@ -38,14 +34,14 @@ value_after n [] = n
 value_after n (b ∷ bs) = value_after (n * 10 + digit b) bs
 
 -- the number that columns hold: the one whose spelling they are
-unfoldable pub number_in : List ℕ → Number
-number_in xs = let n = value_after 0 xs in cond (same (spell (length xs) n) xs) (Is n) Misspelt
+unfoldable pub number_in : List ℕ → Option ℕ
+number_in xs = let n = value_after 0 xs in cond (same (spell (length xs) n) xs) (Some n) None
 
 -- what is made of the number that columns hold, or of columns that hold none
-abbrev pub number_then : {A : Type 0} → Number → A → (ℕ → A) → A
-number_then (Is n) otherwise f = f n
-number_then Misspelt otherwise f = otherwise
+abbrev pub number_then : {A : Type 0} → Option ℕ → A → (ℕ → A) → A
+number_then (Some n) otherwise f = f n
+number_then None otherwise f = otherwise
 
 -- the two numbers that columns side by side hold
-unfoldable pub pair_in : List ℕ → List ℕ → Pair
-pair_in xs ys = number_then (number_in xs) NoPair λ a. number_then (number_in ys) NoPair λ b. Are a b
+unfoldable pub pair_in : List ℕ → List ℕ → Option (ℕ × ℕ)
+pair_in xs ys = number_then (number_in xs) None λ a. number_then (number_in ys) None λ b. Some (a, b)

@@ -1,11 +1,9 @@
 -- Document 01, "Page forms": whole, torn (a header without its closing), empty, or spoilt.
-use Rattle.std.specs.Prelude.{ℕ, Bool, false, cond, List}
+use Rattle.std.specs.Prelude.{ℕ, Bool, false, cond, List, Option, Some, None}
 use Rattle.base.specs.Part.{part}
 use Rattle.base.specs.Each.{same, all_are}
 use Rattle.page.specs.Frame.{header_size, closing_at, closing_size, closing, erased}
 use Rattle.page.specs.Header.{header_of, header_with, node_with, with_part}
-use Rattle.page.specs.declared.Header.{Header}
-use Rattle.page.specs.declared.Header.TheVariants.{Is, Invalid}
 use Rattle.page.specs.declared.Frame.{Frame}
 use Rattle.page.specs.declared.Form.{Form}
 use Rattle.page.specs.declared.Form.TheVariants.{Empty, Whole, Torn, Spoilt}
@@ -19,9 +17,9 @@ unfoldable pub closed : List ℕ → Bool
 closed page = same (part page closing_at closing_size) closing
 
 -- the form, by the header that the page starts with
-abbrev pub form_by : Header → List ℕ → Form
-form_by (Is f) page = cond (closed page) (Whole f) (Torn f)
-form_by Invalid page = cond (is_empty page) Empty Spoilt
+abbrev pub form_by : Option Frame → List ℕ → Form
+form_by (Some f) page = cond (closed page) (Whole f) (Torn f)
+form_by None page = cond (is_empty page) Empty Spoilt
 
 -- the form of a page
 unfoldable pub form_of : List ℕ → Form
@@ -38,14 +36,14 @@ second_of Spoilt = 0
 -- a whole page with a given header
 abbrev pub whole_with : Frame → Form → Bool
 whole_with h Empty = false
-whole_with h (Whole f) = header_with h (Is f)
+whole_with h (Whole f) = header_with h (Some f)
 whole_with h (Torn f) = false
 whole_with h Spoilt = false
 
 -- a whole node of a file, an offset and a key position, of any sequence
 abbrev pub whole_node : ℕ → ℕ → ℕ → Form → Bool
 whole_node file offset p Empty = false
-whole_node file offset p (Whole f) = node_with file offset p (Is f)
+whole_node file offset p (Whole f) = node_with file offset p (Some f)
 whole_node file offset p (Torn f) = false
 whole_node file offset p Spoilt = false
 

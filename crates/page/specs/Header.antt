@@ -1,13 +1,11 @@
 -- Document 01, "Page forms": the fields of a header, their ranges for each kind, and its 30 bytes.
-use Rattle.std.specs.Prelude.{ℕ, Bool, false, cond, ◌&&◌, ◌||◌, List, ◌∷◌, ◌++◌, length, get_or, eqb, leb, ltb}
+use Rattle.std.specs.Prelude.{ℕ, Bool, false, cond, ◌&&◌, ◌||◌, List, ◌∷◌, ◌++◌, length, get_or, eqb, leb, ltb, Option, Some, None}
 use Rattle.base.specs.Part.{part}
 use Rattle.base.specs.Each.{same}
 use Rattle.page.specs.Frame.{payload_size, colon_space}
 use Rattle.page.specs.Column.{spell, number_in, number_then}
 use Rattle.page.specs.Plan.{file_plan, last_file, count_of}
 use Rattle.page.specs.declared.Frame.{Frame}
-use Rattle.page.specs.declared.Header.{Header}
-use Rattle.page.specs.declared.Header.TheVariants.{Is, Invalid}
 
 -- the kind letters N, D, K, C
 abbrev pub node_letter : ℕ
@@ -147,15 +145,15 @@ abbrev pub is_event_letter : ℕ → Bool
 is_event_letter kind = eqb kind node_letter || eqb kind cut_off_letter
 
 -- the header that 30 bytes are: every field spelt right and in its range
-unfoldable pub header_of : List ℕ → Header
+unfoldable pub header_of : List ℕ → Option Frame
 header_of xs =
-    number_then (number_in (part xs number_at number_width)) Invalid λ number.
-    number_then (number_in (part xs unit_at unit_width)) Invalid λ unit.
-    number_then (number_in (part xs part_at part_width)) Invalid λ part'.
-    number_then (number_in (part xs key_at key_width)) Invalid λ key.
-    number_then (number_in (part xs second_at second_width)) Invalid λ second.
+    number_then (number_in (part xs number_at number_width)) None λ number.
+    number_then (number_in (part xs unit_at unit_width)) None λ unit.
+    number_then (number_in (part xs part_at part_width)) None λ part'.
+    number_then (number_in (part xs key_at key_width)) None λ key.
+    number_then (number_in (part xs second_at second_width)) None λ second.
     let f : Frame = record { kind = get_or xs kind_at 0; number = number; unit = unit; part = part'; key = key; second = second } in
-    cond (same (part xs colon_at (length colon_space)) colon_space && in_range f) (Is f) Invalid
+    cond (same (part xs colon_at (length colon_space)) colon_space && in_range f) (Some f) None
 
 -- ---- tests of a header
 -- the same header, field by field
@@ -164,14 +162,14 @@ same_frame f h =
     eqb f.kind h.kind && eqb f.number h.number && eqb f.unit h.unit && eqb f.part h.part && eqb f.key h.key && eqb f.second h.second
 
 -- a given header
-abbrev pub header_with : Frame → Header → Bool
-header_with h (Is f) = same_frame f h
-header_with h Invalid = false
+abbrev pub header_with : Frame → Option Frame → Bool
+header_with h (Some f) = same_frame f h
+header_with h None = false
 
 -- the header of a node of a file, an offset and a key position, of any sequence
-abbrev pub node_with : ℕ → ℕ → ℕ → Header → Bool
-node_with file offset p (Is f) = eqb f.kind node_letter && eqb f.unit file && eqb f.part offset && eqb f.key p
-node_with file offset p Invalid = false
+abbrev pub node_with : ℕ → ℕ → ℕ → Option Frame → Bool
+node_with file offset p (Some f) = eqb f.kind node_letter && eqb f.unit file && eqb f.part offset && eqb f.key p
+node_with file offset p None = false
 
 -- 30 bytes as a node with these fields has them, whatever its sequence and its second number
 abbrev pub node_spelt : ℕ → ℕ → ℕ → List ℕ → Bool
@@ -199,6 +197,6 @@ abbrev pub with_number : ℕ → Frame → Frame
 with_number n f = record { kind = f.kind; number = n; unit = f.unit; part = f.part; key = f.key; second = f.second }
 
 -- the header that another is, but for the part
-abbrev pub header_like : Header → ℕ → Header → Bool
-header_like (Is f) n h = header_with (with_part n f) h
-header_like Invalid n h = false
+abbrev pub header_like : Option Frame → ℕ → Option Frame → Bool
+header_like (Some f) n h = header_with (with_part n f) h
+header_like None n h = false

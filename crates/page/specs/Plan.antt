@@ -1,7 +1,5 @@
 -- Document 01, "File plan": how many nodes each file holds, and a node's place.
-use Rattle.std.specs.Prelude.{ℕ, zero, suc, ◌+◌, cond, List, [], ◌∷◌, get_or, ltb}
-use Rattle.page.specs.declared.Place.{Place}
-use Rattle.page.specs.declared.Place.TheVariants.{At, Outside}
+use Rattle.std.specs.Prelude.{ℕ, zero, suc, ◌+◌, cond, List, [], ◌∷◌, get_or, ltb, Option, Some, None}
 
 -- the counts of files 0 to 13
 abbrev pub file_plan : List ℕ
@@ -25,5 +23,5 @@ start_of [] (suc file) = 0
 start_of (n ∷ plan) (suc file) = n + start_of plan file
 
 -- a node's place: its offset after all earlier files; none where its file has no such offset
-unfoldable pub place_of : List ℕ → ℕ → ℕ → Place
-place_of plan file offset = cond (ltb offset (count_of plan file)) (At (start_of plan file + offset)) Outside
+unfoldable pub place_of : List ℕ → ℕ → ℕ → Option ℕ
+place_of plan file offset = cond (ltb offset (count_of plan file)) (Some (start_of plan file + offset)) None

@@ -5,7 +5,7 @@ ghost use Rattle.base.specs.Each.{same};
 ghost use Rattle.page.specs.Word.{word_bytes};
 ghost use Rattle.page.specs.Column.{spell, value_after, number_in, number_then, pair_in};
 
-use crate::{Number, Pair, bytes, words};
+use crate::{bytes, words};
 
 const SPACE: u8 = 0x20;
 
@@ -86,6 +86,8 @@ fn counted(x: u32, p: u32, c: u32) -> u32
 }
 
 // The same of a longer word.
+// Stays (2): numbers have 32 bits but for those from 10,000 on (DECISIONS, "The machine"). A trait of both types would have a
+// body for each of +, -, * and < and a law of it, which is longer than these two functions.
 fn less_long(w: u64, p: u64, c: u64) -> u64
     requires { c ≤ p }
     ensures { result ≡ cond (ltb w p) w (w - p + c) }
@@ -116,6 +118,7 @@ fn two_digits(n: u32) -> u32
 }
 
 // The same of a number below 1,000, in the last three.
+// Stays (2): with the function for four digits alone a write takes 6 % more instructions and a cut-off 14 %.
 fn three_digits(n: u32) -> u32
     requires { n < 1000 }
     ensures { result ≡ n / 100 * 0x100 + n % 100 / 10 * 0x10000 + n % 10 * 0x1000000 }
@@ -150,6 +153,8 @@ fn spelt_short(n: u32) -> u32
 }
 
 // The same of a number of three or four digits.
+// Stays (2): in one function with spelt_short and spelt4, which stands in line where it is called, a cut-off took 2 to 4 %
+// more instructions, which misses the bar of speed, and a commit on a small image 5 %.
 fn spelt_middle(n: u32) -> u32
     requires { (100 ≤ n) × (n < 10_000) }
     ensures { word_bytes 4 result ≡ spell 4 n }
@@ -210,6 +215,7 @@ fn spelt_long(n: u32) -> u64
 }
 
 // Four columns of any number, as one word: of a longer one its last four digits.
+// Stays (2): by spelt4 a cut-off took 14 % more instructions, and 2 to 4 % where that one is put in line.
 fn spelt_low(n: u32) -> u32
     ensures { word_bytes 4 result ≡ spell 4 n }
 {
@@ -237,19 +243,20 @@ fn twelve(n: u32) -> [u8; 12]
     ensures { result ≡ spell 12 n }
 {
     let mut columns = [SPACE; 12];
-    put8(&mut columns, 4, n);
+    put_columns::<8>(&mut columns, 4, n);
     if 100_000_000 <= n {
         let x = hundred_millions(n);
-        put4(&mut columns, 0, (x & BELOW_LONG) as u32);
+        put_columns::<4>(&mut columns, 0, (x & BELOW_LONG) as u32);
     }
     columns
 }
 
-// Writes n into the w columns of dst.
-pub(crate) fn put(dst: &mut [u8], w: usize, n: u32)
-    requires { (length dst.old ≡ w) × (1 ≤ w) }
-    ensures { dst.new ≡ spell w n }
+// Writes n into the columns of dst.
+pub(crate) fn put(dst: &mut [u8], n: u32)
+    requires { 1 ≤ length dst.old }
+    ensures { dst.new ≡ spell (length dst.old) n }
 {
+    let w = dst.len();
     let columns = twelve(n);
     if w <= 12 {
         bytes::copy(dst, &columns[12 - w..]);
@@ -264,31 +271,19 @@ pub fn put_at(dst: &mut [u8], at: usize, w: usize, n: u32)
     requires { (at + w ≤ length dst.old) × (1 ≤ w) }
     ensures { dst.new ≡ splice dst.old at (spell w n) }
 {
-    put(&mut dst[at..at + w], w, n);
+    put(&mut dst[at..at + w], n);
 }
 
-// Writes n into the three columns of dst from at on: the last three of four.
-pub(crate) fn put3(dst: &mut [u8], at: usize, n: u32)
-    requires { at + 3 ≤ length dst.old }
-    ensures { dst.new ≡ splice dst.old at (spell 3 n) }
+// Writes n into the N columns of dst from at on: the last of four, or of eight.
+pub(crate) fn put_columns<const N: usize>(dst: &mut [u8], at: usize, n: u32)
+    requires { (at + N ≤ length dst.old) × (1 ≤ N) × (N ≤ 8) }
+    ensures { dst.new ≡ splice dst.old at (spell N n) }
 {
-    words::put_word3(dst, at, spelt_low(n) >> 8);
-}
-
-// Writes n into the four columns of dst from at on.
-pub(crate) fn put4(dst: &mut [u8], at: usize, n: u32)
-    requires { at + 4 ≤ length dst.old }
-    ensures { dst.new ≡ splice dst.old at (spell 4 n) }
-{
-    words::put_word4(dst, at, spelt_low(n));
-}
-
-// Writes n into the eight columns of dst from at on.
-pub(crate) fn put8(dst: &mut [u8], at: usize, n: u32)
-    requires { at + 8 ≤ length dst.old }
-    ensures { dst.new ≡ splice dst.old at (spell 8 n) }
-{
-    words::put_word8(dst, at, spelt8(n));
+    if N <= 4 {
+        bytes::copy(&mut dst[at..at + N], &spelt_low(n).to_le_bytes()[4 - N..]);
+    } else {
+        bytes::copy(&mut dst[at..at + N], &spelt8(n).to_le_bytes()[8 - N..]);
+    }
 }
 
 // Whether the eight columns of a word hold a number from 1 on: below the lowest digit that is not 0 spaces, above it digits.
@@ -317,48 +312,31 @@ fn value_of(v: u64) -> u32
 }
 
 // The number that the eight columns of a word hold.
-fn number_of(v: u64) -> Number
+fn number_of(v: u64) -> Option<u32>
     ensures { result ≡ number_in (word_bytes 8 v) }
 {
     if v == SPELT_ZERO {
-        return Number::Is(0);
+        return Some(0);
     }
     if !is_counted(v) {
-        return Number::Misspelt;
+        return None;
     }
-    Number::Is(value_of(v))
+    Some(value_of(v))
 }
 
-// The number that the eight columns of src from at on hold.
-pub(crate) fn get8(src: &[u8], at: usize) -> Number
-    requires { at + 8 ≤ length src.now }
-    ensures { result ≡ number_in (part src.now at 8) }
+// The number that the N columns of src from at on hold, as eight columns with spaces before them.
+pub(crate) fn get<const N: usize>(src: &[u8], at: usize) -> Option<u32>
+    requires { (at + N ≤ length src.now) × (1 ≤ N) × (N ≤ 8) }
+    ensures { result ≡ number_in (part src.now at N) }
 {
-    number_of(words::word8(src, at))
-}
-
-// The number that the four columns of src from at on hold, as eight columns with spaces before them.
-pub(crate) fn get4(src: &[u8], at: usize) -> Number
-    requires { at + 4 ≤ length src.now }
-    ensures { result ≡ number_in (part src.now at 4) }
-{
-    number_of(words::eight(SPACES, words::word4(src, at)))
-}
-
-// The number that the three columns of src from at on hold, in the same way.
-pub(crate) fn get3(src: &[u8], at: usize) -> Number
-    requires { at + 3 ≤ length src.now }
-    ensures { result ≡ number_in (part src.now at 3) }
-{
-    number_of(words::eight(
-        SPACES,
-        words::four(SPACE, src[at], src[at + 1], src[at + 2]),
-    ))
+    let mut columns = [SPACE; 8];
+    bytes::copy(&mut columns[8 - N..], bytes::array_at::<N>(src, at));
+    number_of(u64::from_le_bytes(columns))
 }
 
 // The numbers that two words of four columns hold, worked out as one word. In each, spaces stand before the first digit
 // that is not 0, or up to the last column, and digits from there on.
-pub(crate) fn pair_of(low: u32, high: u32) -> Pair
+pub(crate) fn pair_of(low: u32, high: u32) -> Option<(u32, u32)>
     ensures { result ≡ pair_in (word_bytes 4 low) (word_bytes 4 high) }
 {
     let changed = words::eight(low, high) ^ ZEROS;
@@ -369,13 +347,13 @@ pub(crate) fn pair_of(low: u32, high: u32) -> Pair
     let before = (marked ^ (marked - FIRST_BITS)) & SPACE_BITS;
     let right = (over & HIGH_HALVES == 0) & (spaces == before);
     if !right {
-        return Pair::Misspelt;
+        return None;
     }
     let pairs = ((digits & EVEN_BYTES) * 10 + (digits >> 8)) & EVEN_BYTES;
     let fours = ((pairs & EVEN_PAIRS) * 100 + (pairs >> 16)) & EVEN_PAIRS;
     let first = (fours & FIRST_HALF) as u32;
     let second = (fours >> 32) as u32;
-    Pair::Are(first, second)
+    Some((first, second))
 }
 
 // Whether two words of four columns hold these numbers.
@@ -383,7 +361,7 @@ pub(crate) fn hold(low: u32, high: u32, a: u32, b: u32) -> bool
     requires { (a < 10_000) × (b < 10_000) }
     ensures { result ≡ same (word_bytes 4 low) (spell 4 a) && same (word_bytes 4 high) (spell 4 b) }
 {
-    let Pair::Are(first, second) = pair_of(low, high) else {
+    let Some((first, second)) = pair_of(low, high) else {
         return false;
     };
     (first == a) & (second == b)

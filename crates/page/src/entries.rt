@@ -5,12 +5,15 @@ ghost use Rattle.base.specs.Each.{same};
 ghost use Rattle.base.specs.Search.{all_from};
 ghost use Rattle.page.specs.Frame.{payload_size};
 ghost use Rattle.page.specs.Plan.{places};
-ghost use Rattle.page.specs.Key.{positions};
 ghost use Rattle.page.specs.Entry.{none, is_letter, vacant_entry, entry_size, entries_in_part, parts, entry_bytes, entry_of, is_entry, entries_from, commit_payload, valid_payload};
 
-use crate::{Entry, Frame, Pair, bytes, columns, keys, plan, words};
+use crate::frames::Payload;
+use crate::keys::Letters;
+use crate::plan::Map;
+use crate::{Entry, Frame, bytes, columns, keys, plan, words};
 
 // The letters of a key position: free, used, deleted.
+// Stays (1): C keeps and lends the list of them, a letter for each position (johvimaru.h).
 pub const FREE: u8 = b'f';
 
 pub const USED: u8 = b'u';
@@ -18,6 +21,7 @@ pub const USED: u8 = b'u';
 pub const DELETED: u8 = b'd';
 
 // None, in a map.
+// Stays (1): C keeps and lends the map, with 65,535 where there is none (johvimaru.h).
 pub const NONE: u16 = 65_535;
 
 // A commit has 10 parts.
@@ -30,10 +34,8 @@ pub const ENTRIES_IN_PART: usize = 28;
 
 pub const FIRST_ENTRY_PART: usize = 2;
 
-// Four numbers of a map taken as one, each of them none, and the bytes of four entries.
+// Four numbers of a map taken as one, each of them none.
 const FOUR_NONE: u64 = 0xffffffffffffffff;
-
-const FOUR_ENTRIES: usize = 4 * ENTRY_SIZE;
 
 // Where the columns of its page and of its key start.
 const PAGE_AT: usize = 0;
@@ -51,36 +53,33 @@ pub fn is_letter(b: u8) -> bool
 }
 
 // Writes the entry of a page and a key, as a map has them.
-pub fn write_entry(dst: &mut [u8], page: u16, key: u16)
-    requires { length dst.old ≡ entry_size }
+pub fn write_entry(dst: &mut [u8; ENTRY_SIZE], page: u16, key: u16)
     ensures { dst.new ≡ entry_bytes page key }
 {
     if page == NONE {
-        bytes::copy(dst, b"   -   -");
+        *dst = *b"   -   -";
     } else {
-        columns::put4(dst, PAGE_AT, page as u32);
-        columns::put4(dst, KEY_AT, key as u32);
+        columns::put_columns::<4>(dst, PAGE_AT, page as u32);
+        columns::put_columns::<4>(dst, KEY_AT, key as u32);
     }
 }
 
 // Whether 8 bytes are the vacant entry.
-fn is_vacant(src: &[u8]) -> bool
-    requires { length src.now ≡ entry_size }
+fn is_vacant(src: &[u8; ENTRY_SIZE]) -> bool
     ensures { result ≡ same src.now vacant_entry }
 {
-    words::same8(src, 0, b"   -   -", 0)
+    words::same::<8>(src, 0, b"   -   -", 0)
 }
 
 // The entry that 8 bytes are.
-pub fn read_entry(src: &[u8]) -> Entry
-    requires { length src.now ≡ entry_size }
+pub fn read_entry(src: &[u8; ENTRY_SIZE]) -> Entry
     ensures { result ≡ entry_of src.now }
 {
     if is_vacant(src) {
         return Entry::Vacant;
     }
     let numbers = columns::pair_of(words::word4(src, PAGE_AT), words::word4(src, KEY_AT));
-    let Pair::Are(page, key) = numbers else {
+    let Some((page, key)) = numbers else {
         return Entry::Misspelt;
     };
     if LAST_PAGE < page {
@@ -93,14 +92,15 @@ pub fn read_entry(src: &[u8]) -> Entry
 }
 
 // The entry at byte at of a payload.
-pub fn entry_at(payload: &[u8], at: usize) -> Entry
-    requires { (length payload.now ≡ payload_size) × (at + entry_size ≤ payload_size) }
+pub fn entry_at(payload: &Payload, at: usize) -> Entry
+    requires { at + entry_size ≤ payload_size }
     ensures { result ≡ entry_of (part payload.now at entry_size) }
 {
-    read_entry(&payload[at..at + ENTRY_SIZE])
+    read_entry(bytes::array_at(payload, at))
 }
 
 // Whether four numbers of a map are none: they are looked at as one.
+// Stays (4): with starts_with the test whether a record fits takes a fifth more instructions.
 fn are_none(a: u16, b: u16, c: u16, d: u16) -> bool
     ensures { result ≡ eqb a none && (eqb b none && (eqb c none && eqb d none)) }
 {
@@ -119,42 +119,25 @@ pub fn all_none(map: &[u16], at: usize) -> bool
     are_none(map[at], map[at + 1], map[at + 2], map[at + 3])
 }
 
-// Writes the entries of four places. Where all are vacant that is one string.
-fn write_four(dst: &mut [u8], map: &[u16], x: usize)
-    requires { (length dst.old ≡ 4 * entry_size) × (length map.now ≡ places + places) × (x + 4 ≤ places) }
-    ensures { dst.new ≡ entries_from map.now 4 x }
-{
-    if all_none(map, x) {
-        bytes::copy(dst, b"   -   -   -   -   -   -   -   -");
-        return;
-    }
-    let mut j = 0;
-    while j < 4 {
-        let at = ENTRY_SIZE * j;
-        let y = x + j;
-        write_entry(&mut dst[at..at + ENTRY_SIZE], map[y], map[plan::PLACES + y]);
-        j += 1;
-    }
-}
-
 // Writes the entries of a map's places from first on, as many as a part holds.
-fn write_entries(dst: &mut [u8], map: &[u16], first: usize)
-    requires { (length dst.old
-        ≡ payload_size) × (length map.now ≡ places + places) × (first + entries_in_part ≤ places) }
+fn write_entries(dst: &mut Payload, map: &Map, first: usize)
+    requires { first + entries_in_part ≤ places }
     ensures { dst.new ≡ entries_from map.now entries_in_part first }
 {
-    let mut j = 0;
-    while j < ENTRIES_IN_PART {
-        let at = ENTRY_SIZE * j;
-        write_four(&mut dst[at..at + FOUR_ENTRIES], map, first + j);
-        j += 4;
+    for j in 0..ENTRIES_IN_PART {
+        let y = first + j;
+        let (_, rest) = dst.split_at_mut(ENTRY_SIZE * j);
+        write_entry(
+            rest.first_chunk_mut().unwrap(),
+            map[y],
+            map[plan::PLACES + y],
+        );
     }
 }
 
 // Writes the payload of a commit's part i.
-pub fn write_commit_payload(dst: &mut [u8], map: &[u16], letters: &[u8], i: usize)
-    requires { (length dst.old
-        ≡ payload_size) × (length map.now ≡ places + places) × (length letters.now ≡ positions) × (i < parts) }
+pub fn write_commit_payload(dst: &mut Payload, map: &Map, letters: &Letters, i: usize)
+    requires { i < parts }
     ensures { dst.new ≡ commit_payload map.now letters.now i }
 {
     if i < FIRST_ENTRY_PART {
@@ -165,70 +148,56 @@ pub fn write_commit_payload(dst: &mut [u8], map: &[u16], letters: &[u8], i: usiz
     }
 }
 
-// Whether every byte of a payload is a letter.
-fn all_letters(payload: &[u8]) -> bool
-    requires { length payload.now ≡ payload_size }
+// Whether every byte of a payload is a letter. The loop has no other way out, so that it goes over many bytes at once.
+fn all_letters(payload: &Payload) -> bool
     ensures { result ≡ all_from (λ j. is_letter (get_or payload.now j 0)) payload_size 0 }
 {
     let mut all = true;
-    let mut j = 0;
-    while j < Frame::PAYLOAD {
-        all = all & is_letter(payload[j]);
-        j += 1;
+    for b in payload {
+        all &= is_letter(*b);
     }
     all
 }
 
-// Whether 8 bytes are an entry. Most are vacant.
-fn is_entry(src: &[u8]) -> bool
-    requires { length src.now ≡ entry_size }
+// Whether 8 bytes are an entry.
+fn is_entry(src: &[u8; ENTRY_SIZE]) -> bool
     ensures { result ≡ is_entry (entry_of src.now) }
 {
-    if is_vacant(src) {
-        return true;
-    }
-    match read_entry(src) {
-        Entry::At(_, _) => true,
-        Entry::Vacant => true,
-        Entry::Misspelt => false,
-    }
+    !matches!(read_entry(src), Entry::Misspelt)
 }
 
 // Whether every entry of a payload is vacant: the first is, and each byte is as the one an entry before it.
-pub fn all_vacant(payload: &[u8]) -> bool
-    requires { length payload.now ≡ payload_size }
+pub fn all_vacant(payload: &Payload) -> bool
     ensures { result
         ≡ all_from (λ j. same (part payload.now (entry_size * j) entry_size) vacant_entry) entries_in_part 0 }
 {
     bytes::same(
         &payload[ENTRY_SIZE..Frame::PAYLOAD],
         &payload[0..Frame::PAYLOAD - ENTRY_SIZE],
-    ) & words::same8(payload, 0, b"   -   -", 0)
+    ) & words::same::<8>(payload, 0, b"   -   -", 0)
 }
 
 // Whether a payload holds entries throughout. Most hold vacant ones only.
-fn all_entries(payload: &[u8]) -> bool
-    requires { length payload.now ≡ payload_size }
+// Stays (3): with all over chunks_exact, and over the arrays of as_chunks, the proof did not close: the search gave up at
+// what all says of the run of its iterator.
+fn all_entries(payload: &Payload) -> bool
     ensures { result
         ≡ all_from (λ j. is_entry (entry_of (part payload.now (entry_size * j) entry_size))) entries_in_part 0 }
 {
     if all_vacant(payload) {
         return true;
     }
-    let mut j = 0;
-    while j < ENTRIES_IN_PART {
+    for j in 0..ENTRIES_IN_PART {
         let at = ENTRY_SIZE * j;
-        if !is_entry(&payload[at..at + ENTRY_SIZE]) {
+        if !is_entry(bytes::array_at(payload, at)) {
             return false;
         }
-        j += 1;
     }
     true
 }
 
 // Whether a payload is valid as that of a commit's part i.
-pub fn valid_payload(payload: &[u8], i: usize) -> bool
-    requires { length payload.now ≡ payload_size }
+pub fn valid_payload(payload: &Payload, i: usize) -> bool
     ensures { result ≡ valid_payload i payload.now }
 {
     if i < FIRST_ENTRY_PART {

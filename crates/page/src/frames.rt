@@ -4,6 +4,13 @@ ghost use Rattle.page.specs.Header.{node_frame, cut_off_frame, keys_frame, commi
 
 use crate::Frame;
 
+// The bytes of a page, of its header and of its payload.
+pub type Page = [u8; Frame::PAGE];
+
+pub type Header = [u8; Frame::HEADER];
+
+pub type Payload = [u8; Frame::PAYLOAD];
+
 impl Frame {
     // The size of a page and of its header and payload, and where its closing starts.
     pub const PAGE: usize = 256;

@@ -1,14 +1,15 @@
 // Headers: the ranges of their fields, their 30 bytes, and the header that 30 bytes are.
-ghost use Rattle.std.specs.Prelude.{◌≡◌, true, ◌<◌, length, get_or};
+ghost use Rattle.std.specs.Prelude.{◌≡◌, true, ◌<◌, get_or};
 ghost use Rattle.base.specs.Part.{part, splice};
 ghost use Rattle.base.specs.Each.{same};
-ghost use Rattle.page.specs.Frame.{header_size, page_size, colon_space};
+ghost use Rattle.page.specs.Frame.{header_size, colon_space};
 ghost use Rattle.page.specs.Header.{last_number, is_kind, is_event_letter, kind_at, within, in_plan, node_ranges, cut_off_ranges, keys_ranges, commit_ranges, in_range, node_frame, header_bytes, header_of, node_spelt, second_right, key_at, key_width, second_at, second_width, second_last_at, unit_at, unit_width, part_at, part_width, with_part, header_like};
 ghost use Rattle.page.specs.Word.{word_bytes};
 ghost use Rattle.page.specs.Column.{spell, pair_in};
 ghost use Rattle.page.specs.declared.Frame.{Frame as HeaderFrame};
 
-use crate::{Frame, Header, Number, Pair, bytes, columns, keys, plan, words};
+use crate::frames::{Header, Page};
+use crate::{Frame, bytes, columns, keys, plan, words};
 
 // Where the kind letter stands, where each number's columns start, and where colon and space follow them. Number and second
 // have eight columns, the unit three, part and key four.
@@ -94,22 +95,18 @@ fn is_commit(f: Frame) -> bool
 pub fn in_range(f: Frame) -> bool
     ensures { result ≡ in_range f }
 {
-    if f.kind == Frame::NODE_LETTER {
-        return is_node(f);
+    match f.kind {
+        Frame::NODE_LETTER => is_node(f),
+        Frame::CUT_OFF_LETTER => is_cut_off(f),
+        Frame::KEYS_LETTER => is_keys(f),
+        Frame::COMMIT_LETTER => is_commit(f),
+        _ => false,
     }
-    if f.kind == Frame::CUT_OFF_LETTER {
-        return is_cut_off(f);
-    }
-    if f.kind == Frame::KEYS_LETTER {
-        return is_keys(f);
-    }
-    if f.kind == Frame::COMMIT_LETTER {
-        return is_commit(f);
-    }
-    false
 }
 
 // The same of a node or a cut-off.
+// Stays (2): with in_range in its place a mount of a small image full of nodes takes 7 % more instructions, and a cut-off
+// misses the bar of speed.
 fn event_in_range(f: Frame) -> bool
     requires { is_event_letter f.kind ≡ true }
     ensures { result ≡ in_range f }
@@ -121,15 +118,14 @@ fn event_in_range(f: Frame) -> bool
 }
 
 // Writes the header of f into the 30 bytes of dst.
-pub fn write_header(dst: &mut [u8], f: Frame)
-    requires { length dst.old ≡ header_size }
+pub fn write_header(dst: &mut Header, f: Frame)
     ensures { dst.new ≡ header_bytes f }
 {
-    columns::put8(dst, NUMBER_AT, f.number);
-    columns::put3(dst, UNIT_AT, f.unit);
-    columns::put4(dst, PART_AT, f.part);
-    columns::put4(dst, KEY_AT, f.key);
-    columns::put8(dst, SECOND_AT, f.second);
+    columns::put_columns::<8>(dst, NUMBER_AT, f.number);
+    columns::put_columns::<3>(dst, UNIT_AT, f.unit);
+    columns::put_columns::<4>(dst, PART_AT, f.part);
+    columns::put_columns::<4>(dst, KEY_AT, f.key);
+    columns::put_columns::<8>(dst, SECOND_AT, f.second);
     bytes::copy(&mut dst[END_AT..Frame::HEADER], b": ");
     dst[KIND_AT] = f.kind;
 }
@@ -145,26 +141,16 @@ fn is_kind(b: u8) -> bool
 }
 
 // The header that 30 bytes are which end in colon and space.
-fn read_fields(src: &[u8]) -> Header
-    requires { (length src.now ≡ header_size) × (same (part src.now 28 2) colon_space ≡ true) }
+fn read_fields(src: &Header) -> Option<Frame>
+    requires { same (part src.now 28 2) colon_space ≡ true }
     ensures { result ≡ header_of src.now }
 {
     let kind = src[KIND_AT];
-    let Number::Is(number) = columns::get8(src, NUMBER_AT) else {
-        return Header::Invalid;
-    };
-    let Number::Is(unit) = columns::get3(src, UNIT_AT) else {
-        return Header::Invalid;
-    };
-    let Number::Is(part) = columns::get4(src, PART_AT) else {
-        return Header::Invalid;
-    };
-    let Number::Is(key) = columns::get4(src, KEY_AT) else {
-        return Header::Invalid;
-    };
-    let Number::Is(second) = columns::get8(src, SECOND_AT) else {
-        return Header::Invalid;
-    };
+    let number = columns::get::<8>(src, NUMBER_AT)?;
+    let unit = columns::get::<3>(src, UNIT_AT)?;
+    let part = columns::get::<4>(src, PART_AT)?;
+    let key = columns::get::<4>(src, KEY_AT)?;
+    let second = columns::get::<8>(src, SECOND_AT)?;
     let f = Frame {
         kind,
         number,
@@ -173,30 +159,25 @@ fn read_fields(src: &[u8]) -> Header
         key,
         second,
     };
-    if in_range(f) {
-        Header::Is(f)
-    } else {
-        Header::Invalid
-    }
+    in_range(f).then_some(f)
 }
 
 // The header that 30 bytes are. The kind letter and the end are looked at first: most bytes that are no header fail there.
-pub(crate) fn read_header(src: &[u8]) -> Header
-    requires { length src.now ≡ header_size }
+pub(crate) fn read_header(src: &Header) -> Option<Frame>
     ensures { result ≡ header_of src.now }
 {
     if !is_kind(src[KIND_AT]) {
-        return Header::Invalid;
+        return None;
     }
-    if !bytes::same(&src[END_AT..Frame::HEADER], b": ") {
-        return Header::Invalid;
+    let ends = words::same::<2>(src, END_AT, b": ", 0);
+    if !ends {
+        return None;
     }
     read_fields(src)
 }
 
 // File and offset of a node's or a cut-off's header: the file's columns with a space before them, so that both have four.
-fn read_place(src: &[u8]) -> Pair
-    requires { length src.now ≡ header_size }
+fn read_place(src: &Header) -> Option<(u32, u32)>
     ensures { result ≡ pair_in (part src.now unit_at unit_width) (part src.now part_at part_width) }
 {
     let file = words::four(b' ', src[UNIT_AT], src[UNIT_AT + 1], src[UNIT_AT + 2]);
@@ -205,41 +186,34 @@ fn read_place(src: &[u8]) -> Pair
 
 // Key position and second number of a node's or a cut-off's header, of the second number the last four columns. That of the
 // longest payload is told at once.
-fn read_key(src: &[u8]) -> Pair
-    requires { length src.now ≡ header_size }
+fn read_key(src: &Header) -> Option<(u32, u32)>
     ensures { result ≡ pair_in (part src.now key_at key_width) (part src.now second_last_at 4) }
 {
     let last = words::word4(src, Frame::SECOND_LAST_AT);
     if last != SPELT_LONGEST4 {
         return columns::pair_of(words::word4(src, KEY_AT), last);
     }
-    let Pair::Are(key, _) = columns::pair_of(words::word4(src, KEY_AT), columns::SPELT_ZERO4) else {
-        return Pair::Misspelt;
-    };
-    Pair::Are(key, Frame::LONGEST)
+    let (key, _) = columns::pair_of(words::word4(src, KEY_AT), columns::SPELT_ZERO4)?;
+    Some((key, Frame::LONGEST))
 }
 
 // The header that 30 bytes are whose kind letter is that of a node or a cut-off: the second number is below 10,000, so that
 // its first four columns are spaces.
-pub(crate) fn read_event(src: &[u8]) -> Header
-    requires { (length src.now ≡ header_size) × (is_event_letter (get_or src.now kind_at 0) ≡ true) }
+// Stays (2): read_header gives the same, and takes half as many instructions again at such a page. Where it went by the letter
+// itself, a mount of a small image full of nodes took a fifth more.
+pub(crate) fn read_event(src: &Header) -> Option<Frame>
+    requires { is_event_letter (get_or src.now kind_at 0) ≡ true }
     ensures { result ≡ header_of src.now }
 {
     if !words::is_word4(src, SECOND_AT, columns::SPACES) {
-        return Header::Invalid;
+        return None;
     }
-    if !words::same2(src, END_AT, b": ", 0) {
-        return Header::Invalid;
+    if !words::same::<2>(src, END_AT, b": ", 0) {
+        return None;
     }
-    let Number::Is(number) = columns::get8(src, NUMBER_AT) else {
-        return Header::Invalid;
-    };
-    let Pair::Are(unit, part) = read_place(src) else {
-        return Header::Invalid;
-    };
-    let Pair::Are(key, second) = read_key(src) else {
-        return Header::Invalid;
-    };
+    let number = columns::get::<8>(src, NUMBER_AT)?;
+    let (unit, part) = read_place(src)?;
+    let (key, second) = read_key(src)?;
     let kind = src[KIND_AT];
     let f = Frame {
         kind,
@@ -249,46 +223,40 @@ pub(crate) fn read_event(src: &[u8]) -> Header
         key,
         second,
     };
-    if event_in_range(f) {
-        Header::Is(f)
-    } else {
-        Header::Invalid
-    }
+    event_in_range(f).then_some(f)
 }
 
 // Whether the file's columns of a header are those of a file, which are given as they are spelt.
-fn is_file(src: &[u8], file: u32, text: u32) -> bool
-    requires { (length src.now ≡ header_size) × (word_bytes 4 text ≡ spell 4 file) }
+fn is_file(src: &Header, file: u32, text: u32) -> bool
+    requires { word_bytes 4 text ≡ spell 4 file }
     ensures { result ≡ same (part src.now unit_at unit_width) (spell unit_width file) }
 {
     words::word4(src, UNIT_AT - 1) >> 8 == text >> 8
 }
 
 // Whether a header's second number is one that a node may have.
-fn is_second(src: &[u8]) -> bool
-    requires { length src.now ≡ header_size }
+fn is_second(src: &Header) -> bool
     ensures { result ≡ second_right (part src.now second_at second_width) }
 {
     if !words::is_word4(src, SECOND_AT, columns::SPACES) {
         return false;
     }
     let second = words::word4(src, Frame::SECOND_LAST_AT);
-    let Pair::Are(n, _) = columns::pair_of(second, columns::SPELT_ZERO4) else {
+    let Some((n, _)) = columns::pair_of(second, columns::SPELT_ZERO4) else {
         return false;
     };
     n <= Frame::LONGEST
 }
 
 // The columns of the second number in a page's header, if a node may have it, else those of 224.
-pub fn second_columns(page: &[u8]) -> u64
-    requires { length page.now ≡ page_size }
+pub fn second_columns(page: &Page) -> u64
     ensures { second_right (word_bytes 8 result) ≡ true }
 {
     let columns = words::word8(page, SECOND_AT);
     if columns == SPELT_LONGEST {
         return SPELT_LONGEST;
     }
-    if is_second(&page[0..Frame::HEADER]) {
+    if is_second(bytes::array_at(page, 0)) {
         return columns;
     }
     SPELT_LONGEST
@@ -296,8 +264,8 @@ pub fn second_columns(page: &[u8]) -> u64
 
 // Whether a header's second number is one that a node may have. It is read only where its columns are other than these, which
 // are known to hold such a number.
-pub(crate) fn has_second(src: &[u8], known: u64) -> bool
-    requires { (length src.now ≡ header_size) × (second_right (word_bytes 8 known) ≡ true) }
+pub(crate) fn has_second(src: &Header, known: u64) -> bool
+    requires { second_right (word_bytes 8 known) ≡ true }
     ensures { result ≡ second_right (part src.now second_at second_width) }
 {
     if words::word8(src, SECOND_AT) == known {
@@ -308,9 +276,8 @@ pub(crate) fn has_second(src: &[u8], known: u64) -> bool
 
 // Whether 30 bytes are spelt as the header of a node with these fields, whatever their sequence and second number. The file's
 // columns are given as they are spelt.
-pub(crate) fn is_node_of(src: &[u8], file: u32, text: u32, offset: u32, position: u32) -> bool
-    requires { (length src.now ≡ header_size) × (in_range (node_frame 1 file offset position 0) ≡ true)
-        × (word_bytes 4 text ≡ spell 4 file) }
+pub(crate) fn is_node_of(src: &Header, file: u32, text: u32, offset: u32, position: u32) -> bool
+    requires { (in_range (node_frame 1 file offset position 0) ≡ true) × (word_bytes 4 text ≡ spell 4 file) }
     ensures { result ≡ node_spelt file offset position src.now }
 {
     let named = is_file(src, file, text)
@@ -324,37 +291,35 @@ pub(crate) fn is_node_of(src: &[u8], file: u32, text: u32, offset: u32, position
         return false;
     }
     (src[KIND_AT] == Frame::NODE_LETTER)
-        & words::same2(src, END_AT, b": ", 0)
+        & words::same::<2>(src, END_AT, b": ", 0)
         & columns::is_counted(words::word8(src, NUMBER_AT))
 }
 
 // Whether 30 bytes are the header that first are, but for the part: all others are compared with theirs.
-pub(crate) fn is_header_like(first: &[u8], src: &[u8], part: u32) -> bool
-    requires first_len { (length first.now ≡ header_size) × (length src.now ≡ header_size) × (part < 10_000) }
-    requires first_value { (f : HeaderFrame) × (header_of first.now ≡ Header.Is f) × (in_range (with_part part f) ≡ true) }
+pub(crate) fn is_header_like(first: &Header, src: &Header, part: u32) -> bool
+    requires part_bound { part < 10_000 }
+    requires first_value { (f : HeaderFrame) × (header_of first.now ≡ Some f) × (in_range (with_part part f) ≡ true) }
     ensures { result ≡ header_like (header_of first.now) part (header_of src.now) }
 {
-    words::same8(src, 0, first, 0)
-        & words::same4(src, 8, first, 8)
+    words::same::<8>(src, 0, first, 0)
+        & words::same::<4>(src, 8, first, 8)
         & words::is_word4(src, PART_AT, columns::spelt4(part))
-        & words::same8(src, KEY_AT, first, KEY_AT)
-        & words::same4(src, 24, first, 24)
-        & words::same2(src, END_AT, first, END_AT)
+        & words::same::<8>(src, KEY_AT, first, KEY_AT)
+        & words::same::<4>(src, 24, first, 24)
+        & words::same::<2>(src, END_AT, first, END_AT)
 }
 
 // Puts a part into the 30 bytes of a header.
-fn put_part(dst: &mut [u8], part: u32)
-    requires { (length dst.old ≡ header_size) × (part < 10_000) }
+fn put_part(dst: &mut Header, part: u32)
     ensures { dst.new ≡ splice dst.old part_at (spell part_width part) }
 {
-    columns::put4(dst, PART_AT, part);
+    columns::put_columns::<4>(dst, PART_AT, part);
 }
 
 // Writes 30 bytes of a header, with another part, into dst.
-pub(crate) fn write_header_like(dst: &mut [u8], header: &[u8], part: u32)
-    requires { (length dst.old ≡ header_size) × (length header.now ≡ header_size) × (part < 10_000) }
+pub(crate) fn write_header_like(dst: &mut Header, header: &Header, part: u32)
     ensures { dst.new ≡ splice header.now part_at (spell part_width part) }
 {
-    bytes::copy(dst, header);
+    *dst = *header;
     put_part(dst, part);
 }

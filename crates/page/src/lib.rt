@@ -12,22 +12,9 @@ pub mod plan;
 mod words;
 pub mod writers;
 
-// What columns hold.
-#[derive(Clone, Copy)]
-pub enum Number {
-    Is(u32),
-    Misspelt,
-}
-
-// What eight columns hold as two numbers, four columns each.
-#[derive(Clone, Copy)]
-pub enum Pair {
-    Are(u32, u32),
-    Misspelt,
-}
-
 // What stands around a page's payload: the fields of its header. The closing is the same on every page.
-#[derive(Clone, Copy)]
+// Stays (1): kind is the letter itself. A header begins with it: header_bytes puts it there as it is, and theorems compare it.
+#[derive(Clone, Copy, PartialEq, Eq)]
 pub struct Frame {
     pub kind: u8,
     pub number: u32,
@@ -35,13 +22,6 @@ pub struct Frame {
     pub part: u32,
     pub key: u32,
     pub second: u32,
-}
-
-// What 30 bytes are as a header.
-#[derive(Clone, Copy)]
-pub enum Header {
-    Is(Frame),
-    Invalid,
 }
 
 // A page's form.
@@ -53,14 +33,9 @@ pub enum Form {
     Spoilt,
 }
 
-// A node's place in the file plan.
-#[derive(Clone, Copy)]
-pub enum Place {
-    At(usize),
-    Outside,
-}
-
 // What 8 bytes are as an entry of a commit: a page and a key position, or none.
+// Stays (1): a vacant entry is a right one, and a misspelt one is told from it in one match; as a result of an option each
+// kind would take two words, Ok(Some((page, key))), Ok(None) and Err(Misspelt), where it has its name here.
 #[derive(Clone, Copy)]
 pub enum Entry {
     At(u32, u32),

@@ -10,30 +10,23 @@ pub const PLACES: usize = 224;
 // A map has a page and a key for each place.
 pub const MAP_SIZE: usize = PLACES + PLACES;
 
-// How many nodes a file holds; none where there is no such file. Cases become a table that is read in place; a constant
-// array would be copied at each use.
+// Stays (6): pages and keys stand in one list, since C hands it over so.
+pub type Map = [u16; MAP_SIZE];
+
+// How many nodes each file holds, and how many the files before it hold.
+// Stays (6): with one list of 15 starts a count would be a difference of two of them, behind a test of the file; get gives the
+// 0 that the definition has for what is no file.
+static COUNTS: [u32; 14] = [32, 32, 24, 24, 16, 16, 16, 16, 8, 8, 8, 8, 8, 8];
+
+static STARTS: [u32; 14] = [
+    0, 32, 64, 88, 112, 128, 144, 160, 176, 184, 192, 200, 208, 216,
+];
+
+// How many nodes a file holds; none where there is no such file.
 pub fn count(file: u32) -> u32
     ensures { result ≡ count_of file_plan file }
 {
-    if LAST_FILE < file {
-        return 0;
-    }
-    match file {
-        0 => 32,
-        1 => 32,
-        2 => 24,
-        3 => 24,
-        4 => 16,
-        5 => 16,
-        6 => 16,
-        7 => 16,
-        8 => 8,
-        9 => 8,
-        10 => 8,
-        11 => 8,
-        12 => 8,
-        _ => 8,
-    }
+    COUNTS.get(file as usize).copied().unwrap_or(0)
 }
 
 // How many nodes the files before a file hold.
@@ -41,35 +34,19 @@ pub fn start(file: u32) -> u32
     requires { file ≤ last_file }
     ensures { result ≡ start_of file_plan file }
 {
-    match file {
-        0 => 0,
-        1 => 32,
-        2 => 64,
-        3 => 88,
-        4 => 112,
-        5 => 128,
-        6 => 144,
-        7 => 160,
-        8 => 176,
-        9 => 184,
-        10 => 192,
-        11 => 200,
-        12 => 208,
-        _ => 216,
-    }
+    STARTS[file as usize]
 }
 
 // The file of a place.
+// Stays (6): partition_point asks that the starts are in order, which nothing else here needs; the loop goes by two at a time.
 pub fn file_at(x: usize) -> u32
     requires { x < places }
     ensures { (result ≤ last_file) × (start_of file_plan result ≤ x) × (x < start_of file_plan result + count_of file_plan result) }
 {
-    let mut file: u32 = 0;
-    while file < LAST_FILE {
+    for file in 0..LAST_FILE {
         if x < start(file + 1) as usize {
             return file;
         }
-        file += 1;
     }
-    file
+    LAST_FILE
 }

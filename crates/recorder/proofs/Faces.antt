@@ -2,11 +2,10 @@
 use Prim.Native.Nat.{ℕ}
 use mathlib.Core.Path.{◌≡◌, refl, ap, ap₂, ◌∙◌}
 use mathlib.Core.List.{List}
-use Rattle.store.specs.Reply.{number_of}
+use Rattle.store.specs.Reply.{Reply, number_of}
 use Rattle.store.specs.Outcome.{Left, standing, answered}
 use Rattle.store.specs.declared.Answer.{Answer}
 use Rattle.store.specs.declared.Numbers.{Numbers}
-use Rattle.store.specs.declared.Reply.{Reply}
 use Rattle.recorder.specs.Face.{numbers_of, five_of, faced_with, faced, face}
 
 -- an array that numbers were put into gives these numbers

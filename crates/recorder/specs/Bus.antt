@@ -3,6 +3,7 @@ use Rattle.std.specs.Prelude.{ℕ, cond, List, [], ◌∷◌, length, set, eqb, 
 use Rattle.page.specs.Frame.{page_size}
 use Rattle.image.specs.Size.{size_right}
 use Rattle.chip.specs.declared.Cycle.{Cycle}
+use Rattle.chip.specs.Reply.{number_of}
 use Rattle.chip.specs.Bus.{Chip, chip, sent, received}
 use Rattle.chip.specs.Driver.{program_cycles, erase_cycles, cycle_at, last_page, last_block}
 use Rattle.chip.specs.Numbers.{set_of, five_of, pair_of}
@@ -55,4 +56,4 @@ fetched reply five byte = record { reply = reply; five = five; byte = byte }
 unfoldable pub model_received : List ℕ → List ℕ → List ℕ → Fetched
 model_received img five page =
     let g = received (set_of five page) img in
-    fetched g.reply (set five 2 g.registers.column) (g.byte ∷ [])
+    fetched (number_of g.reply) (set five 2 g.registers.column) (g.byte ∷ [])

@@ -4,15 +4,12 @@ ghost use Rattle.chip.specs.Driver.{reply_of};
 ghost use Rattle.chip.specs.Numbers.{cycle_of};
 ghost use Rattle.recorder.specs.Bus.{given, program_byte, erase_byte, modelled, model_sent, fetched, model_received};
 
-use chip::{bus, driver, numbers};
+use chip::{Error, bus, driver, numbers};
 use page::Frame;
 
-// What the driver's calls reply.
+// What the driver's calls reply where all is right.
+// Stays (1): C gets this number.
 const DONE: u32 = 0;
-
-const PAGE_LENGTH: u32 = 6;
-
-const OUTSIDE: u32 = 10;
 
 // Byte i of the program of page g with 256 bytes: its mark and the byte. Behind the last it is the status command.
 #[unsafe(no_mangle)]
@@ -25,10 +22,10 @@ pub extern "C" fn johvimaru_bus_program_byte(
     ensures { given result cycle.new ≡ program_byte g bytes.now i cycle.old }
 {
     if bytes.len() != Frame::PAGE {
-        return PAGE_LENGTH;
+        return Error::PageLength.number();
     }
     if driver::LAST_PAGE < g {
-        return OUTSIDE;
+        return Error::Failed.number();
     }
     *cycle = numbers::pair_of(driver::program_cycle(g, bytes, i));
     DONE
@@ -40,7 +37,7 @@ pub extern "C" fn johvimaru_bus_erase_byte(block: u32, i: usize, cycle: &mut [u8
     ensures { given result cycle.new ≡ erase_byte block i cycle.old }
 {
     if driver::LAST_BLOCK < block {
-        return OUTSIDE;
+        return Error::Failed.number();
     }
     *cycle = numbers::pair_of(driver::erase_cycle(block, i));
     DONE
@@ -51,7 +48,7 @@ pub extern "C" fn johvimaru_bus_erase_byte(block: u32, i: usize, cycle: &mut [u8
 pub extern "C" fn johvimaru_bus_reply(status: u8) -> u32
     ensures { result ≡ reply_of status }
 {
-    driver::reply_of(status)
+    numbers::reply_number(driver::reply_of(status))
 }
 
 // A byte sent to the model of the chip.
@@ -69,12 +66,11 @@ pub extern "C" fn johvimaru_model_send(
     let before = numbers::set_of(registers, page);
     let cycle = numbers::cycle_of(mark, byte);
     let sent = bus::step(before, image, cycle);
-    if sent.reply != DONE {
-        return sent.reply;
+    if let Err(error) = sent.reply {
+        return error.number();
     }
-    let after = sent.registers;
-    *registers = numbers::five_of(after);
-    let held = after.page;
+    *registers = numbers::five_of(sent.registers);
+    let held = sent.registers.page;
     *page = held;
     DONE
 }
@@ -92,8 +88,7 @@ pub extern "C" fn johvimaru_model_receive(
 {
     let before = numbers::set_of(registers, page);
     let got = bus::fetch(before, image);
-    let after = got.registers;
-    registers[2] = after.column;
+    registers[2] = got.registers.column;
     *byte = [got.byte];
-    got.reply
+    numbers::reply_number(got.reply)
 }

@@ -38,8 +38,7 @@ fn hand_over(answer: Answer, five: &mut [u32; 5]) -> u32
 {
     let n = answer.numbers;
     *five = [n.sequence, n.epoch, n.keys0, n.keys1, n.commit];
-    let reply = answer.reply;
-    replies::number(reply)
+    replies::number(answer.reply)
 }
 
 // Formats the image with noise and makes the record of it. Where it is refused the numbers become 0.
@@ -134,10 +133,16 @@ pub extern "C" fn johvimaru_read(
         output.old ∷ []) }
 {
     let before = numbers_of(five);
-    let reading = read::read(image, map, letters, before, file, offset, output);
-    *length = [reading.length];
-    let reply = reading.reply;
-    replies::number(reply)
+    match read::read(image, map, letters, before, file, offset, output) {
+        Ok(n) => {
+            *length = [n];
+            0
+        }
+        Err(error) => {
+            *length = [0];
+            error.number()
+        }
+    }
 }
 
 // Removes the nodes of a file from an offset on.

@@ -23,8 +23,7 @@ use Rattle.page.specs.Form.{is_empty, closed, form_by, form_of}
 use Rattle.page.specs.Entry.{parts, valid_payload}
 use Rattle.page.specs.Page.{payload_of}
 use Rattle.page.specs.declared.Frame.{Frame}
-use Rattle.page.specs.declared.Header.{Header}
-use Rattle.page.specs.declared.Header.TheVariants.{Is, Invalid}
+use Rattle.std.specs.Prelude.{Option, Some, None}
 use Rattle.page.specs.declared.Form.{Form}
 use Rattle.page.specs.declared.Form.TheVariants.{Empty, Whole, Torn, Spoilt}
 use Rattle.page.proofs.Ranges.{keys_range as keys_fields, commit_range as commit_fields}
@@ -39,22 +38,22 @@ use Rattle.store.specs.declared.Kind.{Kind}
 use Rattle.store.specs.declared.Kind.TheVariants.{Keys, Commit, Other}
 
 -- ---- headers: what they say of their bytes
-header_is : (xs : List ℕ) (f : Frame) → header_of xs ≡ Is f → (f.kind ≡ get_or xs 0 0) × (in_range f ≡ true)
+header_is : (xs : List ℕ) (f : Frame) → header_of xs ≡ Some f → (f.kind ≡ get_or xs 0 0) × (in_range f ≡ true)
 header_is xs f e = let s = header_spelt xs f e in (sym s.kind, s.ranges)
 
 -- ---- forms
 -- the header of a form
-abbrev header_in : Form → Header
-header_in Empty = Invalid
-header_in (Whole f) = Is f
-header_in (Torn f) = Is f
-header_in Spoilt = Invalid
+abbrev header_in : Form → Option Frame
+header_in Empty = None
+header_in (Whole f) = Some f
+header_in (Torn f) = Some f
+header_in Spoilt = None
 
-header_in_lem : (h : Header) (page : List ℕ) → header_in (form_by h page) ≡ h
-header_in_lem (Is f) page = cond-ap header_in (closed page) (Whole f) (Torn f) ∙ cond_same (closed page) (Is f)
-header_in_lem Invalid page = cond-ap header_in (is_empty page) Empty Spoilt ∙ cond_same (is_empty page) Invalid
+header_in_lem : (h : Option Frame) (page : List ℕ) → header_in (form_by h page) ≡ h
+header_in_lem (Some f) page = cond-ap header_in (closed page) (Whole f) (Torn f) ∙ cond_same (closed page) (Some f)
+header_in_lem None page = cond-ap header_in (is_empty page) Empty Spoilt ∙ cond_same (is_empty page) None
 
-form_in_range : (img : List ℕ) (g : ℕ) (f : Frame) → header_in (form_at img g) ≡ Is f → in_range f ≡ true
+form_in_range : (img : List ℕ) (g : ℕ) (f : Frame) → header_in (form_at img g) ≡ Some f → in_range f ≡ true
 unfolding form_at form_of
 form_in_range img g f e = (header_is (part (page_at img g) 0 header_size) f (sym (header_in_lem _ (page_at img g)) ∙ e)).1
 
@@ -70,16 +69,20 @@ pub whole-letter : (img : List ℕ) (g : ℕ) (f : Frame) → form_at img g ≡ 
 unfolding form_at form_of
 whole-letter img g f e = (header_is (part (page_at img g) 0 header_size) f (sym (header_in_lem _ (page_at img g)) ∙ ap header_in e)).0 ∙ first_byte img g
 
+pub torn-letter : (img : List ℕ) (g : ℕ) (f : Frame) → form_at img g ≡ Torn f → f.kind ≡ get_or img (g * page_size) 0
+unfolding form_at form_of
+torn-letter img g f e = (header_is (part (page_at img g) 0 header_size) f (sym (header_in_lem _ (page_at img g)) ∙ ap header_in e)).0 ∙ first_byte img g
+
 pub headed-letter : (img : List ℕ) (g : ℕ) → headed (form_at img g) ≡ true → is_event_letter (get_or img (g * page_size) 0) ≡ true
 unfolding form_at form_of
 headed-letter img g = go (header_of (part (page_at img g) 0 header_size)) refl
   where
-    go : (h : Header) → header_of (part (page_at img g) 0 header_size) ≡ h → headed (form_by h (page_at img g)) ≡ true → is_event_letter (get_or img (g * page_size) 0) ≡ true
-    go (Is f) q e =
+    go : (h : Option Frame) → header_of (part (page_at img g) 0 header_size) ≡ h → headed (form_by h (page_at img g)) ≡ true → is_event_letter (get_or img (g * page_size) 0) ≡ true
+    go (Some f) q e =
         let k = (header_is (part (page_at img g) 0 header_size) f q).0 ∙ first_byte img g in
         let both = cond-ap headed (closed (page_at img g)) (Whole f) (Torn f) ∙ cond_same (closed (page_at img g)) (is_event_letter f.kind) in
         rw (← k) (sym both ∙ e)
-    go Invalid q e =
+    go None q e =
         absurd (true-false e (cond-ap headed (is_empty (page_at img g)) Empty Spoilt ∙ cond_same (is_empty (page_at img g)) false))
 
 -- so a page that begins with another byte is none
@@ -124,14 +127,14 @@ number_range f = go (eqb f.kind node_letter) (eqb f.kind cut_off_letter) (eqb f.
     go false false false false e = absurd (true-false e refl)
 
 -- and a whole page stands in the image
-form_closed : (h : Header) (page : List ℕ) (f : Frame) → form_by h page ≡ Whole f → closed page ≡ true
-form_closed (Is h) page f e = go (closed page) e
+form_closed : (h : Option Frame) (page : List ℕ) (f : Frame) → form_by h page ≡ Whole f → closed page ≡ true
+form_closed (Some h) page f e = go (closed page) e
   where
     go : (b : Bool) → cond b (Whole h) (Torn h) ≡ Whole f → b ≡ true
     go true e = refl
     go false e = absurd (let z : ◌≡◌ {A = ℕ} 0 1 = cc in omega arith)
-form_closed Invalid page f e =
-    let h = header_in_lem Invalid page in
+form_closed None page f e =
+    let h = header_in_lem None page in
     let i = ap header_in e in
     absurd (let z : ◌≡◌ {A = ℕ} 0 1 = cc in omega arith)
 
@@ -153,9 +156,9 @@ unfolding is_empty all_are part
 empty_first [] e = inr refl
 empty_first (x ∷ xs) e = inl (eqb-true x erased (and-true (eqb x erased) (all_are erased xs) e).0)
 
-empty_header : (page : List ℕ) (h : Header) → is_empty page ≡ true → header_of (part page 0 header_size) ≡ h → h ≡ Invalid
-empty_header page Invalid e q = refl
-empty_header page (Is f) e q =
+empty_header : (page : List ℕ) (h : Option Frame) → is_empty page ≡ true → header_of (part page 0 header_size) ≡ h → h ≡ None
+empty_header page None e q = refl
+empty_header page (Some f) e q =
     let i = header_is (part page 0 header_size) f q in
     absurd
     (⊎_elim
@@ -176,9 +179,9 @@ form_empty img g e = go (header_of (part (page_at img g) 0 header_size)) e
     by_test true e = refl
     by_test false e = absurd (let z : ◌≡◌ {A = ℕ} 0 1 = cc in omega arith)
 
-    go : (h : Header) → form_by h (page_at img g) ≡ Empty → is_empty (page_at img g) ≡ true
-    go (Is f) e = absurd (let q = header_in_lem (Is f) (page_at img g) in let z : ◌≡◌ {A = ℕ} 0 1 = cc (ap header_in e) in omega arith)
-    go Invalid e = by_test (is_empty (page_at img g)) e
+    go : (h : Option Frame) → form_by h (page_at img g) ≡ Empty → is_empty (page_at img g) ≡ true
+    go (Some f) e = absurd (let q = header_in_lem (Some f) (page_at img g) in let z : ◌≡◌ {A = ℕ} 0 1 = cc (ap header_in e) in omega arith)
+    go None e = by_test (is_empty (page_at img g)) e
 
 -- ---- the headers that a block's pages must have, by that of its page 0
 pub keys_ranged : (img : List ℕ) (g e q i : ℕ) → whole_with (keys_frame e q 0) (form_at img g) ≡ true → i < pages_in_block → in_range (keys_frame e q i) ≡ true

@@ -3,8 +3,8 @@ use Prim.Native.Nat.{ℕ, ◌+◌, ◌*◌, ◌-◌, ◌<◌, ◌≤◌}
 use native.Mathlib.Omega.{arith}
 use native.Mathlib.Nat.{sub-zero}
 use native.Mathlib.Decide.{dec_lt}
-use mathlib.Core.Path.{◌≡◌, refl, sym, ap, fun_ext, ◌∙◌}
-use mathlib.Core.Bool.{Bool, true, false, cond}
+use mathlib.Core.Path.{◌≡◌, sym, ap, fun_ext, ◌∙◌}
+use mathlib.Core.Bool.{true, false, cond}
 use mathlib.Core.List.{List, [], ◌++◌}
 use lib.ListN.{length, get_or, take, drop, replicate, length-replicate, length-take, get_or-replicate, get_or-eq_default}
 use borrow.Author.Tests.{ne_eqb}
@@ -29,7 +29,7 @@ use Rattle.image.specs.Block.{erases_from, renewed_key, key_block_steps, commit_
 use Rattle.image.specs.declared.Power.{Power}
 use Rattle.image.proofs.Looks.{sized, block_inside}
 use Rattle.image.proofs.Runs.{run_one, run-append}
-use Rattle.store.specs.Reply.{verdict, is_done}
+use Rattle.store.specs.Reply.{Reply, Done, verdict, is_done}
 use Rattle.store.specs.Record.{Record, record_of, with_numbers, page_of, key_of, live}
 use Rattle.store.specs.Outcome.{Outcome, left, left_whole, most_steps}
 use Rattle.store.specs.Find.{lowest_free, new_page, found_at}
@@ -37,11 +37,12 @@ use Rattle.store.specs.Format.{no_numbers, formatted, format_tests, format_steps
 use Rattle.store.specs.Write.{place_at, key_held, next_sequence, placed, payload_right, write_tests, taking_of, append_steps, write_of}
 use Rattle.store.specs.CutOff.{cut_off_tests, removed, cut_off_steps, cut_off_of}
 use Rattle.store.specs.Read.{content_of, filled, read_tests, read_of, read_length}
-use Rattle.store.specs.Taken.{Ready, Planned, FormatTaken, WriteTaken, ReadTaken, CutOffTaken}
-use Rattle.store.specs.declared.Reply.{Reply}
-use Rattle.store.specs.declared.Reply.TheVariants.{Done, PowerCut}
-use Rattle.store.specs.declared.write.Taking.TheVariants.{Take, Refuse}
-use Rattle.store.proofs.Verdicts.{done-true, format_reply, format_taken_lem, format_done_lem, write-reply, write-right, write_taken_lem, write_done, payload-filling, read-reply, read_taken, cut_off-reply, cut_off_taken_lem, cut_off-done}
+use Rattle.store.specs.Taken.{Ready, Planned, FormatTaken, WriteTaken, CutOffTaken}
+use Rattle.std.specs.Prelude.{Ok, Err}
+use Rattle.store.specs.declared.Error.TheVariants.{PowerCut}
+use Rattle.store.specs.declared.Error.{Error}
+use Rattle.store.proofs.Refusals.{handed_done, handed_refused}
+use Rattle.store.proofs.Verdicts.{done-true, format_reply, format_taken_lem, format_done_lem, write-reply, write-right, write_taken_lem, write_done, payload-filling, read-reply, cut_off-reply, cut_off_taken_lem, cut_off-done}
 use Rattle.store.proofs.Outcomes.{stepless, leaves, left_stepless, format_outcome, format_refused, write_outcome, write-refused, read_outcome, read_length_lem, read_no_length, read-refused, cut_off_outcome, cut_off-refused}
 use Rattle.store.proofs.Counts.{format_count, write_count, cut_off_count}
 use Rattle.store.proofs.Finds.{found_is, lowest_free_lem, write-page-is_empty}
@@ -86,32 +87,22 @@ module _ (img : List ℕ) (r : Record) (file offset : ℕ) (payload : List ℕ) 
       }
 
   -- what the tests hand on
-  pub write-take : (p g a b : ℕ) → taking_of (verdict (write_tests img r file offset payload)) a b ≡ Take p g → WriteTaken img r file offset (length payload) (padded payload) × (payload_right payload ≡ true) × (p ≡ a) × (g ≡ b)
-  write-take p g a b = go (is_done (verdict (write_tests img r file offset payload))) refl
-    where
-      go : (d : Bool) → is_done (verdict (write_tests img r file offset payload)) ≡ d → cond d (Take a b) (Refuse (verdict (write_tests img r file offset payload))) ≡ Take p g
-          → WriteTaken img r file offset (length payload) (padded payload) × (payload_right payload ≡ true) × (p ≡ a) × (g ≡ b)
-      go true d e =
-          let q = write-reply img r file offset (payload_right payload) (length payload) (padded payload) ∙ done-true _ d in
-          (write_taken_lem img r file offset (payload_right payload) (length payload) (padded payload) (payload-filling payload) q, write-right img r file offset (payload_right payload) (length payload) (padded payload) q, cc, cc)
-      go false d e = absurd (let z : ◌≡◌ {A = ℕ} 0 1 = cc in omega arith)
+  pub write-take : (p g a b : ℕ) → taking_of (verdict (write_tests img r file offset payload)) a b ≡ Ok (p, g) → WriteTaken img r file offset (length payload) (padded payload) × (payload_right payload ≡ true) × (p ≡ a) × (g ≡ b)
+  write-take p g a b e =
+      let t = handed_done (verdict (write_tests img r file offset payload)) (a, b) (p, g) e in
+      let q = write-reply img r file offset (payload_right payload) (length payload) (padded payload) ∙ t.0 in
+      (write_taken_lem img r file offset (payload_right payload) (length payload) (padded payload) (payload-filling payload) q, write-right img r file offset (payload_right payload) (length payload) (padded payload) q, ap (λ (z : ℕ × ℕ). z.0) t.1, ap (λ (z : ℕ × ℕ). z.1) t.1)
 
-  pub write_refuse : (n k a b : ℕ) (v : Reply) → taking_of (verdict (write_tests img r file offset payload)) a b ≡ Refuse v
-      → leaves v img r [] ≡ left n k (write_of img r file offset payload) img
-  write_refuse n k a b v = go (is_done (verdict (write_tests img r file offset payload))) refl
-    where
-      go : (d : Bool) → is_done (verdict (write_tests img r file offset payload)) ≡ d → cond d (Take a b) (Refuse (verdict (write_tests img r file offset payload))) ≡ Refuse v
-          → leaves v img r [] ≡ left n k (write_of img r file offset payload) img
-      go true d e = absurd (let z : ◌≡◌ {A = ℕ} 0 1 = cc in omega arith)
-      go false d e =
-          let q = write-reply img r file offset (payload_right payload) (length payload) (padded payload) in
-          let s : (write_of img r file offset payload).reply ≡ v = cc in
-          rw (← s) (sym (left_stepless n k img (write-refused img r file offset (payload_right payload) (length payload) (padded payload) (ap is_done q ∙ d))))
+  pub write_refuse : (n k a b : ℕ) (error : Error) → taking_of (verdict (write_tests img r file offset payload)) a b ≡ Err error
+      → leaves (Err error) img r [] ≡ left n k (write_of img r file offset payload) img
+  write_refuse n k a b error e =
+      let s = write-reply img r file offset (payload_right payload) (length payload) (padded payload) ∙ handed_refused (verdict (write_tests img r file offset payload)) (a, b) error e in
+      rw (← s) (sym (left_stepless n k img (write-refused img r file offset (payload_right payload) (length payload) (padded payload) (ap is_done s))))
 
   -- what the work leaves
   pub write-left : (n k p g : ℕ) (key img' : List ℕ) (q : Power) → payload_right payload ≡ true → WriteTaken img r file offset (length payload) (padded payload) → p ≡ found_at (lowest_free r.letters) → g ≡ found_at (new_page img r.numbers)
       → key ≡ key_held img r.numbers p → device q img' ≡ act (program g (node_page r.numbers.sequence file offset p (length payload) key (padded payload))) (device (power_for n k) img)
-      → leaves (cond q.on Done PowerCut) img' (placed r (place_at file offset) g p) [] ≡ left n k (write_of img r file offset payload) img
+      → leaves (cond q.on Done (Err PowerCut)) img' (placed r (place_at file offset) g p) [] ≡ left n k (write_of img r file offset payload) img
   unfolding append_steps
   write-left n k p g key img' q right t e f h d =
       let o = write_outcome img r file offset (payload_right payload) (length payload) (padded payload) (write_done img r file offset (payload_right payload) (length payload) (padded payload) right t) in
@@ -144,7 +135,7 @@ module _ (img : List ℕ) (r : Record) (file offset : ℕ) where
   -- what the work leaves
   pub cut_off-left : (n k g : ℕ) (img' : List ℕ) (q : Power) {s : Record} → CutOffTaken img r file offset → g ≡ found_at (new_page img r.numbers)
       → device q img' ≡ act (program g (cut_off_page r.numbers.sequence file offset)) (device (power_for n k) img)
-      → s ≡ removed r file offset → leaves (cond q.on Done PowerCut) img' (with_numbers s (next_sequence r.numbers)) [] ≡ left n k (cut_off_of img r file offset) img
+      → s ≡ removed r file offset → leaves (cond q.on Done (Err PowerCut)) img' (with_numbers s (next_sequence r.numbers)) [] ≡ left n k (cut_off_of img r file offset) img
   unfolding cut_off_steps
   cut_off-left n k g img' q t f d e =
       let o = cut_off_outcome img r file offset (cut_off-done img r file offset t) in
@@ -167,9 +158,6 @@ module _ (img : List ℕ) (r : Record) (file offset : ℕ) (output : List ℕ) w
   read_refuse v e d =
       let q = e ∙ sym (read-reply img r file offset output) in
       rw q (sym (whole_stepless img (read-refused img r file offset output (ap is_done (sym q) ∙ d))))
-
-  pub read_take : (v : Reply) → v ≡ verdict (read_tests img r file offset output) → is_done v ≡ true → ReadTaken img r file offset output
-  read_take v e d = read_taken img r file offset output (read-reply img r file offset output ∙ sym e ∙ done-true v d)
 
   pub read_left : (v : Reply) (content : List ℕ) → v ≡ verdict (read_tests img r file offset output) → is_done v ≡ true → content ≡ filled (content_of img r (place_at file offset)) output
       → leaves v img r content ≡ left_whole (read_of img r file offset output) img
@@ -238,12 +226,9 @@ module _ (img map letters noise : List ℕ) where
       let q = e ∙ sym (format_reply img map letters noise) in
       rw q (sym (left_stepless n k img (format_refused img map letters noise (ap is_done (sym q) ∙ d))))
 
-  pub format_take : (v : Reply) → v ≡ verdict (format_tests img map letters noise) → is_done v ≡ true → FormatTaken img map letters noise
-  format_take v e d = format_taken_lem img map letters noise (format_reply img map letters noise ∙ sym e ∙ done-true v d)
-
   pub format_left : (n k : ℕ) (img' : List ℕ) (q : Power) → FormatTaken img map letters noise
       → device q img' ≡ run (format_steps img noise) (device (power_for n k) img)
-      → leaves (cond q.on Done PowerCut) img' formatted [] ≡ left n k (format_of img map letters noise) img
+      → leaves (cond q.on Done (Err PowerCut)) img' formatted [] ≡ left n k (format_of img map letters noise) img
   format_left n k img' q t d = run-left n k img img' q (format_outcome img map letters noise (format_done_lem img map letters noise t)) d
 
   pub format_few : length (format_of img map letters noise).steps ≤ most_steps

@@ -16,8 +16,7 @@ use Rattle.store.specs.Kind.{kind_of, keys_epoch, commit_epoch}
 use Rattle.store.specs.Mount.{rank_of, foremost, chosen_commit, chosen_keys}
 use Rattle.store.specs.declared.Kind.{Kind}
 use Rattle.store.specs.declared.Kind.TheVariants.{Keys, Commit, Other}
-use Rattle.store.specs.declared.Found.{Found}
-use Rattle.store.specs.declared.Found.TheVariants.{At, Nothing}
+use Rattle.std.specs.Prelude.{Option, Some, None}
 use Rattle.store.proofs.BlockKinds.{keys_range, commit_range}
 
 -- ---- the foremost of some numbers, over any rank
@@ -29,19 +28,19 @@ pub record Foremost (rank : ℕ → ℕ) (n b : ℕ) : Type 0 where
   pub lowest : (a : ℕ) → a < b → rank a < rank b
 
 -- what an answer says: the foremost number, or that all ranks are 0
-abbrev pub Answers : (ℕ → ℕ) → ℕ → Found → Type 0
-Answers rank n (At b) = Foremost rank n b
-Answers rank n Nothing = (a : ℕ) → a < n → rank a ≡ 0
+abbrev pub Answers : (ℕ → ℕ) → ℕ → Option ℕ → Type 0
+Answers rank n (Some b) = Foremost rank n b
+Answers rank n None = (a : ℕ) → a < n → rank a ≡ 0
 
 -- one more number
-abbrev pub better : (ℕ → ℕ) → ℕ → Found → Found
-better rank b best = cond (ltb (rank_of rank best) (rank b)) (At b) best
+abbrev pub better : (ℕ → ℕ) → ℕ → Option ℕ → Option ℕ
+better rank b best = cond (ltb (rank_of rank best) (rank b)) (Some b) best
 
 module _ (rank : ℕ → ℕ) where
-  answers_next : (n : ℕ) (best : Found) → Answers rank n best → Answers rank (suc n) (better rank n best)
-  answers_next n (At b) f = go (ltb (rank b) (rank n)) refl
+  answers_next : (n : ℕ) (best : Option ℕ) → Answers rank n best → Answers rank (suc n) (better rank n best)
+  answers_next n (Some b) f = go (ltb (rank b) (rank n)) refl
     where
-      go : (t : Bool) → ltb (rank b) (rank n) ≡ t → Answers rank (suc n) (cond t (At n) (At b))
+      go : (t : Bool) → ltb (rank b) (rank n) ≡ t → Answers rank (suc n) (cond t (Some n) (Some b))
       go true e =
           let l : rank b < rank n = ltb-true _ _ e in
           record {
@@ -57,9 +56,9 @@ module _ (rank : ℕ → ℕ) where
             highest = below_suc (λ a. rank a ≤ rank b) n f.highest (ltb-false _ _ e);
             lowest = f.lowest;
           }
-  answers_next n Nothing f = go (ltb 0 (rank n)) refl
+  answers_next n None f = go (ltb 0 (rank n)) refl
     where
-      go : (t : Bool) → ltb 0 (rank n) ≡ t → Answers rank (suc n) (cond t (At n) Nothing)
+      go : (t : Bool) → ltb 0 (rank n) ≡ t → Answers rank (suc n) (cond t (Some n) None)
       go true e =
           let l : 0 < rank n = ltb-true _ _ e in
           record {
@@ -73,17 +72,17 @@ module _ (rank : ℕ → ℕ) where
   pub foremost_answers : (n : ℕ) → Answers rank n (foremost rank n)
   unfolding foremost
   foremost_answers n =
-      fold_up (Answers rank) (better rank) n Nothing (λ j best h p. answers_next j best p) (λ a h. absurd (omega arith))
+      fold_up (Answers rank) (better rank) n None (λ j best h p. answers_next j best p) (λ a h. absurd (omega arith))
 
-  pub foremost_at : (n b : ℕ) → foremost rank n ≡ At b → Foremost rank n b
+  pub foremost_at : (n b : ℕ) → foremost rank n ≡ Some b → Foremost rank n b
   foremost_at n b e = subst (Answers rank n) e (foremost_answers n)
 
-  pub foremost_nothing : (n : ℕ) → foremost rank n ≡ Nothing → (a : ℕ) → a < n → rank a ≡ 0
+  pub foremost_nothing : (n : ℕ) → foremost rank n ≡ None → (a : ℕ) → a < n → rank a ≡ 0
   foremost_nothing n e = subst (Answers rank n) e (foremost_answers n)
 
   -- there is one answer
-  answers_unique : (n : ℕ) (x y : Found) → Answers rank n x → Answers rank n y → x ≡ y
-  answers_unique n (At a) (At b) f g =
+  answers_unique : (n : ℕ) (x y : Option ℕ) → Answers rank n x → Answers rank n y → x ≡ y
+  answers_unique n (Some a) (Some b) f g =
       let p : a ≡ b = elim (dec_lt a b) [
         | yes k ↦ absurd (omega (arith, g.lowest a k, f.highest b g.below))
         | no k ↦ elim (dec_lt b a) [
@@ -91,32 +90,32 @@ module _ (rank : ℕ → ℕ) where
           | no l ↦ omega arith
         ]
       ] in
-      ap At p
-  answers_unique n (At a) Nothing f g = absurd (omega (arith, f.ranked, g a f.below))
-  answers_unique n Nothing (At b) f g = absurd (omega (arith, g.ranked, f b g.below))
-  answers_unique n Nothing Nothing f g = refl
+      ap Some p
+  answers_unique n (Some a) None f g = absurd (omega (arith, f.ranked, g a f.below))
+  answers_unique n None (Some b) f g = absurd (omega (arith, g.ranked, f b g.below))
+  answers_unique n None None f g = refl
 
-  pub at_foremost : (n b : ℕ) → Foremost rank n b → foremost rank n ≡ At b
-  at_foremost n b f = answers_unique n (foremost rank n) (At b) (foremost_answers n) f
+  pub at_foremost : (n b : ℕ) → Foremost rank n b → foremost rank n ≡ Some b
+  at_foremost n b f = answers_unique n (foremost rank n) (Some b) (foremost_answers n) f
 
-  pub nothing_foremost : (n : ℕ) → ((a : ℕ) → a < n → rank a ≡ 0) → foremost rank n ≡ Nothing
-  nothing_foremost n f = answers_unique n (foremost rank n) Nothing (foremost_answers n) f
+  pub nothing_foremost : (n : ℕ) → ((a : ℕ) → a < n → rank a ≡ 0) → foremost rank n ≡ None
+  nothing_foremost n f = answers_unique n (foremost rank n) None (foremost_answers n) f
 
   -- a loop's first state and its step, as code that passes number n has them
-  pub foremost-none : foremost rank 0 ≡ Nothing
+  pub foremost-none : foremost rank 0 ≡ None
   unfolding foremost fold_from
   foremost-none = refl
 
   pub foremost_next : (n : ℕ) → foremost rank (suc n) ≡ better rank n (foremost rank n)
   unfolding foremost
-  foremost_next n = fold_last (better rank) n 0 Nothing ∙ rw zero-add
+  foremost_next n = fold_last (better rank) n 0 None ∙ rw zero-add
 
 -- ranks that agree
 pub foremost_agree : (rank rank' : ℕ → ℕ) (n : ℕ) → ((b : ℕ) → b < n → rank b ≡ rank' b) → foremost rank n ≡ foremost rank' n
 foremost_agree rank rank' n same = answers_unique rank' n (foremost rank n) (foremost rank' n) (go (foremost rank n) (foremost_answers rank n)) (foremost_answers rank' n)
   where
-    go : (x : Found) → Answers rank n x → Answers rank' n x
-    go (At b) f =
+    go : (x : Option ℕ) → Answers rank n x → Answers rank' n x
+    go (Some b) f =
         let e = same b f.below in
         record {
           below = f.below;
@@ -124,10 +123,10 @@ foremost_agree rank rank' n same = answers_unique rank' n (foremost rank n) (for
           highest = λ a h. omega (arith, same a h, f.highest a h);
           lowest = λ a h. omega (arith, same a (omega (arith, f.below)), f.lowest a h);
         }
-    go Nothing f = λ a h. omega (arith, same a h, f a h)
+    go None f = λ a h. omega (arith, same a h, f a h)
 
 -- ranks of which none is higher than before, and the foremost's as it was
-pub foremost_lowered : (rank rank' : ℕ → ℕ) (n b : ℕ) → rank' b ≡ rank b → ((a : ℕ) → a < n → rank' a ≤ rank a) → foremost rank n ≡ At b → foremost rank' n ≡ At b
+pub foremost_lowered : (rank rank' : ℕ → ℕ) (n b : ℕ) → rank' b ≡ rank b → ((a : ℕ) → a < n → rank' a ≤ rank a) → foremost rank n ≡ Some b → foremost rank' n ≡ Some b
 foremost_lowered rank rank' n b same low e =
     let f = foremost_at rank n b e in
     at_foremost rank' n b
@@ -139,7 +138,7 @@ foremost_lowered rank rank' n b same low e =
     })
 
 -- ---- the chosen blocks, by an epoch of their kinds: commit_epoch for the commit, keys_epoch q for key block q
-abbrev pub chosen_by : (Kind → ℕ) → List ℕ → Found
+abbrev pub chosen_by : (Kind → ℕ) → List ℕ → Option ℕ
 chosen_by epoch img = foremost (λ b. epoch (kind_of img b)) (blocks img)
 
 pub commit_by_epoch : (img : List ℕ) → chosen_commit img ≡ chosen_by commit_epoch img
@@ -150,7 +149,7 @@ pub keys_by_epoch : (img : List ℕ) (q : ℕ) → chosen_keys img q ≡ chosen_
 unfolding chosen_keys
 keys_by_epoch img q = refl
 
-module _ (epoch : Kind → ℕ) (img : List ℕ) (b : ℕ) (chosen : chosen_by epoch img ≡ At b) where
+module _ (epoch : Kind → ℕ) (img : List ℕ) (b : ℕ) (chosen : chosen_by epoch img ≡ Some b) where
   pub chosen_is_inside : b < blocks img
   chosen_is_inside = (foremost_at _ (blocks img) b chosen).below
 
@@ -213,9 +212,9 @@ pub record ChosenCommit (img : List ℕ) (b : ℕ) : Type 0 where
   pub lowest : (a e s : ℕ) → a < b → kind_of img a ≡ Commit e s → e < epoch
 
 module _ (img : List ℕ) where
-  pub commit_chosen : (b : ℕ) → chosen_commit img ≡ At b → ChosenCommit img b
+  pub commit_chosen : (b : ℕ) → chosen_commit img ≡ Some b → ChosenCommit img b
   commit_chosen b e =
-      let c : chosen_by commit_epoch img ≡ At b = sym (commit_by_epoch img) ∙ e in
+      let c : chosen_by commit_epoch img ≡ Some b = sym (commit_by_epoch img) ∙ e in
       let w = commit_epoch_lem (kind_of img b) (chosen_is_whole commit_epoch img b c) in
       record {
         inside = chosen_is_inside commit_epoch img b c;
@@ -226,7 +225,7 @@ module _ (img : List ℕ) where
         lowest = λ a e s h k. rw (k, w.2) at (chosen_is_lowest commit_epoch img b c a h);
       }
 
-  pub chosen_commit_lem : (b : ℕ) → ChosenCommit img b → chosen_commit img ≡ At b
+  pub chosen_commit_lem : (b : ℕ) → ChosenCommit img b → chosen_commit img ≡ Some b
   chosen_commit_lem b c =
       let m : commit_epoch (kind_of img b) ≡ c.epoch = ap commit_epoch c.whole in
       let l : 1 ≤ c.epoch = (commit_range img b c.epoch c.covered c.whole).0 in
@@ -240,12 +239,12 @@ module _ (img : List ℕ) where
       })
 
   -- none is chosen exactly where there is no whole commit block
-  pub no_commit : chosen_commit img ≡ Nothing → (b e s : ℕ) → b < blocks img → kind_of img b ≡ Commit e s → ⊥
+  pub no_commit : chosen_commit img ≡ None → (b e s : ℕ) → b < blocks img → kind_of img b ≡ Commit e s → ⊥
   no_commit n b e s h k =
       let z : commit_epoch (kind_of img b) ≡ 0 = foremost_nothing (λ a. commit_epoch (kind_of img a)) (blocks img) (sym (commit_by_epoch img) ∙ n) b h in
       omega (arith, rw k at z, (commit_range img b e s k).0)
 
-  pub commit-none : ((b e s : ℕ) → b < blocks img → kind_of img b ≡ Commit e s → ⊥) → chosen_commit img ≡ Nothing
+  pub commit-none : ((b e s : ℕ) → b < blocks img → kind_of img b ≡ Commit e s → ⊥) → chosen_commit img ≡ None
   commit-none f =
       commit_by_epoch img
       ∙ nothing_foremost (λ a. commit_epoch (kind_of img a)) (blocks img) (λ b h. of_commit_epoch (λ e. e ≡ 0) (kind_of img b) refl (λ e s k. absurd (f b e s h k)))
@@ -260,9 +259,9 @@ pub record ChosenKeys (img : List ℕ) (q b : ℕ) : Type 0 where
   pub lowest : (a e : ℕ) → a < b → kind_of img a ≡ Keys q e → e < epoch
 
 module _ (img : List ℕ) (q : ℕ) where
-  pub keys_chosen : (b : ℕ) → chosen_keys img q ≡ At b → ChosenKeys img q b
+  pub keys_chosen : (b : ℕ) → chosen_keys img q ≡ Some b → ChosenKeys img q b
   keys_chosen b e =
-      let c : chosen_by (keys_epoch q) img ≡ At b = sym (keys_by_epoch img q) ∙ e in
+      let c : chosen_by (keys_epoch q) img ≡ Some b = sym (keys_by_epoch img q) ∙ e in
       let w = keys_epoch_lem q (kind_of img b) (chosen_is_whole (keys_epoch q) img b c) in
       record {
         inside = chosen_is_inside (keys_epoch q) img b c;
@@ -272,7 +271,7 @@ module _ (img : List ℕ) (q : ℕ) where
         lowest = λ a e h k. rw (k, w.1, keys_own_epoch q e, keys_own_epoch q w.0) at (chosen_is_lowest (keys_epoch q) img b c a h);
       }
 
-  pub chosen_keys_lem : (b : ℕ) → ChosenKeys img q b → chosen_keys img q ≡ At b
+  pub chosen_keys_lem : (b : ℕ) → ChosenKeys img q b → chosen_keys img q ≡ Some b
   chosen_keys_lem b c =
       let m : keys_epoch q (kind_of img b) ≡ c.epoch = ap (keys_epoch q) c.whole ∙ keys_own_epoch q c.epoch in
       let l : 1 ≤ c.epoch = (keys_range img b q c.epoch c.whole).1 in
@@ -286,12 +285,12 @@ module _ (img : List ℕ) (q : ℕ) where
       })
 
   -- none is chosen exactly where there is no whole key block q
-  pub no_keys : chosen_keys img q ≡ Nothing → (b e : ℕ) → b < blocks img → kind_of img b ≡ Keys q e → ⊥
+  pub no_keys : chosen_keys img q ≡ None → (b e : ℕ) → b < blocks img → kind_of img b ≡ Keys q e → ⊥
   no_keys n b e h k =
       let z : keys_epoch q (kind_of img b) ≡ 0 = foremost_nothing (λ a. keys_epoch q (kind_of img a)) (blocks img) (sym (keys_by_epoch img q) ∙ n) b h in
       omega (arith, sym (ap (keys_epoch q) k ∙ keys_own_epoch q e), (keys_range img b q e k).1)
 
-  pub keys_none : ((b e : ℕ) → b < blocks img → kind_of img b ≡ Keys q e → ⊥) → chosen_keys img q ≡ Nothing
+  pub keys_none : ((b e : ℕ) → b < blocks img → kind_of img b ≡ Keys q e → ⊥) → chosen_keys img q ≡ None
   keys_none f =
       keys_by_epoch img q
       ∙ nothing_foremost (λ a. keys_epoch q (kind_of img a)) (blocks img) (λ b h. of_keys_epoch (λ e. e ≡ 0) q (kind_of img b) refl (λ e k. absurd (f b e h k)))

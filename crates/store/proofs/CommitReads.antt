@@ -1,15 +1,14 @@
 -- What a mount reads of its commit: the entries of the places, and the letters that the positions start with, part by part.
 use Prim.Native.Nat.{ℕ, ◌+◌, ◌-◌, ◌*◌, ◌/◌, ◌%◌, ◌<◌, ◌≤◌}
 use native.Mathlib.Omega.{arith}
-use native.Mathlib.Nat.{add-zero}
 use native.Mathlib.Decide.{dec_lt}
-use mathlib.Core.Path.{◌≡◌, refl, sym, ap, ◌∙◌}
-use mathlib.Core.Bool.{Bool, true, false, cond}
+use mathlib.Core.Path.{◌≡◌, sym, ap, ◌∙◌}
+use mathlib.Core.Bool.{true, cond}
 use mathlib.Core.List.{List, ◌++◌}
 use lib.Dec.{eqb}
-use lib.ListN.{length, get_or, replicate, get_or-replicate, get_or-append}
+use lib.ListN.{length, get_or, get_or-append}
 use lib.Seq.{get_or-append-add}
-use borrow.Author.Tests.{le-leb, lt-leb, lt-ltb, le-ltb, eqb-true}
+use borrow.Author.Tests.{le-leb, lt-leb, lt-ltb, le-ltb}
 use Rattle.base.specs.Part.{part}
 use Rattle.base.specs.Search.{all_from}
 use Rattle.base.specs.Each.{same}
@@ -25,17 +24,10 @@ use Rattle.page.proofs.Commits.{entry_is}
 use Rattle.image.specs.Size.{pages_in_block}
 use Rattle.image.specs.Look.{page_at}
 use Rattle.store.specs.Kind.{page_in}
-use Rattle.store.specs.Record.{map_size}
-use Rattle.store.specs.Mount.{letter_in, entry_in, Decision, by_entry}
+use Rattle.store.specs.Mount.{letter_in, entry_in, by_entry}
 use Rattle.store.specs.Replay.{held_at, EachPlace, EachLetter, part_read, LettersRead}
-use Rattle.store.proofs.Replays.{row-none, row_next}
 
 -- ---- one entry
-entry-decision : (e : Entry) → record { sequence = 0; page = (by_entry e).page; key = (by_entry e).key } ≡ by_entry e
-entry-decision (EntryAt page key) = refl
-entry-decision Vacant = refl
-entry-decision Misspelt = refl
-
 -- what it gives fits a map
 entry_most : (xs : List ℕ) (e : Entry) → length xs ≡ entry_size → entry_of xs ≡ e → ((by_entry e).page ≤ none) × ((by_entry e).key ≤ none)
 entry_most xs (EntryAt page key) l q = let r = entry_is xs page key l q in (omega (arith, r.1), omega (arith, r.2))
@@ -46,53 +38,10 @@ pub entry_at_most : (payload : List ℕ) (at : ℕ) (e : Entry) → at + entry_s
     → ((by_entry e).page ≤ none) × ((by_entry e).key ≤ none)
 entry_at_most payload at e h q = entry_most (part payload at entry_size) e (part_length payload at entry_size h) (sym q)
 
--- ---- the entries of a part
--- the entry of place y, where the part's places begin with first
-abbrev entry_from : List ℕ → ℕ → ℕ → Decision
-entry_from payload first y = by_entry (entry_of (part payload (entry_size * (y - first)) entry_size))
-
-module _ (payload : List ℕ) (first : ℕ) where
-  pub part_none : (map scratch : List ℕ) → EachPlace (part_read payload first (first + 0)) map scratch map scratch
-  part_none map scratch = rw add-zero (row-none (λ y held. entry_from payload first y) first map scratch)
-
-  -- one more place has its entry
-  pub part_next : (map₀ scratch₀ map scratch map' scratch' : List ℕ) (j page key : ℕ) (e : Entry)
-      → e ≡ entry_of (part payload (entry_size * j) entry_size) → page ≡ (by_entry e).page → key ≡ (by_entry e).key
-      → EachPlace (part_read payload first (first + j)) map₀ scratch₀ map scratch
-      → EachPlace (λ y held. cond (eqb (first + j) y) (record { sequence = 0; page = page; key = key }) held) map scratch map' scratch'
-      → EachPlace (part_read payload first (first + (j + 1))) map₀ scratch₀ map' scratch'
-  part_next map₀ scratch₀ map scratch map' scratch' j page key e entry p k so_far put =
-      let n : first + j + 1 ≡ first + (j + 1) = omega arith in
-      rw n at
-      (row_next (λ y held. entry_from payload first y) first map₀ scratch₀ map scratch map' scratch' (first + j) (omega arith) so_far
-      (λ y h. put y h ∙ go y (held_at map scratch y) (eqb (first + j) y) refl))
-    where
-      go : (y : ℕ) (held : Decision) (t : Bool) → eqb (first + j) y ≡ t → cond t (record { sequence = 0; page = page; key = key }) held ≡ cond t (entry_from payload first y) held
-      go y held true q =
-          let at : y - first ≡ j = omega (arith, eqb-true (first + j) y q) in
-          rw (p, k, at, ← entry) (entry-decision e)
-      go y held false q = refl
-
 -- ---- the parts, as a loop has them: the places of those before part i hold their entries, the others none
 pub record PartsRead (img : List ℕ) (c i : ℕ) (map scratch : List ℕ) : Type 0 where
   pub passed : (y : ℕ) → y < entries_in_part * (i - first_entry_part) → held_at map scratch y ≡ by_entry (entry_in img c y)
   pub ahead : (y : ℕ) → entries_in_part * (i - first_entry_part) ≤ y → y < places → held_at map scratch y ≡ by_entry Vacant
-
--- cleared lists hold none at every place
-pub parts_none : (img : List ℕ) (c m n : ℕ) (map scratch : List ℕ) → m ≡ map_size → n ≡ places → map ≡ replicate m none → scratch ≡ replicate n 0
-    → PartsRead img c first_entry_part map scratch
-parts_none img c m n map scratch map_full scratch_full map_cleared scratch_cleared =
-    record {
-      passed = λ y h. absurd (omega arith);
-      ahead = λ y h k.
-          rw (
-            map_cleared,
-            scratch_cleared,
-            get_or-replicate {A = ℕ} n y 0 0 (omega arith),
-            get_or-replicate {A = ℕ} m y none none (omega arith),
-            get_or-replicate {A = ℕ} m (places + y) none none (omega arith),
-          );
-    }
 
 -- an entry of a part that is vacant throughout
 vacant_entry_lem : (payload : List ℕ) (j : ℕ) → j < entries_in_part

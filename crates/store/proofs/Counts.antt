@@ -26,7 +26,7 @@ use Rattle.store.specs.Commit.{Stage, begin, cleaned, replace_keys, replace_comm
 use Rattle.store.specs.Wipe.{removed_first, wipe_of}
 use Rattle.store.specs.Gather.{live_pages, copy_steps, gather_of}
 use Rattle.store.specs.Outcome.{Outcome}
-use Rattle.store.specs.declared.Reply.TheVariants.{Done}
+use Rattle.store.specs.Reply.{Done}
 use Rattle.store.proofs.Outcomes.{format_outcome, mount_outcome, write_outcome, read_stepless, cut_off_outcome, commit_outcome, wipe_outcome, gather_outcome}
 
 -- ---- a block programmed, a block replaced: the new copy's pages, then the erase of the old one

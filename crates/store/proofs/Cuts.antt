@@ -12,15 +12,16 @@ use Rattle.image.specs.Step.{Step, play}
 use Rattle.image.specs.Power.{Device, device, power_for, run}
 use Rattle.image.specs.declared.Power.{Power}
 use Rattle.image.proofs.Runs.{run-play, run_on}
-use Rattle.store.specs.Reply.{is_done}
+use Rattle.store.specs.Reply.{Done, is_done}
 use Rattle.store.specs.Record.{Record}
 use Rattle.store.specs.Outcome.{Outcome, left, left_whole, most_steps}
-use Rattle.store.specs.declared.Reply.TheVariants.{Done, PowerCut}
+use Rattle.std.specs.Prelude.{Err}
+use Rattle.store.specs.declared.Error.TheVariants.{PowerCut}
 use Rattle.store.proofs.Verdicts.{done-true}
 use Rattle.store.proofs.Outcomes.{taken, leaves, left_taken, left_whole_lem}
 
 -- the power lasted for m steps exactly if n is not below m
-lasted : (m n : ℕ) → cond (leb m n) Done PowerCut ≡ cond (ltb n m) PowerCut Done
+lasted : (m n : ℕ) → cond (leb m n) Done (Err PowerCut) ≡ cond (ltb n m) (Err PowerCut) Done
 lasted m n =
     elim (dec_lt n m) [
       | yes h ↦ rw (lt-leb m n h, lt-ltb n m h)
@@ -29,7 +30,7 @@ lasted m n =
 
 -- a call that was taken: its steps run on the budget, the reply by the power that is left
 pub run-left : (n k : ℕ) {o : Outcome} {steps : List Step} {after : Record} {lent : List ℕ} (img img' : List ℕ) (q : Power) → o ≡ taken steps after lent
-    → device q img' ≡ run steps (device (power_for n k) img) → leaves (cond q.on Done PowerCut) img' after lent ≡ left n k o img
+    → device q img' ≡ run steps (device (power_for n k) img) → leaves (cond q.on Done (Err PowerCut)) img' after lent ≡ left n k o img
 run-left n k {steps = ss} {after = r} {lent = b} img img' q e d =
     let i : img' ≡ play n k ss img = ap (λ (x : Device). x.image) d ∙ run-play ss n k img in
     let p : q.on ≡ leb (length ss) n = ap (λ (x : Device). x.power.on) d ∙ run_on ss n k img in

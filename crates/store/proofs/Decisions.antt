@@ -25,7 +25,7 @@ use Rattle.page.specs.declared.Entry.{Entry}
 use Rattle.page.specs.declared.Entry.TheVariants.{At, Vacant as NoEntry, Misspelt}
 use Rattle.image.specs.Size.{pages}
 use Rattle.image.specs.Look.{form_at}
-use Rattle.page.specs.declared.Place.TheVariants.{At as PlaceAt}
+use Rattle.std.specs.Prelude.{Some}
 use Rattle.store.specs.Record.{is_at, map_size, page_of, key_of, place_fits}
 use Rattle.store.specs.Mount.{covered_in, entry_in, Decision, by_entry, sets, cuts, decide_by, decision, mount_map, mount_scratch, entries_fit}
 use Rattle.store.proofs.Fits.{Vacant, Named, is_at_lem, vacant-fits, named_fits}
@@ -273,7 +273,7 @@ module _ (img img' : List ℕ) (c c' : ℕ) (same : (x : ℕ) → x < places →
   mount_scratch_agree = list_from_agree _ _ places 0 (λ x h k. ap deciding_sequence (same x (omega arith)))
 
 -- ---- a place that an event decided fits by itself
-sets_is : (x : ℕ) (f : Frame) → sets x f ≡ true → (f.kind ≡ node_letter) × (place_of file_plan f.unit f.part ≡ PlaceAt x)
+sets_is : (x : ℕ) (f : Frame) → sets x f ≡ true → (f.kind ≡ node_letter) × (place_of file_plan f.unit f.part ≡ Some x)
 unfolding sets
 sets_is x f e =
     let a = and-true (eqb f.kind node_letter) (is_at x (place_of file_plan f.unit f.part)) e in

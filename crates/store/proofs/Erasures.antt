@@ -1,17 +1,17 @@
--- Blocks that a test picks, erased in order as code does it: from one to the next, on the image as it then is. What a mount erases are such blocks.
-use Prim.Native.Nat.{ℕ, ◌+◌, ◌-◌, ◌<◌, ◌≤◌, ◌*◌}
+-- Blocks that a test picks, erased in order as code does it, on the image as it then is. What a mount erases are such blocks.
+use Prim.Native.Nat.{ℕ, suc, ◌+◌, ◌-◌, ◌<◌, ◌≤◌, ◌*◌}
 use native.Mathlib.Omega.{arith}
-use native.Mathlib.Decide.{ℕ_discrete}
 use native.Mathlib.Nat.{sub-zero}
+use native.Mathlib.Numerals.{add-one}
 use mathlib.Core.Path.{◌≡◌, refl, sym, ap, ◌∙◌}
-use mathlib.Core.Bool.{Bool, true, false, cond, not, ◌&&◌, ◌||◌}
+use mathlib.Core.Bool.{Bool, true, false, not, ◌&&◌, ◌||◌}
 use mathlib.Core.List.{List, [], map}
-use lib.Dec.{eqb, ltb}
+use lib.Dec.{ltb}
 use lib.ListN.{length, get_or}
-use borrow.Author.Tests.{ne_eqb, lt-ltb, le-ltb}
-use Rattle.base.specs.Search.{first_from, which_from}
+use borrow.Author.Tests.{le-ltb}
+use Rattle.base.specs.Search.{which_from}
 use Rattle.base.proofs.Choice.{true-false}
-use Rattle.base.proofs.Searches.{any_fails, any_all_fail, first_bounds, first_holds, which_agree, which_here, which_none, which_first}
+use Rattle.base.proofs.Searches.{any_fails, any_all_fail, which_agree, which_here, which_none}
 use Rattle.image.specs.Size.{block_size, pages_in_block, most_blocks, blocks}
 use Rattle.image.specs.Look.{block_at}
 use Rattle.image.specs.Step.{erase}
@@ -27,58 +27,47 @@ use Rattle.store.specs.Mount.{covered_in, sequence_of, is_stray, has_above, is_c
 use Rattle.store.specs.Rebuild.{Sweeping, is_unmarked}
 use Rattle.store.specs.declared.Numbers.{Numbers}
 
+-- ---- one that is not picked is not in the list
+which_next : (p : ℕ → Bool) (n i : ℕ) → i < n → p i ≡ false → which_from p (n - i) i ≡ which_from p (n - (i + 1)) (i + 1)
+unfolding which_from
+which_next p n i h e = let k : n - i ≡ suc (n - (i + 1)) = omega arith in rw (k, e, add-one)
+
 -- ---- a test picks blocks of the n of an image
 module _ (picked : ℕ → Bool) (n : ℕ) (img₀ : List ℕ) (p₀ : Power) where
-  -- those before b are done, and b is the next, or n where there is none
+  -- those before b are done
   pub record Erasing (img : List ℕ) (p : Power) (b : ℕ) : Type 0 where
-    pub bound : b ≤ n
-    pub picks : b < n → picked b ≡ true
     pub size : length img ≡ length img₀
     pub later : (a : ℕ) → b ≤ a → block_at img a ≡ block_at img₀ a
     pub rest : run (map erase (which_from picked n 0)) (device p₀ img₀) ≡ run (map erase (which_from picked (n - b) b)) (device p img)
 
-  leap : (img : List ℕ) (p : Power) (i b : ℕ) → i ≤ n → length img ≡ length img₀ → ((a : ℕ) → i ≤ a → block_at img a ≡ block_at img₀ a)
-      → run (map erase (which_from picked n 0)) (device p₀ img₀) ≡ run (map erase (which_from picked (n - i) i)) (device p img)
-      → b ≡ first_from picked (n - i) i → Erasing img p b
-  leap img p i b h l later rest e =
-      let f = first_bounds picked (n - i) i in
-      let k : i + (n - i) ≡ n = omega arith in
-      rw e
-      (record {
-        bound = omega (arith, f.1);
-        picks = λ m. first_holds picked (n - i) i (omega arith);
-        size = l;
-        later = λ a m. later a (omega (arith, f.0));
-        rest = rest ∙ rw k at (ap (λ bs. run (map erase bs) (device p img)) (which_first picked (n - i) i));
-      })
+  pub erasing_first : Erasing img₀ p₀ 0
+  erasing_first = record { size = refl; later = λ a h. refl; rest = rw sub-zero }
 
-  pub erasing_first : (b : ℕ) → b ≡ first_from picked (n - 0) 0 → Erasing img₀ p₀ b
-  erasing_first b e = leap img₀ p₀ 0 b (omega arith) refl (λ a h. refl) (rw sub-zero) e
+  -- block b is passed
+  pub erasing_past : (img : List ℕ) (p : Power) (b : ℕ) → Erasing img p b → b < n → picked b ≡ false → Erasing img p (b + 1)
+  erasing_past img p b so_far h e =
+      record {
+        size = so_far.size;
+        later = λ a l. so_far.later a (omega arith);
+        rest = so_far.rest ∙ rw (which_next picked n b h e);
+      }
 
   -- block b is erased
-  module _ (img img' : List ℕ) (p q : Power) (b : ℕ) (so_far : Erasing img p b) (h : b < n) (inside : n * block_size ≤ length img₀)
-      (done : device q img' ≡ act (erase b) (device p img)) where
-    pub erased_later : (a : ℕ) → b + 1 ≤ a → block_at img' a ≡ block_at img₀ a
-    erased_later a l =
-        block_done_other (erase b) p q img img' a done (omega (arith, so_far.size)) (λ e. omega arith) ∙ so_far.later a (omega arith)
-
-    pub erasing_next : (c : ℕ) → c ≡ first_from picked (n - (b + 1)) (b + 1) → Erasing img' q c
-    erasing_next c e =
-        leap img' q (b + 1) c (omega arith)
-        (ap (λ (d : Device). length d.image) done ∙ act-length (erase b) (device p img) (omega (arith, so_far.size)) ∙ so_far.size)
-        erased_later
-        (so_far.rest ∙ rw (which_here picked n b h (so_far.picks h), done) (run_cons (erase b) (map erase (which_from picked (n - (b + 1)) (b + 1))) (device p img)))
-        e
+  pub erasing_next : (img img' : List ℕ) (p q : Power) (b : ℕ) → Erasing img p b → b < n → n * block_size ≤ length img₀ → picked b ≡ true
+      → device q img' ≡ act (erase b) (device p img) → Erasing img' q (b + 1)
+  erasing_next img img' p q b so_far h inside e done =
+      record {
+        size = ap (λ (d : Device). length d.image) done ∙ act-length (erase b) (device p img) (omega (arith, so_far.size)) ∙ so_far.size;
+        later = λ a l. block_done_other (erase b) p q img img' a done (omega (arith, so_far.size)) (λ i. omega arith) ∙ so_far.later a (omega arith);
+        rest =
+            so_far.rest
+            ∙ rw (which_here picked n b h e, done) (run_cons (erase b) (map erase (which_from picked (n - (b + 1)) (b + 1))) (device p img));
+      }
 
   pub erasing_last : (img : List ℕ) (p : Power) (b : ℕ) → Erasing img p b → n ≤ b → device p img ≡ run (map erase (which_from picked n 0)) (device p₀ img₀)
   erasing_last img p b e h = sym (e.rest ∙ rw (which_none picked n b h) (run_nil (device p img)))
 
 -- ---- what a mount erases
--- what a table's 1 or 0 says
-pub flagged : (h : Bool) → not (eqb (cond h 1 0) 0) ≡ h
-flagged true = refl
-flagged false = refl
-
 -- what mount erases is not chosen, and has no event or no live page and nothing above the covered sequence
 pub swept_is : (img : List ℕ) (r : Record) (b : ℕ)
     → is_swept img r b ≡ not (is_chosen r.numbers b) && (not (has_events img b) || not (has_live r.map b) && not
@@ -107,22 +96,16 @@ none_above img s b e =
     (λ i h l. rw (unheaded_sequence (form_at img (page_in b i)) (any_fails (λ i. headed (form_at img (page_in b i))) pages_in_block 0 i e h l))
     (le-ltb s 0 (omega arith)))
 
-marked_live : (m : ℕ) → not (eqb m 0) ≡ ltb 0 m
-marked_live m = elim (ℕ_discrete m 0) [
-  | yes e ↦ rw e
-  | no e ↦ rw (ne_eqb m 0 e, lt-ltb 0 m (omega arith))
-]
-
--- so the code may go by the two tables
-pub unmarked_swept : (img map' events lives : List ℕ) (r : Numbers) → Sweeping img map' events r
-    → ((b : ℕ) → b < most_blocks → has_live map' b ≡ ltb 0 (get_or lives b 0))
+-- so two tables and what is chosen tell it
+pub unmarked_swept : (img map' : List ℕ) (events lives : List Bool) (r : Numbers) → Sweeping img map' events r
+    → ((b : ℕ) → b < most_blocks → has_live map' b ≡ get_or lives b false)
     → map erase (which_from (is_unmarked events lives r) (blocks img) 0) ≡ map erase (which_from (is_swept img (record_of map' [] r)) (blocks img) 0)
 unmarked_swept img map' events lives r s live =
     ap (map erase) (which_agree (is_unmarked events lives r) (is_swept img (record_of map' [] r)) (blocks img) 0
     (λ b h l.
     let k : b < blocks img = omega arith in
     let covered = covered_in img r.commit in
-    rw (s.told b k, flagged (has_above img covered b), marked_live (get_or lives b 0), ← live b (omega (arith, s.few)))
+    rw (s.told b k, ← live b (omega (arith, s.few)))
     (go (is_chosen r b) (has_events img b) (has_live map' b) (has_above img covered b) (s.headed b) (none_above img covered b)) ∙ sym
     (swept_is img (record_of map' [] r) b)))
   where
@@ -135,3 +118,12 @@ unmarked_swept img map' events lives r s live =
     go false false true a f g = absurd (true-false (f refl) refl)
     go false false false true f g = absurd (true-false refl (g refl))
     go false false false false f g = refl
+
+-- and the code may go by one table of the three
+pub kept_swept : (img map' : List ℕ) (events lives kept : List Bool) (r : Numbers) → Sweeping img map' events r
+    → ((b : ℕ) → b < most_blocks → has_live map' b ≡ get_or lives b false)
+    → ((b : ℕ) → b < blocks img → get_or kept b false ≡ is_chosen r b || get_or events b false || get_or lives b false)
+    → map erase (which_from (λ b. not (get_or kept b false)) (blocks img) 0) ≡ map erase (which_from (is_swept img (record_of map' [] r)) (blocks img) 0)
+kept_swept img map' events lives kept r s live told =
+    ap (map erase) (which_agree (λ b. not (get_or kept b false)) (is_unmarked events lives r) (blocks img) 0 (λ b h l. rw (told b (omega arith))))
+    ∙ unmarked_swept img map' events lives r s live

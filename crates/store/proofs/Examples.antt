@@ -13,21 +13,20 @@ use Rattle.page.specs.Header.{in_range, header_bytes, header_of, node_frame, cut
 use Rattle.page.specs.Form.{is_empty, closed, form_of}
 use Rattle.page.specs.Entry.{none, entry_bytes, entry_of, entries_from, commit_payload, valid_payload, free_letter}
 use Rattle.page.specs.Page.{page_bytes, keys_page, commit_page, cut_off_page, payload_of}
-use Rattle.page.specs.declared.Header.TheVariants.{Is, Invalid}
+use Rattle.std.specs.Prelude.{Some, None}
 use Rattle.page.specs.declared.Entry.TheVariants.{At, Vacant, Misspelt}
-use Rattle.page.specs.declared.Place.TheVariants.{At as PlaceAt}
 use Rattle.image.specs.Look.{page_at, page_empty, form_at}
 use Rattle.store.specs.Kind.{key_block_whole, commit_block_whole, kind_of}
 use Rattle.store.specs.Mount.{covered_in, entry_in, removes, sets, cuts, decision}
 use Rattle.store.specs.declared.Kind.TheVariants.{Keys, Commit}
 
 -- ---- headers, entries, places
-pub header_example : header_of (header_bytes (cut_off_frame 12 3 23)) ≡ Is (cut_off_frame 12 3 23)
+pub header_example : header_of (header_bytes (cut_off_frame 12 3 23)) ≡ Some (cut_off_frame 12 3 23)
 unfolding header_of header_bytes number_in value_after spell columns same part in_range count_of
 header_example = refl
 
 -- file 3 has 24 nodes
-pub header_outside : header_of (header_bytes (cut_off_frame 12 3 24)) ≡ Invalid
+pub header_outside : header_of (header_bytes (cut_off_frame 12 3 24)) ≡ None
 unfolding header_of header_bytes number_in value_after spell columns same part in_range count_of
 header_outside = refl
 
@@ -44,7 +43,7 @@ pub entry_outside : entry_of (entry_bytes 50 448) ≡ Misspelt
 unfolding entry_of entry_bytes number_in value_after spell columns same part
 entry_outside = refl
 
-pub place_example : place_of file_plan 13 7 ≡ PlaceAt 223
+pub place_example : place_of file_plan 13 7 ≡ Some 223
 unfolding place_of count_of start_of
 place_example = refl
 

@@ -30,7 +30,7 @@ use Rattle.store.specs.CutOff.{emptied, removed, cut_off_steps, cut_off_of}
 use Rattle.store.specs.Taken.{Filling, WriteTaken, CutOffTaken}
 use Rattle.store.specs.declared.Kind.TheVariants.{Other}
 use Rattle.store.specs.declared.Numbers.{Numbers}
-use Rattle.store.specs.declared.Reply.TheVariants.{Done}
+use Rattle.store.specs.Reply.{Done}
 use Rattle.store.proofs.Verdicts.{write_taken_lem, cut_off_taken_lem}
 use Rattle.store.proofs.BlockKinds.{kind_agree}
 use Rattle.store.proofs.Finds.{found_is, lowest_free_lem, write-page-is_empty, write_page_is_apart}

@@ -47,7 +47,7 @@ use Rattle.store.specs.Stages.{erases}
 use Rattle.store.specs.Taken.{Ready, Planned}
 use Rattle.store.specs.declared.Kind.TheVariants.{Keys, Commit, Other}
 use Rattle.store.specs.declared.Numbers.{Numbers}
-use Rattle.store.specs.declared.Reply.TheVariants.{Done}
+use Rattle.store.specs.Reply.{Done}
 use Rattle.store.proofs.Verdicts.{commit_taken_lem, wipe_taken_lem}
 use Rattle.store.proofs.BlockKinds.{kind_agree, kind_unbegun, chosen_is_no_data, keys-kind, commit-kind, page_block}
 use Rattle.store.proofs.Fits.{Fit, Vacant, Named, fits_is, fit-fits, fit_inside, is_letter_lem, named_inside, named_position, named_live}

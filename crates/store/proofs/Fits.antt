@@ -19,8 +19,7 @@ use Rattle.page.specs.Entry.{none, last_page, free_letter, used_letter, deleted_
 use Rattle.page.specs.declared.Frame.{Frame}
 use Rattle.page.specs.declared.Form.{Form}
 use Rattle.page.specs.declared.Form.TheVariants.{Empty, Whole, Torn, Spoilt}
-use Rattle.page.specs.declared.Place.{Place}
-use Rattle.page.specs.declared.Place.TheVariants.{At, Outside}
+use Rattle.std.specs.Prelude.{Option, Some, None}
 use Rattle.page.specs.Form.{whole_node}
 use Rattle.page.proofs.Plans.{place_unique}
 use Rattle.page.proofs.Ranges.{within-true, within_intro}
@@ -51,12 +50,12 @@ pub record Named (img map : List ℕ) (x : ℕ) : Type 0 where
   pub header : Frame
   pub whole : form_at img (page_of map x) ≡ Whole header
   pub node : header.kind ≡ node_letter
-  pub place : place_of file_plan header.unit header.part ≡ At x
+  pub place : place_of file_plan header.unit header.part ≡ Some x
   pub key : header.key ≡ key_of map x
 
-pub is_at_lem : (x : ℕ) (p : Place) → is_at x p ≡ true → p ≡ At x
-is_at_lem x (At y) e = ap At (eqb-true y x e)
-is_at_lem x Outside e = absurd (true-false e refl)
+pub is_at_lem : (x : ℕ) (p : Option ℕ) → is_at x p ≡ true → p ≡ Some x
+is_at_lem x (Some y) e = ap Some (eqb-true y x e)
+is_at_lem x None e = absurd (true-false e refl)
 
 -- a node's key is a position
 node-key : (f : Frame) → f.kind ≡ node_letter → in_range f ≡ true → f.key ≤ last_position
@@ -67,7 +66,7 @@ node-key f k r =
     leb-true _ _ (and-true (within 1 last_number f.number && in_plan f) (leb f.key last_position) a.0).1
 
 -- a whole node with the file and the offset of place x is one of place x
-pub fields_node : (x p file offset : ℕ) → place_of file_plan file offset ≡ At x → (m : Form) → whole_node file offset p m ≡ node_at x p m
+pub fields_node : (x p file offset : ℕ) → place_of file_plan file offset ≡ Some x → (m : Form) → whole_node file offset p m ≡ node_at x p m
 fields_node x p file offset e Empty = refl
 fields_node x p file offset e (Whole f) =
     let place = is_at x (place_of file_plan f.unit f.part) in

@@ -22,9 +22,9 @@ use Rattle.store.specs.Kind.{page_in, kind_of}
 use Rattle.store.specs.Record.{Record, page_of, key_of, fits}
 use Rattle.store.specs.Find.{found_at}
 use Rattle.store.specs.Gather.{live_pages, place_on, copy_to, copy_step, copied, copy_steps, copied_all, gather_of}
-use Rattle.store.specs.declared.Found.TheVariants.{At}
+use Rattle.std.specs.Prelude.{Some}
 use Rattle.store.specs.declared.Kind.TheVariants.{Other}
-use Rattle.store.specs.declared.Reply.TheVariants.{Done}
+use Rattle.store.specs.Reply.{Done}
 use Rattle.store.proofs.BlockKinds.{kind_agree}
 use Rattle.store.proofs.Finds.{new_page_is_apart}
 use Rattle.store.proofs.Fits.{Fit, fits_is, fit-fits, Vacant, Named, live_named}
@@ -60,7 +60,7 @@ module _ (block g : ℕ) (gs img : List ℕ) (r : Record) (c : Copying block (g 
   -- a block of some kind is not the one that the copy went to
   kind_stays : (b : ℕ) → (kind_of img b ≡ Other → ⊥) → kind_of last b ≡ kind_of img b
   kind_stays b k =
-      let apart : b ≡ to / pages_in_block → ⊥ = λ e. k (rw e (new_page_is_apart (At block) img r.numbers to (copy_found block g gs img r c))) in
+      let apart : b ≡ to / pages_in_block → ⊥ = λ e. k (rw e (new_page_is_apart (Some block) img r.numbers to (copy_found block g gs img r c))) in
       kind_agree last img b (λ i h. page_stays (page_in b i) (λ e. apart (omega arith)))
 
   named_stays : (y : ℕ) → Named img r.map y → page_of r.map y ≡ to → ⊥

@@ -2,14 +2,15 @@
 use Prim.Native.Nat.{ℕ, ◌+◌, ◌-◌, ◌/◌, ◌%◌, ◌<◌}
 use native.Mathlib.Omega.{arith}
 use native.Mathlib.Decide.{ℕ_discrete}
-use mathlib.Core.Path.{◌≡◌, refl, sym, ◌∙◌}
+use mathlib.Core.Path.{◌≡◌, refl, sym, ap, ◌∙◌}
 use mathlib.Core.Bool.{Bool, true, false, cond, ◌&&◌}
 use mathlib.Core.List.{List}
 use lib.Dec.{eqb}
 use lib.ListN.{length, get_or, set, replicate, length-set, length-replicate, get_or-replicate}
 use lib.Seq.{get_or-set_same, get_or-set_other}
-use borrow.Author.Tests.{eq-eqb, eqb-true}
-use Rattle.base.specs.Search.{first_from}
+use borrow.Author.Tests.{eq-eqb, eqb-true, lt-ltb}
+use Rattle.std.specs.Prelude.{Option, Some, None}
+use Rattle.base.specs.Search.{first_from, found}
 use Rattle.base.proofs.Choice.{and-true, and_intro, true-false}
 use Rattle.base.proofs.Searches.{first_here, first_next, first_none}
 use Rattle.page.specs.Plan.{places}
@@ -20,22 +21,23 @@ use Rattle.store.specs.Gather.{is_on, place_on}
 use Rattle.store.specs.Targets.{PlacesIn}
 
 -- the places from x on are noted
-pub record NotedFrom (map : List ℕ) (block x : ℕ) (at : List ℕ) : Type 0 where
+pub record NotedFrom (map : List ℕ) (block x : ℕ) (at : List (Option ℕ)) : Type 0 where
   pub full : length at ≡ pages_in_block
-  pub each : (i : ℕ) → i < pages_in_block → get_or at i 0 ≡ first_from (is_on map (page_in block i)) (places - x) x
+  pub each : (i : ℕ) → i < pages_in_block → get_or at i None ≡ found places (first_from (is_on map (page_in block i)) (places - x) x)
 
 -- place x has a page of the block
 abbrev pub is_in : List ℕ → ℕ → ℕ → Bool
 is_in map block x = live map x && eqb (page_of map x / pages_in_block) block
 
 module _ (map : List ℕ) (block : ℕ) where
-  pub noted-none : NotedFrom map block places (replicate pages_in_block places)
+  pub noted-none : NotedFrom map block places (replicate pages_in_block None)
   noted-none = record {
-    full = length-replicate pages_in_block places;
-    each = λ i h. get_or-replicate pages_in_block i places 0 h ∙ sym (first_none (is_on map (page_in block i)) places places (omega arith));
+    full = length-replicate {A = Option ℕ} pages_in_block None;
+    each = λ i h. get_or-replicate {A = Option ℕ} pages_in_block i None None h
+        ∙ sym (ap (found places) (first_none (is_on map (page_in block i)) places places (omega arith)));
   }
 
-  pub noted_all : (at : List ℕ) → NotedFrom map block 0 at → PlacesIn map block at
+  pub noted_all : (at : List (Option ℕ)) → NotedFrom map block 0 at → PlacesIn map block at
   unfolding place_on
   noted_all at n = record { full = n.full; each = n.each }
 
@@ -61,25 +63,25 @@ module _ (map : List ℕ) (block : ℕ) where
       go false e = refl
 
   -- one place more
-  pub noted_next : (x y : ℕ) (at at' : List ℕ) → y ≡ x + 1 → x < places → NotedFrom map block y at
-      → at' ≡ cond (is_in map block x) (set at (page_of map x % pages_in_block) x) at → NotedFrom map block x at'
+  pub noted_next : (x y : ℕ) (at at' : List (Option ℕ)) → y ≡ x + 1 → x < places → NotedFrom map block y at
+      → at' ≡ cond (is_in map block x) (set at (page_of map x % pages_in_block) (Some x)) at → NotedFrom map block x at'
   noted_next x y at at' s h n e = go (is_in map block x) refl e
     where
-      past : (i : ℕ) → i < pages_in_block → is_on map (page_in block i) x ≡ false → get_or at i 0 ≡ first_from (is_on map (page_in block i)) (places - x) x
-      past i k f = rw s at (n.each i k) ∙ sym (first_next (is_on map (page_in block i)) places x h f)
+      past : (i : ℕ) → i < pages_in_block → is_on map (page_in block i) x ≡ false → get_or at i None ≡ found places (first_from (is_on map (page_in block i)) (places - x) x)
+      past i k f = rw s at (n.each i k) ∙ ap (found places) (sym (first_next (is_on map (page_in block i)) places x h f))
 
-      here : is_in map block x ≡ true → get_or (set at (page_of map x % pages_in_block) x) (page_of map x % pages_in_block) 0
-          ≡ first_from (is_on map (page_in block (page_of map x % pages_in_block))) (places - x) x
+      here : is_in map block x ≡ true → get_or (set at (page_of map x % pages_in_block) (Some x)) (page_of map x % pages_in_block) None
+          ≡ found places (first_from (is_on map (page_in block (page_of map x % pages_in_block))) (places - x) x)
       here q =
-          get_or-set_same at (page_of map x % pages_in_block) x 0 (omega (arith, n.full))
-          ∙ sym (first_here (is_on map (page_in block (page_of map x % pages_in_block))) places x h (on-here x q))
+          get_or-set_same at (page_of map x % pages_in_block) (Some x) None (omega (arith, n.full))
+          ∙ rw (first_here (is_on map (page_in block (page_of map x % pages_in_block))) places x h (on-here x q), lt-ltb x places h)
 
-      go : (t : Bool) → is_in map block x ≡ t → at' ≡ cond t (set at (page_of map x % pages_in_block) x) at → NotedFrom map block x at'
+      go : (t : Bool) → is_in map block x ≡ t → at' ≡ cond t (set at (page_of map x % pages_in_block) (Some x)) at → NotedFrom map block x at'
       go true q r = rw r (record {
-        full = length-set at (page_of map x % pages_in_block) x ∙ n.full;
+        full = length-set at (page_of map x % pages_in_block) (Some x) ∙ n.full;
         each = λ i k. elim (ℕ_discrete i (page_of map x % pages_in_block)) [
           | yes m ↦ rw m (here q)
-          | no m ↦ get_or-set_other at (page_of map x % pages_in_block) i x 0 m ∙ past i k (not_on x i (λ o. m (on_only x i k o).1))
+          | no m ↦ get_or-set_other at (page_of map x % pages_in_block) i (Some x) None m ∙ past i k (not_on x i (λ o. m (on_only x i k o).1))
         ];
       })
       go false q r = rw r (record { full = n.full; each = λ i k. past i k (not_on x i (λ o. true-false (on_only x i k o).0 q)) })

@@ -31,8 +31,7 @@ use Rattle.store.specs.Record.{Record, map_size, page_of, live}
 use Rattle.store.specs.Find.{is_open, is_outside, is_open_but, is_found, found_at}
 use Rattle.store.specs.Gather.{live_pages, copy_to, copy_step, copied, room_for_all}
 use Rattle.store.specs.declared.Numbers.{Numbers}
-use Rattle.store.specs.declared.Found.{Found}
-use Rattle.store.specs.declared.Found.TheVariants.{At, Nothing}
+use Rattle.std.specs.Prelude.{Option, Some, None}
 use Rattle.store.proofs.BlockKinds.{open_agree}
 use Rattle.store.proofs.Fits.{Fit, fit_data}
 use Rattle.store.proofs.Copies.{empty_kind}
@@ -41,7 +40,7 @@ use Rattle.store.proofs.Gathers.{LiveIn, Apart, Copying, header, payload, payloa
 
 -- how many pages are open outside a block
 abbrev pub open_outside : ℕ → List ℕ → Numbers → ℕ
-open_outside block img n = count_from (is_open_but (At block) img n) (pages img) 0
+open_outside block img n = count_from (is_open_but (Some block) img n) (pages img) 0
 
 -- ---- counts
 count_all : (p : ℕ → Bool) (n i : ℕ) → ((j : ℕ) → i ≤ j → j < i + n → p j ≡ true) → count_from p n i ≡ n
@@ -147,25 +146,25 @@ module _ (block g : ℕ) (img : List ℕ) (r : Record) (c : Copying block (g ∷
   unfolding is_data
   chosen_not_data b d = not-true (is_chosen n b) (and-true (has_events img b) (not (is_chosen n b)) d).1
 
-  pub outside_is : (h : ℕ) → h / pages_in_block ≡ to / pages_in_block → is_outside (At block) h ≡ true
+  pub outside_is : (h : ℕ) → h / pages_in_block ≡ to / pages_in_block → is_outside (Some block) h ≡ true
   outside_is h e = let z = ne_eqb (h / pages_in_block) block (λ q. copy_apart block g [] img r c (sym e ∙ q)) in rw z
 
   -- ---- an open page was taken: one less, and as many empty blocks
-  module _ (o : OpenPage (At block) img n to) where
+  module _ (o : OpenPage (Some block) img n to) where
     one_fewer : open_outside block img n ≡ suc (open_outside block image n)
     one_fewer =
         let len = same_length in
         rw len
-        (count_except (is_open_but (At block) img n) (is_open_but (At block) image n) (pages img) 0 to (omega arith) (omega (arith, o.inside))
+        (count_except (is_open_but (Some block) img n) (is_open_but (Some block) image n) (pages img) 0 to (omega arith) (omega (arith, o.inside))
         (and_intro _ _ o.outside (page_open img n to o.data_block o.empty))
-        (rw (shut_before to refl (omega arith)) (and-false (is_outside (At block) to)))
+        (rw (shut_before to refl (omega arith)) (and-false (is_outside (Some block) to)))
         (λ h e. elim (ℕ_discrete (h / pages_in_block) (to / pages_in_block)) [
           | yes q ↦ elim (dec_lt h to) [
-            | yes l ↦ rw (shut_before h q (omega arith)) (and-false (is_outside (At block) h)) ∙ sym (o.lowest h l)
+            | yes l ↦ rw (shut_before h q (omega arith)) (and-false (is_outside (Some block) h)) ∙ sym (o.lowest h l)
             | no l ↦ rw (open_after h q (omega (arith, e)) (chosen_not_data (to / pages_in_block) o.data_block) o.empty)
-                (ap (λ (t : Bool). is_outside (At block) h && t) (sym (page_open img n h (rw q o.data_block) (λ j a z. o.empty j (omega arith) (z ∙ q)))))
+                (ap (λ (t : Bool). is_outside (Some block) h && t) (sym (page_open img n h (rw q o.data_block) (λ j a z. o.empty j (omega arith) (z ∙ q)))))
           ]
-          | no q ↦ ap (λ (t : Bool). is_outside (At block) h && t) (open_other h q)
+          | no q ↦ ap (λ (t : Bool). is_outside (Some block) h && t) (open_other h q)
         ]))
 
     pub as_many : empty_blocks image ≡ empty_blocks img
@@ -175,13 +174,13 @@ module _ (block g : ℕ) (img : List ℕ) (r : Record) (c : Copying block (g ∷
     ])
 
   -- ---- a fresh block was taken: its other pages are open
-  module _ (f : FreshPage (At block) img n to) (unchosen : is_chosen n (to / pages_in_block) ≡ false) where
+  module _ (f : FreshPage (Some block) img n to) (unchosen : is_chosen n (to / pages_in_block) ≡ false) where
     fifteen : pages_in_block - 1 ≤ open_outside block image n
     fifteen =
         let z = sized img c.size in
         let len = same_length in
         let p : pages image ≡ pages img = rw len in
-        count_run (is_open_but (At block) image n) (pages image) (to + 1) (pages_in_block - 1) (omega (arith, f.first, f.inside, z.paged))
+        count_run (is_open_but (Some block) image n) (pages image) (to + 1) (pages_in_block - 1) (omega (arith, f.first, f.inside, z.paged))
         (λ h a l.
         let q : h / pages_in_block ≡ to / pages_in_block = omega (arith, f.first) in
         and_intro _ _ (outside_is h q) (open_after h q (omega arith) unchosen
@@ -270,7 +269,7 @@ or-true true = refl
 or-true false = refl
 
 -- a fresh block is none of the chosen
-pub unchosen_empty : (block : ℕ) (gs img : List ℕ) (r : Record) (to : ℕ) → Gathering block gs img r → FreshPage (At block) img r.numbers to
+pub unchosen_empty : (block : ℕ) (gs img : List ℕ) (r : Record) (to : ℕ) → Gathering block gs img r → FreshPage (Some block) img r.numbers to
     → is_chosen r.numbers (to / pages_in_block) ≡ false
 unchosen_empty block gs img r to w f = go (is_chosen r.numbers (to / pages_in_block)) refl
   where
@@ -291,7 +290,7 @@ module _ (block g : ℕ) (gs img : List ℕ) (r : Record) (w : Gathering block (
   Goal = room_for_all block gs image' (copied block img r g) ≡ (leb (suc (length gs)) (open_outside block img r.numbers) || leb 2 (empty_blocks img))
 
   room_taken : (found : is_found (copy_to block img r.numbers) ≡ true) → Rest
-      → OpenPage (At block) img r.numbers (found_at (copy_to block img r.numbers)) ⊎ FreshPage (At block) img r.numbers (found_at (copy_to block img r.numbers)) → Goal
+      → OpenPage (Some block) img r.numbers (found_at (copy_to block img r.numbers)) ⊎ FreshPage (Some block) img r.numbers (found_at (copy_to block img r.numbers)) → Goal
   room_taken found rest (inl o) =
       rest ∙ rw (
         numbers-same block g gs img r w found,
@@ -309,15 +308,15 @@ module _ (block g : ℕ) (gs img : List ℕ) (r : Record) (w : Gathering block (
             f.two_empty,
       ) (sym (or-true (leb (suc (length gs)) (open_outside block img r.numbers))))
 
-  room-here : (x : Found) → copy_to block img r.numbers ≡ x → (is_found (copy_to block img r.numbers) ≡ true → Rest)
+  room-here : (x : Option ℕ) → copy_to block img r.numbers ≡ x → (is_found (copy_to block img r.numbers) ≡ true → Rest)
       → (is_found x && room_for_all block gs image' (copied block img r g)) ≡ (leb (suc (length gs)) (open_outside block img r.numbers) || leb 2 (empty_blocks img))
-  room-here (At to) e rest =
+  room-here (Some to) e rest =
       let found : is_found (copy_to block img r.numbers) ≡ true = rw e in
-      room_taken found (rest found) (new_page_lem (At block) img r.numbers (found_at (copy_to block img r.numbers))
+      room_taken found (rest found) (new_page_lem (Some block) img r.numbers (found_at (copy_to block img r.numbers))
       (found_is (copy_to block img r.numbers) found))
-  room-here Nothing e rest =
-      let n = no_new_page (At block) img r.numbers e in
-      let z : open_outside block img r.numbers ≡ 0 = count_zero (is_open_but (At block) img r.numbers) (pages img) 0 (λ h a l. n.0 h (omega arith)) in
+  room-here None e rest =
+      let n = no_new_page (Some block) img r.numbers e in
+      let z : open_outside block img r.numbers ≡ 0 = count_zero (is_open_but (Some block) img r.numbers) (pages img) 0 (λ h a l. n.0 h (omega arith)) in
       sym (rw (z, lt-leb (suc (length gs)) 0 (omega arith), lt-leb 2 (empty_blocks img) (omega (arith, n.1))))
 
 pub room-counted : (block : ℕ) (gs img : List ℕ) (r : Record) → Gathering block gs img r → length gs ≤ pages_in_block

@@ -9,8 +9,10 @@ use mathlib.Core.List.{List, [], ◌∷◌}
 use lib.Dec.{eqb, leb, ltb}
 use lib.ListN.{length, get_or, set}
 use borrow.Author.Tests.{eq-eqb, ne_eqb, lt-ltb, le-ltb, leb-true}
+use Rattle.std.specs.List.{count_by}
+use Rattle.std.proofs.lemmas.List.Recursion.{is_sum_by}
 use Rattle.base.specs.Each.{Each}
-use Rattle.base.specs.Search.{first_from, count_from}
+use Rattle.base.specs.Search.{first_from, count_from, found}
 use Rattle.base.proofs.Choice.{and-true}
 use Rattle.base.proofs.Searches.{first_bounds, first_holds, first_least, first_is, first_agree, first_all, any_fails, count_agree, length_which}
 use Rattle.page.specs.Plan.{places}
@@ -23,13 +25,12 @@ use Rattle.image.proofs.Empties.{empty_block_page}
 use Rattle.image.proofs.Forms.{form_same}
 use Rattle.store.specs.Kind.{page_in, is_chosen, is_data}
 use Rattle.store.specs.Record.{Record, page_of, live}
-use Rattle.store.specs.Find.{found, is_open, is_outside, is_open_but, fresh_page, or_else, new_page_but, is_found, found_at}
+use Rattle.store.specs.Find.{is_open, is_outside, is_open_but, fresh_page, or_else, new_page_but, is_found, found_at}
 use Rattle.store.specs.Write.{next_sequence}
 use Rattle.store.specs.Gather.{is_on, is_live_page, place_on, live_pages, is_gathered, copy_of, copy_to, copy_step, copied, copy_steps, copied_all, room_for_all}
 use Rattle.store.specs.Targets.{PlacesIn, open_page_from, new_page_from, page_after, pages_from, targets, copies_to, moved_to, sequences_used}
 use Rattle.store.specs.declared.Numbers.{Numbers}
-use Rattle.store.specs.declared.Found.{Found}
-use Rattle.store.specs.declared.Found.TheVariants.{At, Nothing}
+use Rattle.std.specs.Prelude.{Option, Some, None, is_some}
 use Rattle.store.proofs.Finds.{by_test, found_is, fresh_page_lem, OpenPage, FreshPage, new_page_lem, open_is_new}
 use Rattle.store.proofs.Gathers.{LiveIn, each_with, Copying, live-place, copy_empty, copy_apart, page-same, page_old, page_new, data_filled}
 use Rattle.store.proofs.Fits.{Fit}
@@ -48,27 +49,27 @@ first_later p n a l f =
     ])
 
 -- ---- the search does not look at the next sequence
-new_page_next : (but : Found) (img : List ℕ) (r : Numbers) (b : ℕ) → new_page_from but img (next_sequence r) b ≡ new_page_from but img r b
+new_page_next : (but : Option ℕ) (img : List ℕ) (r : Numbers) (b : ℕ) → new_page_from but img (next_sequence r) b ≡ new_page_from but img r b
 unfolding new_page_from open_page_from is_open is_data
 new_page_next but img r b = refl
 
-new_page-whole : (but : Found) (img : List ℕ) (r : Numbers) → new_page_but but img (next_sequence r) ≡ new_page_but but img r
+new_page-whole : (but : Option ℕ) (img : List ℕ) (r : Numbers) → new_page_but but img (next_sequence r) ≡ new_page_but but img r
 unfolding new_page_but is_open is_data
 new_page-whole but img r = refl
 
-pages_next : (but : Found) (img : List ℕ) (r : Numbers) (m : ℕ) (x : Found) → pages_from but img (next_sequence r) m x ≡ pages_from but img r m x
+pages_next : (but : Option ℕ) (img : List ℕ) (r : Numbers) (m : ℕ) (x : Option ℕ) → pages_from but img (next_sequence r) m x ≡ pages_from but img r m x
 unfolding pages_from
 pages_next but img r zero x = refl
-pages_next but img r (suc m) (At t) =
+pages_next but img r (suc m) (Some t) =
     ap (λ (ts : List ℕ). t ∷ ts)
-    (ap (λ (y : Found). pages_from but img (next_sequence r) m (cond (ltb (t % pages_in_block) (pages_in_block - 1)) (At (t + 1)) y))
+    (ap (λ (y : Option ℕ). pages_from but img (next_sequence r) m (cond (ltb (t % pages_in_block) (pages_in_block - 1)) (Some (t + 1)) y))
     (new_page_next but img r (t / pages_in_block + 1))
     ∙ pages_next but img r m (page_after but img r t))
-pages_next but img r (suc m) Nothing = refl
+pages_next but img r (suc m) None = refl
 
 -- ---- pages of one block follow each other on any image
-pages_in_block_lem : (but : Found) (img img' : List ℕ) (r : Numbers) (m t : ℕ) → m + t % pages_in_block ≤ pages_in_block
-    → pages_from but img r m (At t) ≡ pages_from but img' r m (At t)
+pages_in_block_lem : (but : Option ℕ) (img img' : List ℕ) (r : Numbers) (m t : ℕ) → m + t % pages_in_block ≤ pages_in_block
+    → pages_from but img r m (Some t) ≡ pages_from but img' r m (Some t)
 unfolding pages_from
 pages_in_block_lem but img img' r zero t h = refl
 pages_in_block_lem but img img' r (suc zero) t h = refl
@@ -93,11 +94,11 @@ module _ (block g : ℕ) (img : List ℕ) (r : Record) (c : Copying block (g ∷
   -- the next page of the block that was taken
   next_open : to < pages img → to % pages_in_block < pages_in_block - 1 → is_chosen n (to / pages_in_block) ≡ false
       → ((h : ℕ) → to < h → h / pages_in_block ≡ to / pages_in_block → page_empty img h ≡ true)
-      → ((h : ℕ) → h < to + 1 → is_open_but (At block) image n h ≡ false) → new_page_but (At block) image n ≡ At (to + 1)
+      → ((h : ℕ) → h < to + 1 → is_open_but (Some block) image n h ≡ false) → new_page_but (Some block) image n ≡ Some (to + 1)
   next_open inside k unchosen empties none_below =
       let z = sized img c.size in
       let q : (to + 1) / pages_in_block ≡ to / pages_in_block = omega arith in
-      open_is_new (At block) image n (to + 1)
+      open_is_new (Some block) image n (to + 1)
       (record {
         inside = rw same-pages (omega (arith, z.paged));
         outside = outside_is block g img r c (to + 1) q;
@@ -107,11 +108,11 @@ module _ (block g : ℕ) (img : List ℕ) (r : Record) (c : Copying block (g ∷
       })
 
   -- ---- an open page was taken
-  module _ (o : OpenPage (At block) img n to) where
-    none_below : (h : ℕ) → h < to + 1 → is_open_but (At block) image n h ≡ false
+  module _ (o : OpenPage (Some block) img n to) where
+    none_below : (h : ℕ) → h < to + 1 → is_open_but (Some block) image n h ≡ false
     none_below h l = elim (ℕ_discrete (h / pages_in_block) (to / pages_in_block)) [
-      | yes q ↦ rw (shut_before block g img r c h q (omega arith)) (and-false (is_outside (At block) h))
-      | no q ↦ ap (λ (t : Bool). is_outside (At block) h && t) (open_other block g img r c h q) ∙ o.lowest h (elim (ℕ_discrete h to) [
+      | yes q ↦ rw (shut_before block g img r c h q (omega arith)) (and-false (is_outside (Some block) h))
+      | no q ↦ ap (λ (t : Bool). is_outside (Some block) h && t) (open_other block g img r c h q) ∙ o.lowest h (elim (ℕ_discrete h to) [
         | yes e ↦ absurd (q (ap (λ (j : ℕ). j / pages_in_block) e))
         | no e ↦ omega arith
       ])
@@ -129,93 +130,93 @@ module _ (block g : ℕ) (img : List ℕ) (r : Record) (c : Copying block (g ∷
         rw (as_many block g img r c o, len, e)
 
     -- from a later block on the search finds what it found before
-    later_same : (b : ℕ) → to / pages_in_block < b → new_page_from (At block) image n b ≡ new_page_from (At block) img n b
+    later_same : (b : ℕ) → to / pages_in_block < b → new_page_from (Some block) image n b ≡ new_page_from (Some block) img n b
     unfolding new_page_from open_page_from
     later_same b l =
-        let e = first_agree (is_open_but (At block) image n) (is_open_but (At block) img n) (pages img - b * pages_in_block) (b * pages_in_block)
-        (λ h k m. ap (λ (t : Bool). is_outside (At block) h && t) (open_other block g img r c h (λ q. omega arith))) in
+        let e = first_agree (is_open_but (Some block) image n) (is_open_but (Some block) img n) (pages img - b * pages_in_block) (b * pages_in_block)
+        (λ h k m. ap (λ (t : Bool). is_outside (Some block) h && t) (open_other block g img r c h (λ q. omega arith))) in
         rw (same-pages, e, same_fresh)
 
-    after_open : new_page_but (At block) image n ≡ page_after (At block) img n to
+    after_open : new_page_but (Some block) image n ≡ page_after (Some block) img n to
     unfolding new_page_but new_page_from open_page_from
     after_open = elim (dec_lt (to % pages_in_block) (pages_in_block - 1)) [
       | yes h ↦ next_open o.inside h (chosen_not_data block g img r c (to / pages_in_block) o.data_block) (λ j a e. o.empty j (omega arith) e) none_below
-          ∙ sym (ap (λ (t : Bool). cond t (At (to + 1)) (new_page_from (At block) img n (to / pages_in_block + 1)))
+          ∙ sym (ap (λ (t : Bool). cond t (Some (to + 1)) (new_page_from (Some block) img n (to / pages_in_block + 1)))
           (lt-ltb (to % pages_in_block) (pages_in_block - 1) h))
       | no h ↦ whole_search h
-          ∙ sym (ap (λ (t : Bool). cond t (At (to + 1)) (new_page_from (At block) img n (to / pages_in_block + 1)))
+          ∙ sym (ap (λ (t : Bool). cond t (Some (to + 1)) (new_page_from (Some block) img n (to / pages_in_block + 1)))
           (le-ltb (to % pages_in_block) (pages_in_block - 1) (omega arith)))
     ]
       where
-        whole_search : (to % pages_in_block < pages_in_block - 1 → ⊥) → new_page_but (At block) image n ≡ new_page_from (At block) img n (to / pages_in_block + 1)
+        whole_search : (to % pages_in_block < pages_in_block - 1 → ⊥) → new_page_but (Some block) image n ≡ new_page_from (Some block) img n (to / pages_in_block + 1)
         whole_search h =
             let z = sized img c.size in
             let at : (to / pages_in_block + 1) * pages_in_block ≡ to + 1 = omega arith in
-            let e = first_later (is_open_but (At block) image n) (pages image) (to + 1) (rw same-pages (omega (arith, o.inside))) none_below in
-            rw e (ap (λ (a : ℕ). or_else (found (pages image) (first_from (is_open_but (At block) image n) (pages image - a) a)) (fresh_page image)) (sym at))
+            let e = first_later (is_open_but (Some block) image n) (pages image) (to + 1) (rw same-pages (omega (arith, o.inside))) none_below in
+            rw e (ap (λ (a : ℕ). or_else (found (pages image) (first_from (is_open_but (Some block) image n) (pages image - a) a)) (fresh_page image)) (sym at))
             ∙ later_same (to / pages_in_block + 1) (omega arith)
 
     -- and so are all pages in turn from one behind the copy on, or in one block
-    abbrev Beyond : Found → ℕ → Type 0
-    Beyond (At t) m = (to < t) ⊎ (m + t % pages_in_block ≤ pages_in_block)
-    Beyond Nothing m = Unit {0}
+    abbrev Beyond : Option ℕ → ℕ → Type 0
+    Beyond (Some t) m = (to < t) ⊎ (m + t % pages_in_block ≤ pages_in_block)
+    Beyond None m = Unit {0}
 
-    found_beyond : (b m : ℕ) → to < b * pages_in_block → m ≤ pages_in_block → Beyond (new_page_from (At block) img n b) m
+    found_beyond : (b m : ℕ) → to < b * pages_in_block → m ≤ pages_in_block → Beyond (new_page_from (Some block) img n b) m
     unfolding new_page_from open_page_from
-    found_beyond b m l h = go (open_page_from (At block) img n b) refl
+    found_beyond b m l h = go (open_page_from (Some block) img n b) refl
       where
-        fresh : (x : Found) → fresh_page img ≡ x → Beyond x m
-        fresh (At t) e = let f = fresh_page_lem img t e in inr (omega (arith, f.1))
-        fresh Nothing e = tt
+        fresh : (x : Option ℕ) → fresh_page img ≡ x → Beyond x m
+        fresh (Some t) e = let f = fresh_page_lem img t e in inr (omega (arith, f.1))
+        fresh None e = tt
 
-        go : (x : Found) → open_page_from (At block) img n b ≡ x → Beyond (or_else x (fresh_page img)) m
-        go (At t) e =
-            let w = by_test (ltb (first_from (is_open_but (At block) img n) (pages img - b * pages_in_block) (b * pages_in_block)) (pages img)) _ t e in
-            let a = first_bounds (is_open_but (At block) img n) (pages img - b * pages_in_block) (b * pages_in_block) in
+        go : (x : Option ℕ) → open_page_from (Some block) img n b ≡ x → Beyond (or_else x (fresh_page img)) m
+        go (Some t) e =
+            let w = by_test (ltb (first_from (is_open_but (Some block) img n) (pages img - b * pages_in_block) (b * pages_in_block)) (pages img)) _ t e in
+            let a = first_bounds (is_open_but (Some block) img n) (pages img - b * pages_in_block) (b * pages_in_block) in
             inl (omega (arith, a.0, w.1))
-        go Nothing e = fresh (fresh_page img) refl
+        go None e = fresh (fresh_page img) refl
 
-    pages_beyond : (m : ℕ) (x : Found) → m ≤ pages_in_block → Beyond x m → pages_from (At block) image n m x ≡ pages_from (At block) img n m x
+    pages_beyond : (m : ℕ) (x : Option ℕ) → m ≤ pages_in_block → Beyond x m → pages_from (Some block) image n m x ≡ pages_from (Some block) img n m x
     unfolding pages_from
     pages_beyond zero x h y = refl
-    pages_beyond (suc m) (At t) h (inl l) = ap (λ (ts : List ℕ). t ∷ ts) (elim (dec_lt (t % pages_in_block) (pages_in_block - 1)) [
-      | yes k ↦ let e = lt-ltb (t % pages_in_block) (pages_in_block - 1) k in rw e (pages_beyond m (At (t + 1)) (omega arith) (inl (omega arith)))
+    pages_beyond (suc m) (Some t) h (inl l) = ap (λ (ts : List ℕ). t ∷ ts) (elim (dec_lt (t % pages_in_block) (pages_in_block - 1)) [
+      | yes k ↦ let e = lt-ltb (t % pages_in_block) (pages_in_block - 1) k in rw e (pages_beyond m (Some (t + 1)) (omega arith) (inl (omega arith)))
       | no k ↦
           let e = le-ltb (t % pages_in_block) (pages_in_block - 1) (omega arith) in
           rw (e, later_same (t / pages_in_block + 1) (omega arith))
-          (pages_beyond m (new_page_from (At block) img n (t / pages_in_block + 1)) (omega arith)
+          (pages_beyond m (new_page_from (Some block) img n (t / pages_in_block + 1)) (omega arith)
           (found_beyond (t / pages_in_block + 1) m (omega arith) (omega arith)))
     ])
-    pages_beyond (suc m) (At t) h (inr l) = pages_in_block_lem (At block) image img n (suc m) t l
-    pages_beyond (suc m) Nothing h y = refl
+    pages_beyond (suc m) (Some t) h (inr l) = pages_in_block_lem (Some block) image img n (suc m) t l
+    pages_beyond (suc m) None h y = refl
 
     pages_after_open : (m : ℕ) → m ≤ pages_in_block
-        → pages_from (At block) img n m (page_after (At block) img n to) ≡ pages_from (At block) image n m (new_page_but (At block) image n)
-    pages_after_open m h = rw after_open (sym (pages_beyond m (page_after (At block) img n to) h (beyond (ltb (to % pages_in_block) (pages_in_block - 1)) refl)))
+        → pages_from (Some block) img n m (page_after (Some block) img n to) ≡ pages_from (Some block) image n m (new_page_but (Some block) image n)
+    pages_after_open m h = rw after_open (sym (pages_beyond m (page_after (Some block) img n to) h (beyond (ltb (to % pages_in_block) (pages_in_block - 1)) refl)))
       where
         beyond : (t : Bool) → ltb (to % pages_in_block) (pages_in_block - 1) ≡ t
-            → Beyond (cond t (At (to + 1)) (new_page_from (At block) img n (to / pages_in_block + 1))) m
+            → Beyond (cond t (Some (to + 1)) (new_page_from (Some block) img n (to / pages_in_block + 1))) m
         beyond true e = inl (omega arith)
         beyond false e = found_beyond (to / pages_in_block + 1) m (omega arith) h
 
   -- ---- a fresh block was taken
-  module _ (f : FreshPage (At block) img n to) (unchosen : is_chosen n (to / pages_in_block) ≡ false) where
-    after_fresh : new_page_but (At block) image n ≡ At (to + 1)
+  module _ (f : FreshPage (Some block) img n to) (unchosen : is_chosen n (to / pages_in_block) ≡ false) where
+    after_fresh : new_page_but (Some block) image n ≡ Some (to + 1)
     after_fresh =
         let z = sized img c.size in
         next_open (omega (arith, f.first, f.inside, z.paged)) (omega (arith, f.first)) unchosen
         (λ j a e. let y : j / pages_in_block ≡ lowest_empty img = omega (arith, f.first) in empty_block_page img j (rw y f.block_empty_lem))
         (λ h l. elim (ℕ_discrete (h / pages_in_block) (to / pages_in_block)) [
-          | yes q ↦ rw (shut_before block g img r c h q (omega arith)) (and-false (is_outside (At block) h))
-          | no q ↦ ap (λ (t : Bool). is_outside (At block) h && t) (open_other block g img r c h q)
+          | yes q ↦ rw (shut_before block g img r c h q (omega arith)) (and-false (is_outside (Some block) h))
+          | no q ↦ ap (λ (t : Bool). is_outside (Some block) h && t) (open_other block g img r c h q)
               ∙ f.none_open h (omega (arith, f.first, f.inside, z.paged))
         ])
 
     pages_after_fresh : (m : ℕ) → m < pages_in_block
-        → pages_from (At block) img n m (page_after (At block) img n to) ≡ pages_from (At block) image n m (new_page_but (At block) image n)
+        → pages_from (Some block) img n m (page_after (Some block) img n to) ≡ pages_from (Some block) image n m (new_page_but (Some block) image n)
     pages_after_fresh m h =
         let e = lt-ltb (to % pages_in_block) (pages_in_block - 1) (omega (arith, f.first)) in
-        rw (e, after_fresh) (pages_in_block_lem (At block) img image n m (to + 1) (omega (arith, f.first)))
+        rw (e, after_fresh) (pages_in_block_lem (Some block) img image n m (to + 1) (omega (arith, f.first)))
 
 -- ---- the copies in turn
 module _ (block g : ℕ) (gs img : List ℕ) (r : Record) (w : Gathering block (g ∷ gs) img r) (few : length gs < pages_in_block)
@@ -229,9 +230,9 @@ module _ (block g : ℕ) (gs img : List ℕ) (r : Record) (w : Gathering block (
   abbrev image' : List ℕ
   image' = whole (copy_step block img r g) img
 
-  pages-after : pages_from (At block) img r.numbers (length gs) (page_after (At block) img r.numbers to')
-      ≡ pages_from (At block) image' r.numbers (length gs) (new_page_but (At block) image' r.numbers)
-  pages-after = elim (new_page_lem (At block) img r.numbers to' (found_is (copy_to block img r.numbers) found)) [
+  pages-after : pages_from (Some block) img r.numbers (length gs) (page_after (Some block) img r.numbers to')
+      ≡ pages_from (Some block) image' r.numbers (length gs) (new_page_but (Some block) image' r.numbers)
+  pages-after = elim (new_page_lem (Some block) img r.numbers to' (found_is (copy_to block img r.numbers) found)) [
     | inl o ↦ pages_after_open block g img r only o (length gs) (omega arith)
     | inr f ↦ pages_after_fresh block g img r only f (unchosen_empty block (g ∷ gs) img r to' w f) (length gs) few
   ]
@@ -240,10 +241,10 @@ module _ (block g : ℕ) (gs img : List ℕ) (r : Record) (w : Gathering block (
   targets_next : targets block img r.numbers (suc (length gs)) ≡ to' ∷ targets block image' (copied block img r g).numbers (length gs)
   unfolding pages_from copied
   targets_next =
-      ap (pages_from (At block) img r.numbers (suc (length gs))) (found_is (copy_to block img r.numbers) found)
+      ap (pages_from (Some block) img r.numbers (suc (length gs))) (found_is (copy_to block img r.numbers) found)
       ∙ ap (λ (ts : List ℕ). to' ∷ ts) (pages-after
-      ∙ sym (pages_next (At block) image' r.numbers (length gs) (new_page_but (At block) image' r.numbers))
-      ∙ ap (pages_from (At block) image' (next_sequence r.numbers) (length gs)) (sym (new_page-whole (At block) image' r.numbers)))
+      ∙ sym (pages_next (Some block) image' r.numbers (length gs) (new_page_but (Some block) image' r.numbers))
+      ∙ ap (pages_from (Some block) image' (next_sequence r.numbers) (length gs)) (sym (new_page-whole (Some block) image' r.numbers)))
 
   -- the pages of the block, and where they have their places
   page-here : (h : ℕ) → LiveIn block img r.map h → (page_at image' h ≡ page_at img h)
@@ -343,13 +344,13 @@ room-targets block (g ∷ gs) img r w few =
     Rest : Type 0
     Rest = room_for_all block gs image' (copied block img r g) ≡ eqb (length (targets block image' (copied block img r g).numbers (length gs))) (length gs)
 
-    go : (x : Found) → copy_to block img r.numbers ≡ x → (is_found (copy_to block img r.numbers) ≡ true → Rest)
+    go : (x : Option ℕ) → copy_to block img r.numbers ≡ x → (is_found (copy_to block img r.numbers) ≡ true → Rest)
         → (is_found x && room_for_all block gs image' (copied block img r g)) ≡ eqb (length (targets block img r.numbers (suc (length gs)))) (suc (length gs))
-    go (At t) e rest =
+    go (Some t) e rest =
         let found : is_found (copy_to block img r.numbers) ≡ true = rw e in
         rw (targets_next block g gs img r w (omega arith) found) (rest found
         ∙ sym (eqb-suc (length (targets block image' (copied block img r g).numbers (length gs))) (length gs)))
-    go Nothing e rest = rw e (sym (ne_eqb 0 (suc (length gs)) (λ q. omega arith)))
+    go None e rest = rw e (sym (ne_eqb 0 (suc (length gs)) (λ q. omega arith)))
 
 -- ---- the table of places
 -- a page is live where a place has it
@@ -364,12 +365,31 @@ live-placed map g = go (is_live_page map g) refl
     go true e = sym (lt-ltb (place_on map g) places (live-place map g e).0)
     go false e = sym (le-ltb (place_on map g) places (nowhere e))
 
-pub live-counted : (map : List ℕ) (block : ℕ) (at : List ℕ) → PlacesIn map block at
-    → count_from (λ i. ltb (get_or at i 0) places) pages_in_block 0 ≡ length (live_pages map block)
+-- a count over a list is one over its positions
+counted_along : {X : Type 0} (p : X → Bool) (d : X) (xs : List X) → count_from (λ i. p (get_or xs i d)) (length xs) 0 ≡ count_by p xs
+unfolding count_from
+counted_along {X = X} p d =
+    is_sum_by (λ xs. count_from (λ i. p (get_or xs i d)) (length xs) 0) (λ x. cond (p x) 1 0) refl λ x xs.
+    ap (λ n. cond (p x) 1 0 + n) (
+    sym (count_shift (λ i. p (get_or (x ∷ xs) i d)) 1 (length xs) 0)
+    ∙ count_agree _ (λ i. p (get_or xs i d)) (length xs) 0 (λ i h k. let e : 1 + i ≡ suc i = omega arith in ap (λ j. p (get_or (x ∷ xs) j d)) e)
+    )
+
+-- what is found among the places is found where the page is live
+pub live-found : (map : List ℕ) (g : ℕ) → is_some (found places (place_on map g)) ≡ is_live_page map g
+live-found map g = go (ltb (place_on map g) places) ∙ sym (live-placed map g)
+  where
+    go : (t : Bool) → is_some (cond t (Some (place_on map g)) None) ≡ t
+    go true = refl
+    go false = refl
+
+pub live-counted : (map : List ℕ) (block : ℕ) (at : List (Option ℕ)) → PlacesIn map block at → count_by is_some at ≡ length (live_pages map block)
 unfolding live_pages
 live-counted map block at w =
-    count_agree _ (λ i. is_live_page map (block * pages_in_block + i)) pages_in_block 0
-    (λ i h k. ap (λ (x : ℕ). ltb x places) (w.each i (omega arith)) ∙ sym (live-placed map (page_in block i)))
+    sym (counted_along is_some None at)
+    ∙ ap (λ n. count_from (λ i. is_some (get_or at i None)) n 0) w.full
+    ∙ count_agree _ (λ i. is_live_page map (block * pages_in_block + i)) pages_in_block 0
+    (λ i h k. ap (λ (o : Option ℕ). is_some o) (w.each i (omega arith)) ∙ live-found map (page_in block i))
     ∙ count_shift (is_live_page map) (block * pages_in_block) pages_in_block 0
     ∙ ap (count_from (is_live_page map) pages_in_block) (let e : block * pages_in_block + 0 ≡ block * pages_in_block = omega arith in e)
     ∙ sym (length_which (is_live_page map) pages_in_block (block * pages_in_block))

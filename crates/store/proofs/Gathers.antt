@@ -20,7 +20,7 @@ use Rattle.page.specs.Entry.{none, used_letter, deleted_letter}
 use Rattle.page.specs.Page.{page_bytes, payload_of}
 use Rattle.page.specs.declared.Frame.{Frame}
 use Rattle.page.specs.declared.Form.TheVariants.{Whole}
-use Rattle.page.specs.declared.Place.TheVariants.{At as PlaceAt}
+use Rattle.std.specs.Prelude.{Some}
 use Rattle.page.proofs.Ranges.{renumbered_range}
 use Rattle.page.proofs.Pages as Pages
 use Rattle.base.proofs.Parts.{part_length}
@@ -38,7 +38,6 @@ use Rattle.store.specs.Find.{is_found, found_at}
 use Rattle.store.specs.Gather.{is_on, is_live_page, place_on, live_pages, copy_of, copy_to, copy_step, moved, copied, copy_steps, copied_all, room_for_all}
 use Rattle.store.specs.Write.{placed}
 use Rattle.store.specs.Taken.{Buffers, GatherTaken}
-use Rattle.store.specs.declared.Found.TheVariants.{At}
 use Rattle.store.proofs.BlockKinds.{whole_in_range}
 use Rattle.store.proofs.Fits.{Fit, fits_is, live_named, named_inside, live-key, live_used}
 use Rattle.store.proofs.Copies.{empty_forms}
@@ -144,14 +143,14 @@ module _ (block g : ℕ) (gs img : List ℕ) (r : Record) (c : Copying block (g 
   unfolding room_for_all
   rooms = and-true (is_found (copy_to block img r.numbers)) (room_for_all block gs (whole (copy_step block img r g) img) (copied block img r g)) c.room
 
-  pub copy_found : copy_to block img r.numbers ≡ At to
+  pub copy_found : copy_to block img r.numbers ≡ Some to
   copy_found = found_is (copy_to block img r.numbers) rooms.0
 
   pub copy_apart : to / pages_in_block ≡ block → ⊥
   copy_apart = new_page_outside img r.numbers block to c.filled copy_found
 
   pub copy_empty : (to < pages img) × (page_empty img to ≡ true)
-  copy_empty = let w = new_page-is_empty (At block) img r.numbers to copy_found in (w.0, w.1)
+  copy_empty = let w = new_page-is_empty (Some block) img r.numbers to copy_found in (w.0, w.1)
 
   -- the copy: its header and its payload
   pub copy_is : copy_step block img r g ≡ program to (page_bytes header payload)
@@ -297,7 +296,7 @@ module _ (img : List ℕ) (r : Record) (block : ℕ) (fit : Fit img r) where
       let n' = live_named img r fit y k (rw (← e) l) in
       let q : Whole n.header ≡ Whole n'.header = sym n.whole ∙ rw e n'.whole in
       let p : n.header ≡ n'.header = cc in
-      let z : PlaceAt x ≡ PlaceAt y = sym n.place ∙ ap (λ (f : Frame). place_of file_plan f.unit f.part) p ∙ n'.place in
+      let z : Some x ≡ Some y = sym n.place ∙ ap (λ (f : Frame). place_of file_plan f.unit f.part) p ∙ n'.place in
       cc
 
 pub live_pages_in : (img : List ℕ) (r : Record) (block : ℕ) → Fit img r → Each (LiveIn block img r.map) (live_pages r.map block)

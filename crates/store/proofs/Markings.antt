@@ -37,18 +37,6 @@ marked_start map letters x t = record { tallied = t; kept = λ p h. own (get_or 
     own l true e = eqb-true l used_letter e
     own l false e = refl
 
--- letters that were made from letters that were made from the given ones
-pub marked_on : (map given letters next : List ℕ) (x y : ℕ) → Marked map given letters x → Marked map letters next y → Marked map given next y
-marked_on map given letters next x y m n =
-    record { tallied = n.tallied; kept = λ p h. on (get_or next p 0) (get_or letters p 0) (get_or given p 0) (n.kept p h) (m.kept p h) }
-  where
-    on : (c b a : ℕ) → c ≡ cond (eqb c used_letter) used_letter b → b ≡ cond (eqb b used_letter) used_letter a → c ≡ cond (eqb c used_letter) used_letter a
-    on c b a e f = go (eqb c used_letter) refl e
-      where
-        go : (t : Bool) → eqb c used_letter ≡ t → c ≡ cond t used_letter b → c ≡ cond t used_letter a
-        go true u e = e
-        go false u e = let v : eqb b used_letter ≡ false = rw e at u in e ∙ f ∙ rw v
-
 -- before the first place none is u
 pub marked_none : (map letters : List ℕ) → length letters ≡ positions → ((p : ℕ) → p < positions → get_or letters p 0 ≡ used_letter → ⊥) → Marked map letters letters 0
 marked_none map letters size none =

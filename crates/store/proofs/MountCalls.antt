@@ -2,7 +2,7 @@
 use Prim.Native.Nat.{ℕ, ◌<◌, ◌≤◌}
 use native.Mathlib.Omega.{arith}
 use mathlib.Core.Path.{◌≡◌, refl, sym, ap, ◌∙◌}
-use mathlib.Core.Bool.{true, false, cond, ◌||◌}
+use mathlib.Core.Bool.{Bool, true, false, cond, ◌||◌}
 use mathlib.Core.List.{List, [], map as each}
 use lib.Dec.{eqb, leb}
 use lib.ListN.{length, drop}
@@ -12,36 +12,34 @@ use Rattle.base.proofs.Choice.{and-true}
 use Rattle.base.proofs.Searches.{highest_least}
 use Rattle.page.specs.Plan.{places}
 use Rattle.page.specs.Header.{last_number}
-use Rattle.image.specs.Size.{blocks, pages, most_blocks, size_right}
+use Rattle.image.specs.Size.{blocks, pages, size_right}
 use Rattle.image.specs.Look.{form_at}
 use Rattle.image.specs.Step.{erase}
 use Rattle.image.specs.Power.{device, power_for, run}
 use Rattle.image.specs.declared.Power.{Power}
 use Rattle.image.proofs.Looks.{sized}
-use Rattle.store.specs.Reply.{verdict, number_of, is_done}
+use Rattle.store.specs.Reply.{Reply, Done, verdict, number_of, is_done}
 use Rattle.store.specs.Kind.{kind_of, covered_by}
 use Rattle.store.specs.Record.{record_of, is_dead, keys_apart}
 use Rattle.store.specs.Outcome.{left, most_steps}
 use Rattle.store.specs.Find.{is_found, found_at}
 use Rattle.store.specs.Format.{buffers_right, no_numbers}
 use Rattle.store.specs.Mount.{chosen_commit, chosen_keys, covered_in, sequence_of, epoch_of, mount_numbers, mount_map, entries_fit, mounted, is_covered_dead, is_swept, mount_steps, mount_tests, size_tests, block_tests, mount_of}
-use Rattle.store.specs.Survey.{survey_of, covered_at, survey_numbers, Surveyed}
-use Rattle.store.specs.Rebuild.{mount_fits, highest_sequence, rebuilt_of, Rebuilding, Sweeping, Cleared}
+use Rattle.store.specs.Survey.{survey_of, covered_at, blocks_found, survey_numbers, Surveyed}
+use Rattle.store.specs.Rebuild.{mount_fits, highest_sequence, Rebuilding, Sweeping, Cleared}
 use Rattle.store.specs.Taken.{Buffers, MountChosen}
 use Rattle.store.specs.declared.Numbers.{Numbers}
+use Rattle.store.specs.declared.mount.Chosen.{Chosen}
+use Rattle.store.specs.declared.replay.Seen.{Seen}
 use Rattle.store.specs.declared.survey.Survey.{Survey}
-use Rattle.store.specs.declared.rebuild.Rebuilt.{Rebuilt}
-use Rattle.store.specs.declared.rebuild.Rebuilt.TheVariants.{Fits, Unfit}
+use Rattle.std.specs.Prelude.{Err}
 use Rattle.store.specs.declared.Kind.TheVariants.{Commit}
-use Rattle.store.specs.declared.Reply.{Reply}
-use Rattle.store.specs.declared.Reply.TheVariants.{Done, EntryUnfit, PowerCut}
+use Rattle.store.specs.declared.Error.TheVariants.{EntryUnfit, PowerCut}
 use Rattle.store.proofs.Verdicts.{verdict-done, verdict_among, done-true, buffers-true, buffers_right_lem, mount-reply, mount_taken}
 use Rattle.store.proofs.Refusals.{refuses_first, passes_first}
 use Rattle.store.proofs.BlockKinds.{commit_range}
 use Rattle.store.proofs.Choices.{commit_chosen, keys_chosen}
 use Rattle.store.proofs.Finds.{found_is}
-use Rattle.store.proofs.Rebuilds.{fits_rebuilt, unfit_rebuilt}
-use Rattle.store.proofs.Decisions.{mount_map-length}
 use Rattle.store.proofs.Fits.{live-headed}
 use Rattle.store.proofs.Mounts.{mounted-fit, sequence_most_lem, epoch_most_lem}
 use Rattle.store.proofs.Outcomes.{leaves, left_stepless, mount_outcome, mount-refused, mount_as_lent, mount-filled}
@@ -102,6 +100,10 @@ module _ (img : List ℕ) where
           commit_inside = rw (found, surveyed_commit) (omega (arith, most, (commit_chosen img (found_at (chosen_commit img)) (found_is (chosen_commit img) c)).inside));
         }
 
+-- the commit block, of those that the tests hand on
+pub commit_block : (s : Survey) (chosen : Chosen) → chosen ≡ blocks_found s → chosen.commit ≡ found_at s.commit.at
+commit_block s chosen e = rw e
+
 -- ---- the tests, part by part
 module _ (img map letters scratch : List ℕ) where
   -- refused with 1 or 2, all stays as lent
@@ -117,7 +119,7 @@ module _ (img map letters scratch : List ℕ) where
   -- what the passed tests say
   pub sizes_passed : (v : Reply) → v ≡ verdict (size_tests img map letters scratch) → is_done v ≡ true → (size_right img ≡ true) × Buffers map letters × (length scratch ≡ places)
   sizes_passed v e d =
-      let t = verdict-done (size_tests img map letters scratch) (refl, (refl, tt)) (sym e ∙ done-true v d) in
+      let t = verdict-done (size_tests img map letters scratch) (sym e ∙ done-true v d) in
       let b = and-true (buffers_right map letters) (eqb (length scratch) places) t.1.0 in
       (t.0, buffers-true map letters b.0, eqb-true _ _ b.1)
 
@@ -125,7 +127,7 @@ module _ (img map letters scratch : List ℕ) where
       → w ≡ verdict (block_tests (chosen_commit img) (chosen_keys img 0) (chosen_keys img 1)) → is_done w ≡ true → MountChosen img map letters scratch
   blocks-passed v w e d f h =
       let s = sizes_passed v e d in
-      let t = verdict-done (block_tests (chosen_commit img) (chosen_keys img 0) (chosen_keys img 1)) (refl, (refl, tt)) (sym f ∙ done-true w h) in
+      let t = verdict-done (block_tests (chosen_commit img) (chosen_keys img 0) (chosen_keys img 1)) (sym f ∙ done-true w h) in
       let k = and-true (is_found (chosen_keys img 0)) (is_found (chosen_keys img 1)) t.1.0 in
       record { size = s.0; buffers = s.1; scratch_full = s.2; commit_there = t.0; keys0_there = k.0; keys1_there = k.1 }
 
@@ -141,14 +143,14 @@ module _ (img map letters scratch : List ℕ) where
   blocks_refuse n k v w m l s e d f h c =
       let tests = block_tests (chosen_commit img) (chosen_keys img 0) (chosen_keys img 1) in
       let q : (mount_of img map letters scratch).reply ≡ w
-      = mount-reply img map letters scratch ∙ passes_first (size_tests img map letters scratch) (drop 2 (mount_tests img map letters scratch)) (refl, (refl, tt)) e d
+      = mount-reply img map letters scratch ∙ passes_first (size_tests img map letters scratch) (drop 2 (mount_tests img map letters scratch)) e d
       ∙ refuses_first tests (drop 4 (mount_tests img map letters scratch)) f h in
       let many : is_done w || leb 12 (number_of w) ≡ true = rw f (verdict_among (λ r. is_done r || leb 12 (number_of r)) tests refl refl) in
       cleared_refuse n k w m l s q (leb-true _ _ (rw h at many)) c
 
   module _ (chosen : MountChosen img map letters scratch) where
     -- the tests before the last are passed
-    last_test_lem : verdict (mount_tests img map letters scratch) ≡ cond (mount_fits img (found_at (chosen_commit img))) Done EntryUnfit
+    last_test_lem : verdict (mount_tests img map letters scratch) ≡ cond (mount_fits img (found_at (chosen_commit img))) Done (Err EntryUnfit)
     last_test_lem =
         rw (
           chosen.size,
@@ -160,40 +162,32 @@ module _ (img map letters scratch : List ℕ) where
         )
 
     -- what the work leaves, with the commit in block c
-    module _ (n k c : ℕ) (m l s : List ℕ) (r : Rebuilt) (commit : c ≡ found_at (chosen_commit img)) (made : r ≡ rebuilt_of img c) where
-      pub pages_refuse : r ≡ Unfit → (mount_fits img c ≡ false → Cleared m l s) → leaves EntryUnfit img (record_of m l no_numbers) s ≡ left n k (mount_of img map letters scratch) img
-      pages_refuse u clear =
-          let f = unfit_rebuilt img c r made u in
-          cleared_refuse n k EntryUnfit m l s (mount-reply img map letters scratch ∙ last_test_lem ∙ rw (← commit, f)) (omega arith) (clear f)
+    module _ (n k c : ℕ) (m l s : List ℕ) (commit : c ≡ found_at (chosen_commit img)) where
+      pub pages_refuse : mount_fits img c ≡ false → Cleared m l s → leaves (Err EntryUnfit) img (record_of m l no_numbers) s ≡ left n k (mount_of img map letters scratch) img
+      pages_refuse f clear =
+          cleared_refuse n k (Err EntryUnfit) m l s (mount-reply img map letters scratch ∙ last_test_lem ∙ rw (← commit, f)) (omega arith) clear
 
-      pub mount-left : (h : ℕ) (events img' : List ℕ) (survey : Survey) (numbers : Numbers) (q : Power) → r ≡ Fits h → (mount_fits img c ≡ true → Rebuilding img c m l s events)
-          → survey ≡ survey_of img (blocks img) → numbers ≡ survey_numbers survey h
+      pub mount-left : (seen : Seen) (img' : List ℕ) (survey : Survey) (numbers : Numbers) (q : Power) → Rebuilding img c m l s seen
+          → survey ≡ survey_of img (blocks img) → numbers ≡ survey_numbers survey seen.highest
           → device q img' ≡ run (each erase (which_from (is_swept img (record_of m [] numbers)) (blocks img) 0)) (device (power_for n k) img)
-          → leaves (cond q.on Done PowerCut) img' (record_of m l numbers) s ≡ left n k (mount_of img map letters scratch) img
+          → leaves (cond q.on Done (Err PowerCut)) img' (record_of m l numbers) s ≡ left n k (mount_of img map letters scratch) img
       unfolding mounted mount_steps is_swept is_covered_dead is_dead
-      mount-left h events img' survey numbers q u build found counted d =
-          let f = fits_rebuilt img c r h made u in
-          let e : numbers ≡ mount_numbers img = counted ∙ survey_numbers_lem img survey found chosen.commit_there h f.1 in
-          let t = build f.0 in
-          let o = mount_outcome img map letters scratch (mount-reply img map letters scratch ∙ last_test_lem ∙ rw (← commit, f.0)) in
+      mount-left seen img' survey numbers q t found counted d =
+          let e : numbers ≡ mount_numbers img = counted ∙ survey_numbers_lem img survey found chosen.commit_there seen.highest t.highest_made in
+          let o = mount_outcome img map letters scratch (mount-reply img map letters scratch ∙ last_test_lem ∙ rw (← commit, t.fit)) in
           let map_is : m ≡ (mounted img).map = t.map_made ∙ ap (mount_map img) commit in
           rw (t.map_made, t.letters_made, t.scratch_made, e, commit) (run-left n k img img' q o (rw (map_is, e) at d))
 
       -- and what the erases go by
-      pub mount_sweeping : (h : ℕ) (events : List ℕ) (survey : Survey) (numbers : Numbers) → r ≡ Fits h
-          → (mount_fits img c ≡ true → Rebuilding img c m l s events)
-          → length events ≡ most_blocks → survey ≡ survey_of img (blocks img) → numbers ≡ survey_numbers survey h → Sweeping img m events numbers
+      pub mount_sweeping : (seen : Seen) (survey : Survey) (numbers : Numbers) → Rebuilding img c m l s seen
+          → survey ≡ survey_of img (blocks img) → numbers ≡ survey_numbers survey seen.highest → Sweeping img m seen.events numbers
       unfolding mounted mount_numbers
-      mount_sweeping h events survey numbers u build full found counted =
-          let f = fits_rebuilt img c r h made u in
-          let e : numbers ≡ mount_numbers img = counted ∙ survey_numbers_lem img survey found chosen.commit_there h f.1 in
-          let t = build f.0 in
-          let both = and-true (entries_fit img c) (keys_apart (mount_map img c)) f.0 in
+      mount_sweeping seen survey numbers t found counted =
+          let e : numbers ≡ mount_numbers img = counted ∙ survey_numbers_lem img survey found chosen.commit_there seen.highest t.highest_made in
+          let both = and-true (entries_fit img c) (keys_apart (mount_map img c)) t.fit in
           let fit = mounted-fit img chosen.commit_there chosen.keys0_there chosen.keys1_there (rw commit at both.0) (rw commit at both.1) in
           record {
             few = (sized img chosen.size).most;
-            map_full = ap length t.map_made ∙ mount_map-length img c;
-            events_full = full;
             told = λ b k. t.events_made b k ∙ rw (e, commit);
             headed = λ b k. live-headed img (mounted img) fit b (rw (t.map_made, commit) at k);
           }

@@ -5,15 +5,18 @@ use native.Mathlib.Decide.{dec_lt}
 use mathlib.Core.Path.{◌≡◌, refl}
 use mathlib.Core.Bool.{Bool, true, false, cond, ◌&&◌, and-false}
 use mathlib.Core.List.{List}
+use lib.Dec.{ltb}
+use borrow.Author.Tests.{ltb-true, ltb-false, lt-ltb}
 use Rattle.base.specs.Search.{first_from, all_from, any_from}
 use Rattle.base.proofs.Choice.{true-false}
-use Rattle.base.proofs.Searches.{first_all, first_agree, all_holds, all_intro, first_is, two_pass}
+use Rattle.base.proofs.Searches.{first_all, first_agree, first_least, all_holds, all_intro, first_is, two_pass}
 use Rattle.image.specs.Size.{pages_in_block, blocks}
 use Rattle.image.specs.Look.{page_empty, block_empty, lowest_empty, empty_blocks}
 use Rattle.store.specs.Kind.{page_in, is_data}
 use Rattle.store.specs.Find.{is_open, fresh_page}
+use Rattle.store.specs.Targets.{has_open}
 use Rattle.store.specs.declared.Numbers.{Numbers}
-use Rattle.store.specs.declared.Found.TheVariants.{At, Nothing}
+use Rattle.std.specs.Prelude.{Some, None}
 use Rattle.store.proofs.BlockKinds.{page_block}
 
 -- ---- the open pages of a block
@@ -66,8 +69,30 @@ module _ (img : List ℕ) (b : ℕ) where
           absurd (true-false (all_holds (page_empty img) (pages_in_block - i) (page_in b i) (page_in b (pages_in_block - 1)) e (omega arith) (omega arith)) n)
       go false i e k = and-false (is_data img r b)
 
+  -- a block whose last page is empty has pages that are empty up to its end
+  pub last_empty : page_empty img (page_in b (pages_in_block - 1)) ≡ true → first_from (empty_from img b) pages_in_block 0 < pages_in_block
+  last_empty e = go (ltb (first_from (empty_from img b) pages_in_block 0) pages_in_block) refl
+    where
+      alone : empty_from img b (pages_in_block - 1) ≡ true
+      alone = all_intro (page_empty img) (pages_in_block - (pages_in_block - 1)) (page_in b (pages_in_block - 1)) (λ j l h. let q : j ≡ page_in b (pages_in_block - 1) = omega arith in rw q e)
+
+      go : (t : Bool) → ltb (first_from (empty_from img b) pages_in_block 0) pages_in_block ≡ t → first_from (empty_from img b) pages_in_block 0 < pages_in_block
+      go true h = ltb-true _ _ h
+      go false h = absurd (true-false alone (first_least (empty_from img b) pages_in_block 0 (pages_in_block - 1) (omega arith) (omega (arith, ltb-false _ _ h))))
+
+  -- so a block has an open page where its last page is empty and it is a data block
+  pub has_open_lem : (r : Numbers) → has_open img r b ≡ page_empty img (page_in b (pages_in_block - 1)) && is_data img r b
+  unfolding has_open
+  has_open_lem r = go (page_empty img (page_in b (pages_in_block - 1))) (is_data img r b) refl refl
+    where
+      go : (e d : Bool) → page_empty img (page_in b (pages_in_block - 1)) ≡ e → is_data img r b ≡ d
+          → ltb (first_from (λ i. is_open img r (page_in b i)) pages_in_block 0) pages_in_block ≡ e && d
+      go false d n k = rw (last_full r n)
+      go true false n k = rw (open_other r k)
+      go true true n k = rw (open_data r k, lt-ltb _ _ (last_empty n))
+
 -- ---- two empty blocks
-pub two_empty : (img : List ℕ) → fresh_page img ≡ cond (any_from (block_empty img) (blocks img - (lowest_empty img + 1)) (lowest_empty img + 1)) (At (lowest_empty img * pages_in_block)) Nothing
+pub two_empty : (img : List ℕ) → fresh_page img ≡ cond (any_from (block_empty img) (blocks img - (lowest_empty img + 1)) (lowest_empty img + 1)) (Some (lowest_empty img * pages_in_block)) None
 unfolding fresh_page empty_blocks lowest_empty
 two_empty img =
     let e : 0 + blocks img ≡ blocks img = omega arith in

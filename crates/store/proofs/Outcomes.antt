@@ -15,7 +15,7 @@ use Rattle.page.specs.Key.{positions}
 use Rattle.page.specs.Entry.{none, free_letter, used_letter, deleted_letter}
 use Rattle.image.proofs.Plays.{play_all_lem}
 use Rattle.image.specs.Step.{Step, play, play_all}
-use Rattle.store.specs.Reply.{verdict, is_done, number_of}
+use Rattle.store.specs.Reply.{Reply, Done, verdict, is_done, number_of}
 use Rattle.store.specs.Record.{Record, with_numbers, map_size, key_of, live}
 use Rattle.store.specs.Outcome.{Outcome, decided, Left, left}
 use Rattle.store.specs.Find.{lowest_free, new_page, found_at}
@@ -29,8 +29,8 @@ use Rattle.store.specs.Gather.{live_pages, copied, copy_steps, copied_all, gathe
 use Rattle.store.specs.Wipe.{removed_first, wipe_tests, wipe_of}
 use Rattle.store.specs.Taken.{Buffers}
 use Rattle.store.specs.declared.Numbers.{Numbers}
-use Rattle.store.specs.declared.Reply.{Reply}
-use Rattle.store.specs.declared.Reply.TheVariants.{Done, PowerCut}
+use Rattle.std.specs.Prelude.{Err}
+use Rattle.store.specs.declared.Error.TheVariants.{PowerCut}
 use Rattle.store.proofs.Verdicts.{done-false}
 
 -- ---- taken or refused
@@ -187,13 +187,13 @@ module _ (n k : ℕ) (o : Outcome) (img : List ℕ) where
   left_whole_lem h = rw (le-ltb n (length o.steps) h, play_all_lem n k o.steps img h)
 
   -- n is below it: a cut
-  pub left_cut : n < length o.steps → left n k o img ≡ leaves PowerCut (play n k o.steps img) o.after o.lent
+  pub left_cut : n < length o.steps → left n k o img ≡ leaves (Err PowerCut) (play n k o.steps img) o.after o.lent
   unfolding left
   left_cut h = rw (lt-ltb n (length o.steps) h)
 
 -- a call that was taken, by its steps
 pub left_taken : (n k : ℕ) {o : Outcome} {steps : List Step} {after : Record} {lent : List ℕ} (img : List ℕ) → o ≡ taken steps after lent
-    → left n k o img ≡ leaves (cond (ltb n (length steps)) PowerCut Done) (play n k steps img) after lent
+    → left n k o img ≡ leaves (cond (ltb n (length steps)) (Err PowerCut) Done) (play n k steps img) after lent
 unfolding left
 left_taken n k img e = ap (λ (p : Outcome). left n k p img) e
 

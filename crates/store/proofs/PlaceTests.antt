@@ -1,15 +1,17 @@
 -- The test of all places, place by place and run by run: how far it has come, and what its answer says.
-use Prim.Native.Nat.{ℕ, ◌+◌, ◌-◌, ◌<◌, ◌≤◌}
+use Prim.Native.Nat.{ℕ, ◌+◌, ◌-◌, ◌%◌, ◌<◌, ◌≤◌}
 use native.Mathlib.Omega.{arith}
 use native.Mathlib.Decide.{dec_lt}
 use mathlib.Core.Path.{◌≡◌, refl, sym, ◌∙◌}
 use mathlib.Core.Bool.{Bool, true, false, not, ◌&&◌, ◌||◌}
 use mathlib.Core.List.{List}
 use lib.Dec.{eqb}
-use lib.ListN.{length, get_or, set, replicate}
-use borrow.Author.Tests.{eqb-true}
+use lib.ListN.{length, get_or, set, replicate, take, drop, get_or-eq_default}
+use borrow.Author.Tests.{eqb-true, eqb-false, not-true, not-false}
+use Rattle.base.specs.Part.{part}
 use Rattle.base.specs.Search.{all_from}
 use Rattle.base.proofs.Choice.{and-true, and_intro, both_ways, true-false}
+use Rattle.base.proofs.Parts.{part_length, part_at}
 use Rattle.base.proofs.Searches.{below_suc, all_holds, all_intro}
 use Rattle.page.specs.Plan.{file_plan, last_file, places, count_of, start_of}
 use Rattle.page.specs.Key.{positions}
@@ -18,12 +20,17 @@ use Rattle.page.proofs.Plans.{start-after, plan_sum}
 use Rattle.page.proofs.Slices.{get_d_there}
 use Rattle.image.specs.Look.{form_at}
 use Rattle.store.specs.Record.{map_size, page_of, key_of, vacant_at, node_at, place_fits, named_times, keys_apart}
-use Rattle.store.specs.Testing.{InFile, places_fit, Tested}
+use Rattle.store.specs.Testing.{run_length, InFile, places_fit, Tested}
 use Rattle.store.proofs.Names.{tallied-none, tallied_next, tallied_unnamed, tallied-run, tallied_twice, tallied_all, tallied-apart}
 
 -- ---- a file's places are places of the plan
 pub file-end : (file : ℕ) → file ≤ last_file → start_of file_plan file + count_of file_plan file ≤ places
 file-end file h = rw plan_sum at (start-after file_plan file (length file_plan) (omega arith))
+
+-- and are whole runs
+pub file_runs : (file : ℕ) → file ≤ last_file → count_of file_plan file % run_length ≡ 0
+unfolding count_of all_from
+file_runs file h = eqb-true _ _ (all_holds (λ f. eqb (get_or file_plan f 0 % run_length) 0) (last_file + 1) 0 file refl (omega arith) (omega arith))
 
 pub in_places : (file first x end : ℕ) → InFile file first x end → end ≤ places
 in_places file first x end i = omega (arith, file-end file i.known)
@@ -39,6 +46,13 @@ module _ (map : List ℕ) (x : ℕ) (size : length map ≡ map_size) (inside : x
   node-read img y r v e n =
       let w : vacant_at map x ≡ false = sym vacant-read ∙ v in
       rw (w, get_d_there map x none 0 (omega arith), get_d_there map (places + x) none 0 (omega arith)) (sym (rw e at n))
+
+-- the places of a run, or their keys, as code that takes them out of the map reads them
+pub run-read : (map : List ℕ) (a n i : ℕ) → i < length (take n (drop a map)) → a + n ≤ length map → get_or (take n (drop a map)) i 0 ≡ get_or map (a + i) none
+unfolding part
+run-read map a n i h k =
+    let l : length (take n (drop a map)) ≡ n = part_length map a n k in
+    part_at map a n i 0 (omega arith) ∙ get_d_there map (a + i) 0 none (omega arith)
 
 pub vacant-place : (img map : List ℕ) (x : ℕ) → vacant_at map x ≡ true → place_fits img map x ≡ true
 unfolding place_fits
@@ -71,6 +85,21 @@ module _ (img map named : List ℕ) (x : ℕ) (inside : x < places) (tested : Te
       last_fails true e = e
       last_fails false e = refl
 
+  -- by the test that the position is not marked with 1
+  pub tested_unnamed : (next : List ℕ) → place_fits img map x ≡ true → not (eqb (get_or named (key_of map x) 0) 1) ≡ true → next ≡ set named (key_of map x) 1
+      → Tested img map next (x + 1)
+  tested_unnamed next e t s = tested_node next e (unnamed (dec_lt (key_of map x) positions)) s
+    where
+      other : get_or named (key_of map x) 0 ≡ 1 → ⊥
+      other = eqb-false _ _ (not-true _ t)
+
+      unnamed : Dec (key_of map x < positions) → get_or named (key_of map x) 0 ≡ 0
+      unnamed (yes h) = omega (arith, other, tested.tallied.few (key_of map x) h)
+      unnamed (no h) = get_or-eq_default named 0 (omega (arith, tested.tallied.size))
+
+  pub tested_named : not (eqb (get_or named (key_of map x) 0) 1) ≡ false → places_fit img map ≡ false
+  tested_named t = let one = eqb-true _ _ (not-false _ t) in tested_twice (λ z. omega arith)
+
 -- a place that does not fit
 pub unfit_place : (img map : List ℕ) (x : ℕ) → x < places → place_fits img map x ≡ false → places_fit img map ≡ false
 unfit_place img map x h e = go (all_from (place_fits img map) places 0) refl
@@ -99,20 +128,20 @@ module _ (img map : List ℕ) (n x : ℕ) (vacant : all_from (vacant_at map) n x
       either false e = e
 
 -- ---- a test of all, run by run
-module _ (p : ℕ → Bool) (n x end : ℕ) (h : x ≤ end) (k : end ≤ n) where
-  pub all_run_passes : all_from p (end - x) x ≡ true → all_from p (n - x) x ≡ all_from p (n - end) end
+module _ (p : ℕ → Bool) (n x k : ℕ) (h : x + k ≤ n) where
+  pub all_run_passes : all_from p k x ≡ true → all_from p (n - x) x ≡ all_from p (n - (x + k)) (x + k)
   all_run_passes r =
-      both_ways _ _ (λ e. all_intro p (n - end) end (λ y a b. all_holds p (n - x) x y e (omega arith) (omega arith)))
-      (λ e. all_intro p (n - x) x (λ y a b. elim (dec_lt y end) [
-        | yes l ↦ all_holds p (end - x) x y r a (omega arith)
-        | no l ↦ all_holds p (n - end) end y e (omega arith) (omega arith)
+      both_ways _ _ (λ e. all_intro p (n - (x + k)) (x + k) (λ y a b. all_holds p (n - x) x y e (omega arith) (omega arith)))
+      (λ e. all_intro p (n - x) x (λ y a b. elim (dec_lt y (x + k)) [
+        | yes l ↦ all_holds p k x y r a l
+        | no l ↦ all_holds p (n - (x + k)) (x + k) y e (omega arith) (omega arith)
       ]))
 
-  pub all_run_fails : all_from p (end - x) x ≡ false → all_from p (n - x) x ≡ false
+  pub all_run_fails : all_from p k x ≡ false → all_from p (n - x) x ≡ false
   all_run_fails r = go (all_from p (n - x) x) refl
     where
       go : (t : Bool) → all_from p (n - x) x ≡ t → t ≡ false
-      go true e = absurd (true-false (all_intro p (end - x) x (λ y a b. all_holds p (n - x) x y e a (omega arith))) r)
+      go true e = absurd (true-false (all_intro p k x (λ y a b. all_holds p (n - x) x y e a (omega arith))) r)
       go false e = refl
 
 -- ---- after the last place

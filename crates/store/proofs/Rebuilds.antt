@@ -6,29 +6,25 @@ use mathlib.Core.Path.{◌≡◌, refl, sym, ap, ◌∙◌}
 use mathlib.Core.Bool.{Bool, true, false, cond, not, ◌||◌}
 use mathlib.Core.List.{List}
 use lib.Dec.{eqb, leb}
-use lib.ListN.{length, get_or}
+use lib.ListN.{get_or}
 use Rattle.base.specs.Search.{all_from}
 use Rattle.base.specs.Fold.{list_from}
 use Rattle.base.proofs.Choice.{true-false}
 use Rattle.base.proofs.Searches.{all_agree}
-use Rattle.base.proofs.Folds.{length-list_from, list_from_at, list_from_agree}
+use Rattle.base.proofs.Folds.{list_from_at, list_from_agree}
 use Rattle.page.specs.Plan.{places}
 use Rattle.page.specs.Key.{positions}
 use Rattle.page.specs.Entry.{free_letter, used_letter, deleted_letter}
-use Rattle.store.specs.Record.{map_size, place_fits, named_times, keys_apart}
+use Rattle.store.specs.Record.{place_fits, named_times, keys_apart}
 use Rattle.store.specs.Mount.{letter_in, mount_map, entries_fit, is_spent, unused_letter, mount_letter}
 use Rattle.store.specs.Replay.{pass, Replayed}
-use Rattle.store.specs.Rebuild.{mount_fits, highest_sequence, rebuilt_of, Rebuilding}
-use Rattle.store.specs.declared.rebuild.Rebuilt.{Rebuilt}
-use Rattle.store.specs.declared.rebuild.Rebuilt.TheVariants.{Fits, Unfit}
-use Rattle.store.proofs.Decisions.{mount_map-length, mount_scratch-length, mount-sequence}
+use Rattle.store.specs.Rebuild.{mount_fits, Rebuilding}
+use Rattle.std.specs.Prelude.{Option, Some, None, is_some, MatchOption}
+use Rattle.store.specs.declared.replay.Seen.{Seen}
+use Rattle.store.proofs.Decisions.{mount-sequence}
 
 -- ---- refused with 14, or not
 module _ (img : List ℕ) (c : ℕ) where
-  pub rebuilt_unfit : {A : Type 0} → mount_fits img c ≡ false → (Unfit ≡ rebuilt_of img c) × (mount_fits img c ≡ true → A)
-  unfolding rebuilt_of
-  rebuilt_unfit e = (rw e, λ t. absurd (true-false t e))
-
   pub entries_unfit : entries_fit img c ≡ false → mount_fits img c ≡ false
   entries_unfit e = rw e
 
@@ -38,33 +34,18 @@ module _ (img : List ℕ) (c : ℕ) where
   pub both_fit : entries_fit img c ≡ true → keys_apart (mount_map img c) ≡ true → mount_fits img c ≡ true
   both_fit e k = rw (e, k)
 
-  pub rebuilt_fits : (h : ℕ) → mount_fits img c ≡ true → h ≡ highest_sequence img → Fits h ≡ rebuilt_of img c
-  unfolding rebuilt_of
-  rebuilt_fits h e q = rw (e, q)
+-- where there is none, more is known of it; where there is one, the same
+module _ {A : Type 0} (P C : Type 0) (Q R : A → Type 0) where
+  pub none-more : (r : Option A) → is_some r ≡ false → MatchOption r P Q → C → MatchOption r (P × C) R
+  none-more None e p c = (p, c)
+  none-more (Some x) e p c = absurd (true-false refl e)
 
-  -- and back
-  pub fits_rebuilt : (r : Rebuilt) (h : ℕ) → r ≡ rebuilt_of img c → r ≡ Fits h → (mount_fits img c ≡ true) × (h ≡ highest_sequence img)
-  unfolding rebuilt_of
-  fits_rebuilt r h e q = go (mount_fits img c) refl (sym e ∙ q)
-    where
-      go : (b : Bool) → mount_fits img c ≡ b → cond b (Fits (highest_sequence img)) Unfit ≡ Fits h → (b ≡ true) × (h ≡ highest_sequence img)
-      go true f p = (refl, cc)
-      go false f p = absurd (let z : ◌≡◌ {A = ℕ} 0 1 = cc in omega arith)
-
-  pub unfit_rebuilt : (r : Rebuilt) → r ≡ rebuilt_of img c → r ≡ Unfit → mount_fits img c ≡ false
-  unfolding rebuilt_of
-  unfit_rebuilt r e q = go (mount_fits img c) refl (sym e ∙ q)
-    where
-      go : (b : Bool) → mount_fits img c ≡ b → cond b (Fits (highest_sequence img)) Unfit ≡ Unfit → b ≡ false
-      go true f p = absurd (let z : ◌≡◌ {A = ℕ} 0 1 = cc in omega arith)
-      go false f p = refl
+  pub some_same : (r : Option A) → is_some r ≡ true → MatchOption r P Q → MatchOption r C Q
+  some_same None e p = absurd (true-false e refl)
+  some_same (Some x) e p = p
 
 -- ---- after the pass over the pages
-module _ (img : List ℕ) (c : ℕ) (map letters scratch events : List ℕ) (h : ℕ) (t : Replayed img c (pass map letters scratch events h)) where
-  pub replayed_lengths : (length map ≡ map_size) × (length letters ≡ positions) × (length scratch ≡ places)
-  replayed_lengths =
-      (ap length t.map ∙ mount_map-length img c, ap length t.letters ∙ length-list_from (unused_letter img c) positions 0, ap length t.scratch ∙ mount_scratch-length img c)
-
+module _ (img : List ℕ) (c : ℕ) (map letters scratch : List ℕ) (seen : Seen) (t : Replayed img c (pass map letters scratch seen)) where
   -- the scratch tells where the entry decides
   pub replayed_entries : (r : Bool) → r ≡ all_from (λ x. not (eqb (get_or scratch x 0) 0) || place_fits img map x) places 0 → r ≡ entries_fit img c
   unfolding entries_fit
@@ -90,5 +71,6 @@ module _ (img : List ℕ) (c : ℕ) (map letters scratch events : List ℕ) (h :
   pub replayed_apart : (r : Bool) → r ≡ keys_apart map → r ≡ keys_apart (mount_map img c)
   replayed_apart r e = e ∙ ap keys_apart t.map
 
-  pub rebuilding : (named : List ℕ) → named ≡ list_from (λ p. cond (leb 1 (named_times map p)) used_letter (get_or letters p 0)) positions 0 → Rebuilding img c map named scratch events
-  rebuilding named e = record { map_made = t.map; letters_made = e ∙ replayed_letters; scratch_made = t.scratch; events_made = t.events }
+  pub rebuilding : (named : List ℕ) → mount_fits img c ≡ true → named ≡ list_from (λ p. cond (leb 1 (named_times map p)) used_letter (get_or letters p 0)) positions 0 → Rebuilding img c map named scratch seen
+  rebuilding named f e =
+      record { fit = f; map_made = t.map; letters_made = e ∙ replayed_letters; scratch_made = t.scratch; events_made = t.events; highest_made = t.highest }

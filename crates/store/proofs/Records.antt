@@ -1,13 +1,15 @@
 -- The map and the letters as the code reads and changes them.
-use Prim.Native.Nat.{ℕ, ◌+◌, ◌-◌, ◌^◌, ◌<◌, ◌≤◌}
+use Prim.Native.Nat.{ℕ, zero, suc, ◌+◌, ◌-◌, ◌^◌, ◌<◌, ◌≤◌}
 use native.Mathlib.Omega.{arith}
 use native.Mathlib.Decide.{ℕ_discrete}
-use mathlib.Core.Path.{◌≡◌, sym, ap, ◌∙◌}
-use mathlib.Core.Bool.{true, false}
+use mathlib.Core.Path.{◌≡◌, refl, sym, ap, ◌∙◌}
+use mathlib.Core.Bool.{true, false, ◌||◌}
 use mathlib.Core.List.{List, ◌++◌, map, append-nil}
 use lib.ListN.{length, get_or, set, take, drop, length-set, length-take, length-map, get_or-map, drop_of_length-le}
-use lib.Seq.{take_all, get_or-drop, get_or-append-add, get_or-set_same, get_or-set_other}
+use lib.Dec.{ltb}
+use lib.Seq.{take_all, drop-cons, get_or-drop, get_or-append-add, get_or-set_same, get_or-set_other}
 use borrow.Author.Tests.{lt-ltb, le-ltb, ltb-true}
+use Rattle.std.specs.List.{list_any}
 use Rattle.base.specs.Fold.{fold_from}
 use Rattle.base.specs.Search.{any_from}
 use Rattle.base.proofs.Folds.{fold_next, fold_none}
@@ -91,6 +93,14 @@ module _ (file offset end x : ℕ) (last : end ≡ start_of file_plan file + cou
   pub live_from : (map : List ℕ) → any_live map file offset ≡ any_from (live map) (end - x) x
   unfolding any_live
   live_from map = rw (from_here, first)
+
+-- a part of the map has a node where one of its places has
+pub part_live : (map : List ℕ) (n x : ℕ) → x + n ≤ length map → list_any (λ page. ltb page none) (take n (drop x map)) ≡ any_from (live map) n x
+unfolding any_from
+part_live map zero x h = refl
+part_live map (suc n) x h =
+    let i : x < length map = omega arith in
+    rw (drop-cons map x none) (ap (λ b. live map x || b) (part_live map n (suc x) (omega arith)))
 
 -- the places before x are vacant, those from x on still to be
 pub record Removing (file offset end : ℕ) (map₀ letters₀ map letters : List ℕ) (x : ℕ) : Type 0 where

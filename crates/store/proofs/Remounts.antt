@@ -36,8 +36,8 @@ use Rattle.store.specs.Taken.{Buffers, MountTaken}
 use Rattle.store.specs.declared.Numbers.{Numbers}
 use Rattle.store.specs.declared.Kind.{Kind}
 use Rattle.store.specs.declared.Kind.TheVariants.{Other}
-use Rattle.store.specs.declared.Found.TheVariants.{At}
-use Rattle.store.specs.declared.Reply.TheVariants.{Done}
+use Rattle.std.specs.Prelude.{Some}
+use Rattle.store.specs.Reply.{Done}
 use Rattle.store.proofs.Verdicts.{mount_taken, mount-done}
 use Rattle.store.proofs.BlockKinds.{data_agree, page_outside}
 use Rattle.store.proofs.Choices.{foremost_at, foremost_lowered, chosen_by, commit_by_epoch, keys_by_epoch}
@@ -118,7 +118,7 @@ which_each P p (suc n) i h = go (p i) refl (which_each P p n (suc i) (λ d a b e
 
 -- ---- the same image without what mount erases
 module _ (img img' map letters scratch : List ℕ) (t : MountTaken img map letters scratch) (gone : Swept (swept img) img img') where
-  commit_is : chosen_by commit_epoch img ≡ At (commit_at img)
+  commit_is : chosen_by commit_epoch img ≡ Some (commit_at img)
   commit_is = sym (commit_by_epoch img) ∙ found_is (chosen_commit img) t.commit_there
 
   keys_there_lem : (q : ℕ) → q < 2 → is_found (chosen_keys img q) ≡ true
@@ -126,14 +126,14 @@ module _ (img img' map letters scratch : List ℕ) (t : MountTaken img map lette
   keys_there_lem (suc zero) h = t.keys1_there
   keys_there_lem (suc (suc q)) h = absurd (omega arith)
 
-  keys_are : (q : ℕ) → q < 2 → chosen_by (keys_epoch q) img ≡ At (keys_at img q)
+  keys_are : (q : ℕ) → q < 2 → chosen_by (keys_epoch q) img ≡ Some (keys_at img q)
   keys_are q h = sym (keys_by_epoch img q) ∙ found_is (chosen_keys img q) (keys_there_lem q h)
 
   count : blocks img' ≡ blocks img
   count = let e = gone.size in rw e
 
   -- ---- the chosen blocks
-  chosen_swept : (epoch : Kind → ℕ) (b : ℕ) → epoch Other ≡ 0 → swept img b ≡ false → chosen_by epoch img ≡ At b → chosen_by epoch img' ≡ chosen_by epoch img
+  chosen_swept : (epoch : Kind → ℕ) (b : ℕ) → epoch Other ≡ 0 → swept img b ≡ false → chosen_by epoch img ≡ Some b → chosen_by epoch img' ≡ chosen_by epoch img
   chosen_swept epoch b z k e =
       rw count
       (foremost_lowered (λ a. epoch (kind_of img a)) (λ a. epoch (kind_of img' a)) (blocks img) b (ap epoch (kept-kind (swept img) img img' gone b k))
@@ -147,7 +147,7 @@ module _ (img img' map letters scratch : List ℕ) (t : MountTaken img map lette
   keys_swept q h = keys_by_epoch img' q ∙ chosen_swept (keys_epoch q) (keys_at img q) refl (keys_kept img q h) (keys_are q h) ∙ sym (keys_by_epoch img q)
 
   -- the highest epoch is that of a chosen block
-  of_chosen : (epoch : Kind → ℕ) (b a : ℕ) → swept img b ≡ false → chosen_by epoch img ≡ At b → ((d : ℕ) → epoch (kind_of img' d) ≤ epoch_of img' d)
+  of_chosen : (epoch : Kind → ℕ) (b a : ℕ) → swept img b ≡ false → chosen_by epoch img ≡ Some b → ((d : ℕ) → epoch (kind_of img' d) ≤ epoch_of img' d)
       → a < blocks img
       → epoch (kind_of img a) ≤ highest_from (epoch_of img') (blocks img) 0
   of_chosen epoch b a k e below h =

@@ -17,7 +17,7 @@ use Rattle.image.proofs.Empties.{empty_block_page}
 use Rattle.image.proofs.Looks.{sized, size_same, blocks-same, lowest_some}
 use Rattle.image.proofs.Plays.{play_all_nil}
 use Rattle.image.proofs.Runs.{run_nil, run_length}
-use Rattle.store.specs.Reply.{verdict, is_done}
+use Rattle.store.specs.Reply.{Reply, Done, verdict, is_done}
 use Rattle.store.specs.Kind.{page_in, kind_of, is_chosen}
 use Rattle.store.specs.Record.{Record, record_of}
 use Rattle.store.specs.Outcome.{left, most_steps}
@@ -28,8 +28,8 @@ use Rattle.store.specs.Stages.{is_spare, lowest_spare, Work, after, commit_moved
 use Rattle.store.specs.Taken.{Ready, CommitTaken, WipeTaken}
 use Rattle.store.specs.declared.Kind.TheVariants.{Other}
 use Rattle.store.specs.declared.Numbers.{Numbers}
-use Rattle.store.specs.declared.Reply.{Reply}
-use Rattle.store.specs.declared.Reply.TheVariants.{Done, PowerCut}
+use Rattle.std.specs.Prelude.{Err}
+use Rattle.store.specs.declared.Error.TheVariants.{PowerCut}
 use Rattle.store.proofs.Verdicts.{commit-reply, commit_taken_lem, commit_done_lem, wipe-reply, wipe_taken_lem, wipe-done}
 use Rattle.store.proofs.BlockKinds.{kind_unbegun}
 use Rattle.store.proofs.Fits.{Fit, fits_is, fit_inside}
@@ -147,7 +147,7 @@ module _ (img : List ℕ) (r : Record) (noise : List ℕ) where
   -- what the work leaves
   pub commit-left : (n k : ℕ) (img' letters' : List ℕ) (q : Power) (m : Numbers) → CommitTaken img r noise → letters' ≡ map clean_letter r.letters
       → working q img' m ≡ renewed r.map letters' noise r.numbers (working (power_for n k) img r.numbers)
-      → leaves (cond q.on Done PowerCut) img' (record_of r.map letters' m) [] ≡ left n k (commit_of img r noise) img
+      → leaves (cond q.on Done (Err PowerCut)) img' (record_of r.map letters' m) [] ≡ left n k (commit_of img r noise) img
   commit-left n k img' letters' q m t l d =
       let s = begin img (cleaned r) in
       let g = begin_reached img r t.ready t.room (cleaned r) refl in
@@ -243,7 +243,7 @@ module _ (img : List ℕ) (r : Record) (noise : List ℕ) (file offset : ℕ) wh
   pub wipe-left : (n k : ℕ) (map₁ letters₁ img₁ img' : List ℕ) (q₁ q : Power) (n₁ m : Numbers) → WipeTaken img r noise file offset
       → working q₁ img₁ n₁ ≡ after (power_for n k) img (removed_first img r file offset) → record_of map₁ letters₁ n₁ ≡ (removed_first img r file offset).after
       → working q img' m ≡ renewed map₁ letters₁ noise r.numbers (working q₁ img₁ n₁)
-      → leaves (cond q.on Done PowerCut) img' (record_of map₁ letters₁ m) [] ≡ left n k (wipe_of img r noise file offset) img
+      → leaves (cond q.on Done (Err PowerCut)) img' (record_of map₁ letters₁ m) [] ≡ left n k (wipe_of img r noise file offset) img
   wipe-left n k map₁ letters₁ img₁ img' q₁ q n₁ m t d e f =
       let s = removed_first img r file offset in
       let g = first_reached img r file offset t.ready t.room in

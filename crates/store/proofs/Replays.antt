@@ -7,7 +7,7 @@ use mathlib.Core.Path.{◌≡◌, refl, sym, ap, ◌∙◌}
 use mathlib.Core.Bool.{Bool, true, false, cond, not, ◌&&◌, ◌||◌, and-true as and-true-right, and-false, or-false}
 use mathlib.Core.List.{List}
 use lib.Dec.{eqb, leb, ltb}
-use lib.ListN.{length, get_or, set, replicate, length-set, get_or-replicate}
+use lib.ListN.{length, get_or, set, replicate, get_or-replicate}
 use lib.Seq.{get_or-set_same, get_or-set_other, ext_get_or}
 use borrow.Author.Tests.{eq-eqb, ne_eqb, le-leb, lt-leb, lt-ltb, le-ltb, eqb-true, eqb-false}
 use Rattle.base.specs.Search.{any_from, highest_from}
@@ -16,7 +16,7 @@ use Rattle.base.proofs.Choice.{and-true, and_intro, true-false, cond_same}
 use Rattle.base.proofs.Searches.{any_holds, any_intro, any_join, highest_join}
 use Rattle.base.proofs.Folds.{fold_join, length-list_from, list_from_at}
 use Rattle.page.specs.Plan.{file_plan, last_file, places, count_of, start_of}
-use Rattle.page.specs.Header.{node_letter, cut_off_letter, in_range}
+use Rattle.page.specs.Header.{node_letter, cut_off_letter, in_range, is_event_letter}
 use Rattle.page.specs.Key.{positions}
 use Rattle.page.specs.Entry.{none, free_letter, deleted_letter}
 use Rattle.page.specs.declared.Frame.{Frame}
@@ -25,7 +25,7 @@ use Rattle.page.specs.declared.Form.TheVariants.{Empty, Whole, Torn, Spoilt}
 use Rattle.page.proofs.Plans.{start-after, plan_sum, place_at_lem}
 use Rattle.page.proofs.Ranges.{node_range, cut_off_range}
 use Rattle.image.specs.Size.{block_size, pages_in_block, most_blocks, blocks, pages, size_right}
-use Rattle.image.specs.Look.{block_empty, form_at}
+use Rattle.image.specs.Look.{letter_at, block_empty, form_at}
 use Rattle.image.proofs.Empties.{empty_block_page}
 use Rattle.image.proofs.Looks.{sized, block_inside}
 use Rattle.store.specs.Kind.{page_in, kind_of, headed}
@@ -33,9 +33,9 @@ use Rattle.store.specs.Record.{map_size}
 use Rattle.store.specs.Mount.{covered_in, letter_in, entry_in, Decision, by_entry, removes, sets, cuts, decide_by, decision, mount_map, mount_scratch, spends, is_spent, unused_letter, sequence_of, has_above}
 use Rattle.store.specs.Write.{place_at}
 use Rattle.store.specs.Taken.{Planned}
-use Rattle.store.specs.Replay.{Pass, held_at, EachPlace, EachLetter, outranks, range_right, above_of, Passed, Replayed}
+use Rattle.store.specs.Replay.{Pass, held_at, EachPlace, EachLetter, outranks, above_of, Passed, Replayed}
 use Rattle.store.specs.declared.Kind.TheVariants.{Commit}
-use Rattle.store.proofs.BlockKinds.{empty_form, whole_in_range, torn-in_range, commit_inside_lem}
+use Rattle.store.proofs.BlockKinds.{empty_form, whole-letter, torn-letter, commit_inside_lem}
 use Rattle.store.proofs.Decisions.{set_by, cut_by, mount_map-length, mount-page, mount-key, mount_scratch-length, mount-sequence}
 
 -- two tests, in either order
@@ -49,50 +49,6 @@ swap_tests false false x y = refl
 or_fails : (a b : Bool) → a || b ≡ false → (a ≡ false) × (b ≡ false)
 or_fails true b e = absurd (true-false refl e)
 or_fails false b e = (refl, e)
-
--- ---- one place
--- a decision put at a place stands there, and no other place changes
-pub put_held : (map scratch : List ℕ) (x : ℕ) (d : Decision) → length map ≡ map_size → length scratch ≡ places → x < places
-    → EachPlace (λ y held. cond (eqb x y) d held) map scratch (set (set map x d.page) (places + x) d.key) (set scratch x d.sequence)
-put_held map scratch x d map_full scratch_full below y h = go (eqb x y) refl
-  where
-    go : (b : Bool) → eqb x y ≡ b → held_at (set (set map x d.page) (places + x) d.key) (set scratch x d.sequence) y ≡ cond b d (held_at map scratch y)
-    go true e =
-        let q : x ≡ y = eqb-true x y e in
-        rw (
-          ← q,
-          get_or-set_same scratch x d.sequence 0 (omega arith),
-          get_or-set_same (set map x d.page) (places + x) d.key none (rw length-set (omega arith)),
-          get_or-set_other (set map x d.page) (places + x) x d.key none (λ r. omega arith),
-          get_or-set_same map x d.page none (omega arith),
-        )
-    go false e =
-        let apart = eqb-false x y e in
-        rw (
-          get_or-set_other scratch x y d.sequence 0 (λ r. apart (sym r)),
-          get_or-set_other (set map x d.page) (places + x) y d.key none (λ r. omega arith),
-          get_or-set_other map x y d.page none (λ r. apart (sym r)),
-          get_or-set_other (set map x d.page) (places + x) (places + y) d.key none (λ r. apart (omega arith)),
-          get_or-set_other map x (places + y) d.page none (λ r. omega arith),
-        )
-
-module _ (map scratch : List ℕ) (x : ℕ) (d : Decision) where
-  -- an event that is put where the place holds no higher sequence
-  pub take_held : (map' scratch' : List ℕ) → get_or scratch x 0 ≤ d.sequence → EachPlace (λ y held. cond (eqb x y) d held) map scratch map' scratch'
-      → EachPlace (λ y held. cond (eqb x y) (outranks d held) held) map scratch map' scratch'
-  take_held map' scratch' high put y h = put y h ∙ go (eqb x y) refl
-    where
-      go : (b : Bool) → eqb x y ≡ b → cond b d (held_at map scratch y) ≡ cond b (outranks d (held_at map scratch y)) (held_at map scratch y)
-      go true e = let q : x ≡ y = eqb-true x y e in rw (le-leb (get_or scratch y 0) d.sequence (rw (← q) high))
-      go false e = refl
-
-  -- and one that is not, where the place holds a higher one
-  pub left_held : d.sequence < get_or scratch x 0 → EachPlace (λ y held. cond (eqb x y) (outranks d held) held) map scratch map scratch
-  left_held low y h = go (eqb x y) refl
-    where
-      go : (b : Bool) → eqb x y ≡ b → held_at map scratch y ≡ cond b (outranks d (held_at map scratch y)) (held_at map scratch y)
-      go true e = let q : x ≡ y = eqb-true x y e in rw (lt-leb (get_or scratch y 0) d.sequence (rw (← q) low))
-      go false e = refl
 
 -- ---- places in a row
 -- each place from first up to x is changed by f
@@ -173,15 +129,6 @@ pub cut_off-planned : (f : Frame) → f.kind ≡ cut_off_letter → in_range f �
 cut_off-planned f k e = let r = (cut_off_range f k).0 e in record { file_right = r.file; offset_right = r.offset }
 
 -- ---- letters
--- the key of an N page above the covered sequence
-pub key_spent : (letters : List ℕ) (s : ℕ) (f : Frame) → s < f.number → f.kind ≡ node_letter → f.key < length letters
-    → EachLetter (λ p l. cond (eqb f.kind node_letter && ltb s f.number && eqb f.key p) deleted_letter l) letters (set letters f.key deleted_letter)
-key_spent letters s f above node inside p h = rw (node, lt-ltb s f.number above) (go (eqb f.key p) refl)
-  where
-    go : (b : Bool) → eqb f.key p ≡ b → get_or (set letters f.key deleted_letter) p 0 ≡ cond b deleted_letter (get_or letters p 0)
-    go true e = let q : f.key ≡ p = eqb-true _ _ e in rw (← q) (get_or-set_same letters f.key deleted_letter 0 inside)
-    go false e = let apart = eqb-false f.key p e in get_or-set_other letters f.key p deleted_letter 0 (λ q. apart (sym q))
-
 -- ---- pages in a row
 -- none leave all as it is
 pub passed_none : (img : List ℕ) (s g : ℕ) (t : Pass) → Passed img s 0 g t t
@@ -199,7 +146,7 @@ passed_join img s m n g t u v a b =
           b.letter p h
           ∙ ap (cond (any_from (λ i. spends s p (form_at img i)) n (g + m)) deleted_letter) (a.letter p h)
           ∙ either (λ i. spends s p (form_at img i)) deleted_letter (get_or t.letters p 0);
-      event = λ c h. b.event c h ∙ ap (cond (any_from (above_of img s c) n (g + m)) 1) (a.event c h) ∙ either (above_of img s c) 1 (get_or t.events c 0);
+      event = λ c h. b.event c h ∙ ap (λ (y : Bool). any_from (above_of img s c) n (g + m) || y) (a.event c h) ∙ any_of (above_of img s c) (get_or t.events c false);
       highest = b.highest ∙ rw (a.highest, highest_join (λ i. sequence_of (form_at img i)) m n g) (omega arith);
     }
   where
@@ -211,6 +158,15 @@ passed_join img s m n g t u v a b =
 
     either : (p : ℕ → Bool) (x y : ℕ) → cond (any_from p n (g + m)) x (cond (any_from p m g) x y) ≡ cond (any_from p (m + n) g) x y
     either p x y = go (any_from p m g) (any_from p n (g + m)) x y ∙ ap (λ (c : Bool). cond c x y) (sym (any_join p m n g))
+
+    of_three : (a b y : Bool) → b || (a || y) ≡ (a || b) || y
+    of_three true true y = refl
+    of_three true false y = refl
+    of_three false true y = refl
+    of_three false false y = refl
+
+    any_of : (p : ℕ → Bool) (y : Bool) → any_from p n (g + m) || (any_from p m g || y) ≡ any_from p (m + n) g || y
+    any_of p y = of_three (any_from p m g) (any_from p n (g + m)) y ∙ ap (λ (c : Bool). c || y) (sym (any_join p m n g))
 
 -- as a loop over the pages of a block has it, from page first on, and as one over the blocks has it
 pub passed_next : (img : List ℕ) (s first g : ℕ) (t u v : Pass) → first ≤ g → Passed img s (g - first) first t u → Passed img s 1 g u v → Passed img s (g + 1 - first) first t v
@@ -228,7 +184,7 @@ block_passed img s b t u v a c =
 pub page-passed : (img : List ℕ) (s g : ℕ) (t t' : Pass) (m : Form) → m ≡ form_at img g → g / pages_in_block < length t.events
     → EachPlace (λ x. decide_by s x g m) t.map t.scratch t'.map t'.scratch
     → EachLetter (λ p l. cond (spends s p m) deleted_letter l) t.letters t'.letters
-    → t'.events ≡ cond (ltb s (sequence_of m)) (set t.events (g / pages_in_block) 1) t.events
+    → t'.events ≡ cond (ltb s (sequence_of m)) (set t.events (g / pages_in_block) true) t.events
     → t'.highest ≡ max t.highest (sequence_of m)
     → Passed img s 1 g t t'
 unfolding fold_from any_from highest_from
@@ -236,15 +192,15 @@ page-passed img s g t t' m form inside places-by letters-by events-by highest-by
     record {
       place = λ x h. places-by x h ∙ ap (λ (m : Form). decide_by s x g m (held_at t.map t.scratch x)) form;
       letter = λ p h. letters-by p h ∙ rw (form, or-false);
-      event = λ b h. ap (λ (l : List ℕ). get_or l b 0) events-by ∙ rw (form, or-false) (go (ltb s (sequence_of (form_at img g))) b);
+      event = λ b h. ap (λ (l : List Bool). get_or l b false) events-by ∙ rw (form, or-false) (go (ltb s (sequence_of (form_at img g))) b);
       highest = highest-by ∙ rw form (omega arith);
     }
   where
-    at : (e : Bool) (b : ℕ) → eqb (g / pages_in_block) b ≡ e → get_or (set t.events (g / pages_in_block) 1) b 0 ≡ cond e 1 (get_or t.events b 0)
-    at true b e = let q : g / pages_in_block ≡ b = eqb-true _ _ e in rw (← q) (get_or-set_same t.events (g / pages_in_block) 1 0 inside)
-    at false b e = let apart = eqb-false (g / pages_in_block) b e in get_or-set_other t.events (g / pages_in_block) b 1 0 (λ q. apart (sym q))
+    at : (e : Bool) (b : ℕ) → eqb (g / pages_in_block) b ≡ e → get_or (set t.events (g / pages_in_block) true) b false ≡ e || get_or t.events b false
+    at true b e = let q : g / pages_in_block ≡ b = eqb-true _ _ e in rw (← q) (get_or-set_same t.events (g / pages_in_block) true false inside)
+    at false b e = let apart = eqb-false (g / pages_in_block) b e in get_or-set_other t.events (g / pages_in_block) b true false (λ q. apart (sym q))
 
-    go : (h : Bool) (b : ℕ) → get_or (cond h (set t.events (g / pages_in_block) 1) t.events) b 0 ≡ cond (eqb (g / pages_in_block) b && h) 1 (get_or t.events b 0)
+    go : (h : Bool) (b : ℕ) → get_or (cond h (set t.events (g / pages_in_block) true) t.events) b false ≡ eqb (g / pages_in_block) b && h || get_or t.events b false
     go true b = rw and-true-right (at (eqb (g / pages_in_block) b) b refl)
     go false b = rw and-false
 
@@ -293,15 +249,20 @@ block_idle img s b t inside empty =
     let k : i / pages_in_block ≡ b = omega arith in
     ap headed (empty_form img i (empty_block_page img i (rw k empty))))
 
--- a page's header is in range
-pub range_right_lem : (img : List ℕ) (g : ℕ) → range_right (form_at img g) ≡ true
-range_right_lem img g = go (form_at img g) refl
-  where
-    go : (m : Form) → form_at img g ≡ m → range_right m ≡ true
-    go Empty e = refl
-    go (Whole f) e = whole_in_range img g f e
-    go (Torn f) e = torn-in_range img g f e
-    go Spoilt e = refl
+-- a page that begins with N or D and has a header: what it does to each list goes by the header
+module _ (img : List ℕ) (s g : ℕ) (f : Frame) (t t' : Pass) (letter : is_event_letter (letter_at img g) ≡ true) (inside : g / pages_in_block < length t.events)
+    (letters : EachLetter (λ p l. cond (eqb f.kind node_letter && ltb s f.number && eqb f.key p) deleted_letter l) t.letters t'.letters)
+    (events : t'.events ≡ cond (ltb s f.number) (set t.events (g / pages_in_block) true) t.events)
+    (highest : t'.highest ≡ max t.highest f.number) where
+  pub whole-passed : form_at img g ≡ Whole f → EachPlace (λ x. decide_by s x g (Whole f)) t.map t.scratch t'.map t'.scratch → Passed img s 1 g t t'
+  whole-passed e places =
+      let k : is_event_letter f.kind ≡ true = ap is_event_letter (whole-letter img g f e) ∙ letter in
+      page-passed img s g t t' (Whole f) (sym e) inside places letters (rw k events) (rw k highest)
+
+  pub torn-passed : form_at img g ≡ Torn f → t'.map ≡ t.map → t'.scratch ≡ t.scratch → Passed img s 1 g t t'
+  torn-passed e map scratch =
+      let k : is_event_letter f.kind ≡ true = ap is_event_letter (torn-letter img g f e) ∙ letter in
+      page-passed img s g t t' (Torn f) (sym e) inside (λ x h. rw (map, scratch)) letters (rw k events) (rw k highest)
 
 -- a page of an image stands in one of at most 256 blocks, and its number fits a map
 pub page_most : (img : List ℕ) (g : ℕ) → size_right img ≡ true → g < pages img → (g / pages_in_block < most_blocks) × (g < none)
@@ -347,7 +308,7 @@ pub record Full (t : Pass) : Type 0 where
 pub record Begun (img : List ℕ) (c : ℕ) (t : Pass) : Type 0 where
   pub place : (x : ℕ) → x < places → held_at t.map t.scratch x ≡ by_entry (entry_in img c x)
   pub letter : (p : ℕ) → p < positions → get_or t.letters p 0 ≡ cond (eqb (letter_in img c p) free_letter) free_letter deleted_letter
-  pub events : t.events ≡ replicate most_blocks 0
+  pub events : t.events ≡ replicate most_blocks false
   pub highest : t.highest ≡ 0
 
 module _ (img : List ℕ) (c e s : ℕ) (size : size_right img ≡ true) (commit : kind_of img c ≡ Commit e s) (t t' : Pass) (begun : Begun img c t)
@@ -391,6 +352,6 @@ module _ (img : List ℕ) (c e s : ℕ) (size : size_right img ≡ true) (commit
         events = λ b h.
             let z = sized img size in
             passed.event b (omega (arith, z.most))
-            ∙ rw (begun.events, get_or-replicate {A = ℕ} most_blocks b 0 0 (omega (arith, z.most)), block_events img s b size h, commit);
+            ∙ rw (begun.events, get_or-replicate {A = Bool} most_blocks b false false (omega (arith, z.most)), block_events img s b size h, commit) (or-false (has_above img s b));
         highest = passed.highest ∙ rw begun.highest (omega arith);
       }

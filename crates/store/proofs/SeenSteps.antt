@@ -30,7 +30,7 @@ use Rattle.store.specs.Kind.{is_chosen, is_data}
 use Rattle.store.specs.Format.{first_epoch, formatted, format_steps, format_of}
 use Rattle.store.specs.Mount.{mounted, is_stray, is_swept, mount_steps, mount_of}
 use Rattle.store.specs.Outcome.{Outcome, left_whole}
-use Rattle.store.specs.declared.Reply.TheVariants.{Done}
+use Rattle.store.specs.Reply.{Done}
 use Rattle.store.proofs.Verdicts.{format_taken_lem, mount_taken}
 use Rattle.store.proofs.Outcomes.{format_outcome, mount_outcome, formatted-full}
 use Rattle.store.proofs.LegalSteps.{blank_length}

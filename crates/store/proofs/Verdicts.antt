@@ -2,11 +2,11 @@
 use Prim.Native.Nat.{ℕ, ◌+◌}
 use native.Mathlib.Omega.{arith}
 use mathlib.Core.Path.{◌≡◌, refl, sym, ap, ◌∙◌}
-use mathlib.Core.Bool.{Bool, true, false, cond, not, ◌&&◌, ◌||◌}
+use mathlib.Core.Bool.{Bool, true, false, cond, ◌&&◌, ◌||◌}
 use mathlib.Core.List.{List, [], ◌∷◌, ◌++◌}
 use lib.ListN.{length, get_or}
 use lib.Dec.{eqb, leb}
-use borrow.Author.Tests.{eqb-true, leb-true, ltb-true, not-true, eq-eqb, le-leb, lt-ltb}
+use borrow.Author.Tests.{eqb-true, leb-true, ltb-true, eq-eqb, le-leb, lt-ltb}
 use Rattle.base.specs.Each.{Each}
 use Rattle.base.proofs.Choice.{and-true, and_intro, true-false}
 use Rattle.base.proofs.Eachs.{each_at}
@@ -18,7 +18,7 @@ use Rattle.page.specs.Page.{padded}
 use Rattle.page.proofs.Ranges.{within-true}
 use Rattle.page.proofs.Pages.{padded-length}
 use Rattle.image.specs.Size.{size_right}
-use Rattle.store.specs.Reply.{Test, ◌else◌, verdict, is_done, number_of}
+use Rattle.store.specs.Reply.{Reply, Done, Test, ◌else◌, verdict, is_done, number_of}
 use Rattle.store.specs.Kind.{is_data}
 use Rattle.store.specs.Record.{Record, map_size, keys_apart, fits}
 use Rattle.store.specs.Find.{is_found, found_at}
@@ -31,35 +31,35 @@ use Rattle.store.specs.Commit.{commit_tests, commit_of}
 use Rattle.store.specs.Wipe.{wipe_tests, wipe_of}
 use Rattle.store.specs.Gather.{live_pages, gather_tests, gather_of}
 use Rattle.store.specs.Taken.{Buffers, Ready, Planned, FormatTaken, MountTaken, Filling, WriteTaken, ReadTaken, CutOffTaken, CommitTaken, WipeTaken, GatherTaken}
-use Rattle.store.specs.declared.Reply.{Reply}
-use Rattle.store.specs.declared.Reply.TheVariants.{Done, ImageSize, BufferLength, NoiseLength, NoSuchFile, OffsetOutside, PayloadLength, RecordUnfit, NothingThere, NoFreeKey, NoRoom, NumbersSpent, NoKeyBlock, NoCommit, EntryUnfit, NothingToGather, PowerCut}
+use Rattle.std.specs.Prelude.{Ok, Err}
+use Rattle.store.specs.declared.Error.TheVariants.{ImageSize, BufferLength, NoiseLength, NoSuchFile, OffsetOutside, PayloadLength, RecordUnfit, NothingThere, NoFreeKey, NoRoom, NumbersSpent, NoKeyBlock, NoCommit, EntryUnfit, NothingToGather, PowerCut}
 
 -- ---- numbers
 -- the reply of a number of the document
 abbrev reply_of : ℕ → Reply
 reply_of n =
     get_or
-    (Done ∷ ImageSize ∷ BufferLength ∷ NoiseLength ∷ NoSuchFile ∷ OffsetOutside ∷ PayloadLength ∷ RecordUnfit ∷ NothingThere ∷ NoFreeKey ∷ NoRoom ∷ NumbersSpent ∷ NoKeyBlock ∷ NoCommit ∷ EntryUnfit ∷ NothingToGather ∷ [])
-    n PowerCut
+    (Done ∷ (Err ImageSize) ∷ (Err BufferLength) ∷ (Err NoiseLength) ∷ (Err NoSuchFile) ∷ (Err OffsetOutside) ∷ (Err PayloadLength) ∷ (Err RecordUnfit) ∷ (Err NothingThere) ∷ (Err NoFreeKey) ∷ (Err NoRoom) ∷ (Err NumbersSpent) ∷ (Err NoKeyBlock) ∷ (Err NoCommit) ∷ (Err EntryUnfit) ∷ (Err NothingToGather) ∷ [])
+    n (Err PowerCut)
 
 reply_of_number : (r : Reply) → reply_of (number_of r) ≡ r
-reply_of_number Done = refl
-reply_of_number ImageSize = refl
-reply_of_number BufferLength = refl
-reply_of_number NoiseLength = refl
-reply_of_number NoSuchFile = refl
-reply_of_number OffsetOutside = refl
-reply_of_number PayloadLength = refl
-reply_of_number RecordUnfit = refl
-reply_of_number NothingThere = refl
-reply_of_number NoFreeKey = refl
-reply_of_number NoRoom = refl
-reply_of_number NumbersSpent = refl
-reply_of_number NoKeyBlock = refl
-reply_of_number NoCommit = refl
-reply_of_number EntryUnfit = refl
-reply_of_number NothingToGather = refl
-reply_of_number PowerCut = refl
+reply_of_number (Ok done) = refl
+reply_of_number (Err ImageSize) = refl
+reply_of_number (Err BufferLength) = refl
+reply_of_number (Err NoiseLength) = refl
+reply_of_number (Err NoSuchFile) = refl
+reply_of_number (Err OffsetOutside) = refl
+reply_of_number (Err PayloadLength) = refl
+reply_of_number (Err RecordUnfit) = refl
+reply_of_number (Err NothingThere) = refl
+reply_of_number (Err NoFreeKey) = refl
+reply_of_number (Err NoRoom) = refl
+reply_of_number (Err NumbersSpent) = refl
+reply_of_number (Err NoKeyBlock) = refl
+reply_of_number (Err NoCommit) = refl
+reply_of_number (Err EntryUnfit) = refl
+reply_of_number (Err NothingToGather) = refl
+reply_of_number (Err PowerCut) = refl
 
 -- no two replies have one number, and only success has 0
 pub number_apart : (r v : Reply) → number_of r ≡ number_of v → r ≡ v
@@ -69,34 +69,13 @@ pub number_zero : (r : Reply) → number_of r ≡ 0 → r ≡ Done
 number_zero r e = number_apart r Done e
 
 -- ---- success
-done_number : (r : Reply) → is_done r ≡ eqb (number_of r) 0
-done_number Done = refl
-done_number ImageSize = refl
-done_number BufferLength = refl
-done_number NoiseLength = refl
-done_number NoSuchFile = refl
-done_number OffsetOutside = refl
-done_number PayloadLength = refl
-done_number RecordUnfit = refl
-done_number NothingThere = refl
-done_number NoFreeKey = refl
-done_number NoRoom = refl
-done_number NumbersSpent = refl
-done_number NoKeyBlock = refl
-done_number NoCommit = refl
-done_number EntryUnfit = refl
-done_number NothingToGather = refl
-done_number PowerCut = refl
-
 pub done-true : (r : Reply) → is_done r ≡ true → r ≡ Done
-done-true r e = number_zero r (eqb-true (number_of r) 0 (sym (done_number r) ∙ e))
+done-true (Ok done) e = refl
+done-true (Err error) e = absurd (true-false e refl)
 
 pub done-false : (r : Reply) → (r ≡ Done → ⊥) → is_done r ≡ false
-done-false r h = go (is_done r) refl
-  where
-    go : (b : Bool) → is_done r ≡ b → b ≡ false
-    go true e = absurd (h (done-true r e))
-    go false e = refl
+done-false (Ok done) h = absurd (h refl)
+done-false (Err error) h = refl
 
 pub not_done : (r : Reply) → is_done r ≡ false → r ≡ Done → ⊥
 not_done r e h = true-false (ap is_done h) e
@@ -105,28 +84,24 @@ not_done r e h = true-false (ap is_done h) e
 pub verdict-pass : (t : Test) (ts : List Test) → t.holds ≡ true → verdict (t ∷ ts) ≡ verdict ts
 verdict-pass t ts e = rw e
 
-pub verdict_stop : (t : Test) (ts : List Test) → t.holds ≡ false → verdict (t ∷ ts) ≡ t.otherwise
+pub verdict_stop : (t : Test) (ts : List Test) → t.holds ≡ false → verdict (t ∷ ts) ≡ (Err t.otherwise)
 verdict_stop t ts e = rw e
 
 -- a test passes
 abbrev pub Passes : Test → Type 0
 Passes t = t.holds ≡ true
 
--- a test refuses where it fails
-abbrev pub Refuses : Test → Type 0
-Refuses t = is_done t.otherwise ≡ false
-
-pub verdict_first : (t : Test) (ts : List Test) → Refuses t → verdict (t ∷ ts) ≡ Done → (t.holds ≡ true) × (verdict ts ≡ Done)
-verdict_first t ts q e = go t.holds refl
+pub verdict_first : (t : Test) (ts : List Test) → verdict (t ∷ ts) ≡ Done → (t.holds ≡ true) × (verdict ts ≡ Done)
+verdict_first t ts e = go t.holds refl
   where
     go : (b : Bool) → t.holds ≡ b → (t.holds ≡ true) × (verdict ts ≡ Done)
     go true h = (h, sym (verdict-pass t ts h) ∙ e)
-    go false h = absurd (not_done t.otherwise q (sym (verdict_stop t ts h) ∙ e))
+    go false h = absurd (not_done (Err t.otherwise) refl (sym (verdict_stop t ts h) ∙ e))
 
 -- success is that each test passes
-pub verdict-done : (ts : List Test) → Each Refuses ts → verdict ts ≡ Done → Each Passes ts
-verdict-done [] q e = tt
-verdict-done (t ∷ ts) q e = let f = verdict_first t ts q.0 e in (f.0, verdict-done ts q.1 f.1)
+pub verdict-done : (ts : List Test) → verdict ts ≡ Done → Each Passes ts
+verdict-done [] e = tt
+verdict-done (t ∷ ts) e = let f = verdict_first t ts e in (f.0, verdict-done ts f.1)
 
 pub verdict-passed : (ts : List Test) → Each Passes ts → verdict ts ≡ Done
 verdict-passed [] p = refl
@@ -140,7 +115,7 @@ pub record FirstFailure (ts : List Test) : Type 0 where
   pub in_order : ts ≡ before ++ (test ∷ after)
   pub passed : Each Passes before
   pub failed : test.holds ≡ false
-  pub reply : verdict ts ≡ test.otherwise
+  pub reply : verdict ts ≡ (Err test.otherwise)
 
 pub verdict-failed : (ts : List Test) → is_done (verdict ts) ≡ false → FirstFailure ts
 verdict-failed [] e = absurd (true-false refl e)
@@ -165,30 +140,21 @@ verdict-failed (t ∷ ts) e = go t.holds refl (verdict-failed ts)
 -- what holds of success and of each refusal of the tests holds of their verdict
 abbrev pub all_refusals : (Reply → Bool) → List Test → Bool
 all_refusals p [] = true
-all_refusals p (t ∷ ts) = p t.otherwise && all_refusals p ts
+all_refusals p (t ∷ ts) = p (Err t.otherwise) && all_refusals p ts
 
 pub verdict_among : (p : Reply → Bool) (ts : List Test) → p Done ≡ true → all_refusals p ts ≡ true → p (verdict ts) ≡ true
 verdict_among p [] d a = d
 verdict_among p (t ∷ ts) d a =
-    let b = and-true (p t.otherwise) (all_refusals p ts) a in
+    let b = and-true (p (Err t.otherwise)) (all_refusals p ts) a in
     go t.holds b.0 (verdict_among p ts d b.1)
   where
-    go : (h : Bool) → p t.otherwise ≡ true → p (verdict ts) ≡ true → p (cond h (verdict ts) t.otherwise) ≡ true
+    go : (h : Bool) → p (Err t.otherwise) ≡ true → p (verdict ts) ≡ true → p (cond h (verdict ts) (Err t.otherwise)) ≡ true
     go true e f = f
     go false e f = e
 
 -- ---- the tests of a call, by their place in the list
-abbrev is_refusal : Reply → Bool
-is_refusal v = not (is_done v)
-
-refuse_each : (ts : List Test) → all_refusals is_refusal ts ≡ true → Each Refuses ts
-refuse_each [] e = tt
-refuse_each (t ∷ ts) e =
-    let b = and-true (is_refusal t.otherwise) (all_refusals is_refusal ts) e in
-    (not-true _ b.0, refuse_each ts b.1)
-
-passed : (ts : List Test) → all_refusals is_refusal ts ≡ true → verdict ts ≡ Done → (i : ℕ) → (get_or ts i (true else Done)).holds ≡ true
-passed ts q e i = each_at Passes ts i (true else Done) refl (verdict-done ts (refuse_each ts q) e)
+passed : (ts : List Test) → verdict ts ≡ Done → (i : ℕ) → (get_or ts i (true else NoRoom)).holds ≡ true
+passed ts e i = each_at Passes ts i (true else NoRoom) refl (verdict-done ts e)
 
 -- ---- what several calls test
 pub buffers-true : (map letters : List ℕ) → buffers_right map letters ≡ true → Buffers map letters
@@ -214,7 +180,7 @@ module _ (img map letters noise : List ℕ) where
 
   pub format_taken_lem : (format_of img map letters noise).reply ≡ Done → FormatTaken img map letters noise
   format_taken_lem e =
-      let t = passed (format_tests img map letters noise) refl (sym format_reply ∙ e) in
+      let t = passed (format_tests img map letters noise) (sym format_reply ∙ e) in
       record { size = t 0; buffers = buffers-true map letters (t 1); noise_full = eqb-true _ _ (t 2) }
 
   pub format_done_lem : FormatTaken img map letters noise → (format_of img map letters noise).reply ≡ Done
@@ -235,7 +201,7 @@ module _ (img map letters scratch : List ℕ) where
 
   pub mount_taken : (mount_of img map letters scratch).reply ≡ Done → MountTaken img map letters scratch
   mount_taken e =
-      let t = passed (mount_tests img map letters scratch) refl (sym mount-reply ∙ e) in
+      let t = passed (mount_tests img map letters scratch) (sym mount-reply ∙ e) in
       let c = found_at (chosen_commit img) in
       let b = and-true (buffers_right map letters) (eqb (length scratch) places) (t 1) in
       let k = and-true (is_found (chosen_keys img 0)) (is_found (chosen_keys img 1)) (t 3) in
@@ -266,11 +232,11 @@ module _ (img : List ℕ) (r : Record) (file offset : ℕ) (right : Bool) (secon
   write-reply = refl
 
   pub write-right : (append_of img r file offset right second bytes).reply ≡ Done → right ≡ true
-  write-right e = passed (append_tests img r file offset right) refl (sym write-reply ∙ e) 4
+  write-right e = passed (append_tests img r file offset right) (sym write-reply ∙ e) 4
 
   pub write_taken_lem : (right ≡ true → Filling second bytes) → (append_of img r file offset right second bytes).reply ≡ Done → WriteTaken img r file offset second bytes
   write_taken_lem fills e =
-      let t = passed (append_tests img r file offset right) refl (sym write-reply ∙ e) in
+      let t = passed (append_tests img r file offset right) (sym write-reply ∙ e) in
       record {
         ready = ready-true img r (t 0) (t 1) (t 5);
         planned = planned-true file offset (t 2) (t 3);
@@ -303,7 +269,7 @@ module _ (img : List ℕ) (r : Record) (file offset : ℕ) (output : List ℕ) w
 
   pub read_taken : (read_of img r file offset output).reply ≡ Done → ReadTaken img r file offset output
   read_taken e =
-      let t = passed (read_tests img r file offset output) refl (sym read-reply ∙ e) in
+      let t = passed (read_tests img r file offset output) (sym read-reply ∙ e) in
       record {
         ready = ready-true img r (t 0) (t 1) (t 5);
         planned = planned-true file offset (t 2) (t 3);
@@ -328,7 +294,7 @@ module _ (img : List ℕ) (r : Record) (file offset : ℕ) where
 
   pub cut_off_taken_lem : (cut_off_of img r file offset).reply ≡ Done → CutOffTaken img r file offset
   cut_off_taken_lem e =
-      let t = passed (cut_off_tests img r file offset) refl (sym cut_off-reply ∙ e) in
+      let t = passed (cut_off_tests img r file offset) (sym cut_off-reply ∙ e) in
       record {
         ready = ready-true img r (t 0) (t 1) (t 4);
         planned = planned-true file offset (t 2) (t 3);
@@ -354,7 +320,7 @@ module _ (img : List ℕ) (r : Record) (noise : List ℕ) where
 
   pub commit_taken_lem : (commit_of img r noise).reply ≡ Done → CommitTaken img r noise
   commit_taken_lem e =
-      let t = passed (commit_tests img r noise) refl (sym commit-reply ∙ e) in
+      let t = passed (commit_tests img r noise) (sym commit-reply ∙ e) in
       record {
         ready = ready-true img r (t 0) (t 1) (t 3);
         noise_full = eqb-true _ _ (t 2);
@@ -378,7 +344,7 @@ module _ (img : List ℕ) (r : Record) (noise : List ℕ) (file offset : ℕ) wh
 
   pub wipe_taken_lem : (wipe_of img r noise file offset).reply ≡ Done → WipeTaken img r noise file offset
   wipe_taken_lem e =
-      let t = passed (wipe_tests img r noise file offset) refl (sym wipe-reply ∙ e) in
+      let t = passed (wipe_tests img r noise file offset) (sym wipe-reply ∙ e) in
       record {
         ready = ready-true img r (t 0) (t 1) (t 5);
         planned = planned-true file offset (t 3) (t 4);
@@ -406,7 +372,7 @@ module _ (img : List ℕ) (r : Record) (block : ℕ) where
 
   pub gather_taken_lem : (gather_of img r block).reply ≡ Done → GatherTaken img r block
   gather_taken_lem e =
-      let t = passed (gather_tests img r block) refl (sym gather-reply ∙ e) in
+      let t = passed (gather_tests img r block) (sym gather-reply ∙ e) in
       let d = and-true (is_data img r.numbers block) (leb 1 (length (live_pages r.map block))) (t 3) in
       record {
         ready = ready-true img r (t 0) (t 1) (t 2);

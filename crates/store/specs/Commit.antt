@@ -13,7 +13,7 @@ use Rattle.store.specs.Outcome.{Outcome, Left, decided}
 use Rattle.store.specs.Format.{format_tests}
 use Rattle.store.specs.Write.{fit_tests, keys_block}
 use Rattle.store.specs.declared.Numbers.{Numbers}
-use Rattle.store.specs.declared.Reply.TheVariants.{NoRoom, NumbersSpent}
+use Rattle.store.specs.declared.Error.TheVariants.{NoRoom, NumbersSpent}
 
 -- the tests that commit and wipe end with; a call uses one epoch and so many more
 abbrev pub renewal_tests : List ℕ → Record → ℕ → List Test

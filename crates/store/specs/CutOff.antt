@@ -13,7 +13,7 @@ use Rattle.store.specs.Outcome.{Outcome, Left, decided}
 use Rattle.store.specs.Find.{new_page, is_found, found_at}
 use Rattle.store.specs.Write.{place_tests, fit_tests, place_at, next_sequence, released}
 use Rattle.store.specs.declared.Numbers.{Numbers}
-use Rattle.store.specs.declared.Reply.TheVariants.{NothingThere, NoRoom, NumbersSpent}
+use Rattle.store.specs.declared.Error.TheVariants.{NothingThere, NoRoom, NumbersSpent}
 
 -- the number of places of a file from an offset on
 abbrev pub rest_of : ℕ → ℕ → ℕ

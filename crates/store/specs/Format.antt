@@ -11,7 +11,7 @@ use Rattle.store.specs.Reply.{Test, ◌else◌, verdict}
 use Rattle.store.specs.Record.{Record, map_size}
 use Rattle.store.specs.Outcome.{Outcome, Left, decided}
 use Rattle.store.specs.declared.Numbers.{Numbers}
-use Rattle.store.specs.declared.Reply.TheVariants.{ImageSize, BufferLength, NoiseLength}
+use Rattle.store.specs.declared.Error.TheVariants.{ImageSize, BufferLength, NoiseLength}
 
 abbrev pub buffers_right : List ℕ → List ℕ → Bool
 buffers_right map letters = eqb (length map) map_size && eqb (length letters) positions
@@ -20,9 +20,13 @@ buffers_right map letters = eqb (length map) map_size && eqb (length letters) po
 abbrev pub lent_tests : List ℕ → List ℕ → List ℕ → List Test
 lent_tests img map letters = (size_right img else ImageSize) ∷ (buffers_right map letters else BufferLength) ∷ []
 
+-- refusal 3
+abbrev pub noise_tests : List ℕ → List Test
+noise_tests noise = (eqb (length noise) noise_size else NoiseLength) ∷ []
+
 -- and 3 of those that bring keys; it is all that format tests
 abbrev pub format_tests : List ℕ → List ℕ → List ℕ → List ℕ → List Test
-format_tests img map letters noise = lent_tests img map letters ++ ((eqb (length noise) noise_size else NoiseLength) ∷ [])
+format_tests img map letters noise = lent_tests img map letters ++ noise_tests noise
 
 -- what a refused format or mount returns: all 0
 abbrev pub no_numbers : Numbers

@@ -1,5 +1,5 @@
 -- Document 02, #102: Gather. The live pages of one data block are copied out of it, each to the page that a write's search finds on the image as it then is.
-use Rattle.std.specs.Prelude.{ℕ, ◌+◌, ◌*◌, Bool, true, ◌&&◌, List, [], ◌∷◌, ◌++◌, eqb, leb, length, set}
+use Rattle.std.specs.Prelude.{ℕ, ◌+◌, ◌*◌, Bool, true, ◌&&◌, List, [], ◌∷◌, ◌++◌, eqb, leb, length, set, Option, Some}
 use Rattle.base.specs.Search.{first_from, any_from, which_from}
 use Rattle.page.specs.Plan.{places}
 use Rattle.page.specs.Header.{node_frame, last_number, with_number}
@@ -18,9 +18,7 @@ use Rattle.store.specs.Find.{new_page_but, is_found, found_at}
 use Rattle.store.specs.Format.{lent_tests}
 use Rattle.store.specs.Write.{fit_tests, next_sequence}
 use Rattle.store.specs.declared.Numbers.{Numbers}
-use Rattle.store.specs.declared.Found.{Found}
-use Rattle.store.specs.declared.Found.TheVariants.{At}
-use Rattle.store.specs.declared.Reply.TheVariants.{NoRoom, NumbersSpent, NothingToGather}
+use Rattle.store.specs.declared.Error.TheVariants.{NoRoom, NumbersSpent, NothingToGather}
 
 -- ---- the live pages of a block
 -- place x has page g
@@ -51,8 +49,8 @@ unfoldable pub copy_of : List ℕ → ℕ → ℕ → List ℕ
 copy_of img g s = page_bytes (with_number s (header_in (form_at img g))) (payload_of (page_at img g))
 
 -- where it goes: the page that a write finds outside the block
-abbrev pub copy_to : ℕ → List ℕ → Numbers → Found
-copy_to block img r = new_page_but (At block) img r
+abbrev pub copy_to : ℕ → List ℕ → Numbers → Option ℕ
+copy_to block img r = new_page_but (Some block) img r
 
 unfoldable pub copy_step : ℕ → List ℕ → Record → ℕ → Step
 copy_step block img r g = program (found_at (copy_to block img r.numbers)) (copy_of img g r.numbers.sequence)

@@ -1,5 +1,5 @@
 -- Document 01, "Calls and their refusals": Mount. A decision for each place and each position, then the blocks to erase.
-use Rattle.std.specs.Prelude.{ℕ, ◌+◌, ◌/◌, ◌%◌, max, Bool, false, cond, not, ◌&&◌, ◌||◌, List, [], ◌∷◌, ◌++◌, map, length, get_or, replicate, eqb, leb, ltb}
+use Rattle.std.specs.Prelude.{ℕ, ◌+◌, ◌/◌, ◌%◌, max, Bool, false, cond, not, ◌&&◌, ◌||◌, List, [], ◌∷◌, ◌++◌, map, length, get_or, replicate, eqb, leb, ltb, Option, Some, None, Err}
 use Rattle.base.specs.Part.{part}
 use Rattle.base.specs.Search.{all_from, any_from, which_from, highest_from}
 use Rattle.base.specs.Fold.{fold_from, list_from}
@@ -17,31 +17,28 @@ use Rattle.page.specs.declared.Entry.TheVariants.{At as EntryAt, Vacant, Misspel
 use Rattle.image.specs.Size.{size_right, pages_in_block, blocks, pages}
 use Rattle.image.specs.Look.{page_at, form_at}
 use Rattle.image.specs.Step.{Step, erase}
-use Rattle.store.specs.Reply.{Test, ◌else◌, verdict, number_of}
+use Rattle.store.specs.Reply.{Reply, Test, ◌else◌, verdict, number_of}
 use Rattle.store.specs.Kind.{page_in, kind_of, keys_epoch, commit_epoch, covered_by, is_data, is_chosen}
 use Rattle.store.specs.Record.{Record, map_size, is_at, is_dead, place_fits, named_times, keys_apart}
 use Rattle.store.specs.Outcome.{Outcome, Left, decided}
 use Rattle.store.specs.Find.{is_found, found_at}
 use Rattle.store.specs.Format.{buffers_right, no_numbers}
 use Rattle.store.specs.declared.Numbers.{Numbers}
-use Rattle.store.specs.declared.Found.{Found}
-use Rattle.store.specs.declared.Found.TheVariants.{At, Nothing}
-use Rattle.store.specs.declared.Reply.{Reply}
-use Rattle.store.specs.declared.Reply.TheVariants.{ImageSize, BufferLength, NoKeyBlock, NoCommit, EntryUnfit}
+use Rattle.store.specs.declared.Error.TheVariants.{ImageSize, BufferLength, NoKeyBlock, NoCommit, EntryUnfit}
 
 -- ---- the chosen blocks: highest epoch, on a tie the lower block
-abbrev pub rank_of : (ℕ → ℕ) → Found → ℕ
-rank_of rank (At b) = rank b
-rank_of rank Nothing = 0
+abbrev pub rank_of : (ℕ → ℕ) → Option ℕ → ℕ
+rank_of rank (Some b) = rank b
+rank_of rank None = 0
 
 -- the number below n of highest rank, the lowest of those; none where all ranks are 0
-unfoldable pub foremost : (ℕ → ℕ) → ℕ → Found
-foremost rank n = fold_from (λ b best. cond (ltb (rank_of rank best) (rank b)) (At b) best) n 0 Nothing
+unfoldable pub foremost : (ℕ → ℕ) → ℕ → Option ℕ
+foremost rank n = fold_from (λ b best. cond (ltb (rank_of rank best) (rank b)) (Some b) best) n 0 None
 
-unfoldable pub chosen_commit : List ℕ → Found
+unfoldable pub chosen_commit : List ℕ → Option ℕ
 chosen_commit img = foremost (λ b. commit_epoch (kind_of img b)) (blocks img)
 
-unfoldable pub chosen_keys : List ℕ → ℕ → Found
+unfoldable pub chosen_keys : List ℕ → ℕ → Option ℕ
 chosen_keys img q = foremost (λ b. keys_epoch q (kind_of img b)) (blocks img)
 
 -- ---- what the commit in block c says: the covered sequence, a letter for each position, an entry for each place
@@ -185,7 +182,7 @@ size_tests img map letters scratch =
     ∷ (buffers_right map letters && eqb (length scratch) places else BufferLength)
     ∷ []
 
-abbrev pub block_tests : Found → Found → Found → List Test
+abbrev pub block_tests : Option ℕ → Option ℕ → Option ℕ → List Test
 block_tests commit keys0 keys1 =
     (is_found commit else NoCommit)
     ∷ (is_found keys0 && is_found keys1 else NoKeyBlock)
@@ -193,7 +190,7 @@ block_tests commit keys0 keys1 =
 
 -- where the lengths are right a refusal leaves nothing of a record: no page, no key, every letter d. Numbers are 0 after any refusal
 abbrev pub fills : Reply → Bool
-fills v = leb (number_of NoKeyBlock) (number_of v)
+fills v = leb (number_of (Err NoKeyBlock)) (number_of v)
 
 abbrev pub unmounted : Reply → List ℕ → List ℕ → Record
 unmounted v map letters =

@@ -1,13 +1,12 @@
 -- Document 01, "Contracts and cases": what a call leaves, and what its form with n and k leaves.
-use Rattle.std.specs.Prelude.{ℕ, ◌+◌, cond, List, [], length, ltb}
+use Rattle.std.specs.Prelude.{ℕ, ◌+◌, cond, List, [], length, ltb, Err}
 use Rattle.image.specs.Size.{most_blocks}
 use Rattle.image.specs.Step.{Step, play, play_all}
-use Rattle.store.specs.Reply.{is_done}
+use Rattle.store.specs.Reply.{Reply, is_done}
 use Rattle.store.specs.Record.{Record, record_of}
 use Rattle.store.specs.declared.Answer.{Answer}
 use Rattle.store.specs.declared.Numbers.{Numbers}
-use Rattle.store.specs.declared.Reply.{Reply}
-use Rattle.store.specs.declared.Reply.TheVariants.{PowerCut}
+use Rattle.store.specs.declared.Error.TheVariants.{PowerCut}
 
 -- a call's outcome: its reply, its flash steps in order, the record afterwards, and what else is lent (mount's scratch, read's output)
 pub record Outcome : Type 0 where
@@ -37,7 +36,7 @@ pub record Left : Type 0 where
 unfoldable pub left : ℕ → ℕ → Outcome → List ℕ → Left
 left n k o img =
     record {
-      reply = cond (ltb n (length o.steps)) PowerCut o.reply;
+      reply = cond (ltb n (length o.steps)) (Err PowerCut) o.reply;
       image = play n k o.steps img;
       after = o.after;
       lent = o.lent;

@@ -1,6 +1,7 @@
 -- Document 01, "The working record": what it is, and when it fits.
-use Rattle.std.specs.Prelude.{ℕ, ◌+◌, ◌/◌, Bool, true, false, cond, not, ◌&&◌, List, get_or, eqb, leb, ltb}
+use Rattle.std.specs.Prelude.{ℕ, ◌+◌, ◌/◌, Bool, true, false, cond, not, ◌&&◌, List, get_or, eqb, leb, ltb, Option, Some, None, Result, Ok, Err}
 use Rattle.std.specs.Bool.{beq}
+use Rattle.std.specs.Borrow.{Bor}
 use Rattle.base.specs.Search.{all_from, any_from, count_from}
 use Rattle.page.specs.Plan.{file_plan, places, place_of}
 use Rattle.page.specs.Header.{node_letter, within, last_number}
@@ -9,12 +10,12 @@ use Rattle.page.specs.Entry.{none, is_letter, used_letter}
 pub use Rattle.page.specs.Entry.{map_size}
 use Rattle.page.specs.declared.Form.{Form}
 use Rattle.page.specs.declared.Form.TheVariants.{Empty, Whole, Torn, Spoilt}
-use Rattle.page.specs.declared.Place.{Place}
-use Rattle.page.specs.declared.Place.TheVariants.{At, Outside}
 use Rattle.image.specs.Size.{pages_in_block}
 use Rattle.image.specs.Look.{form_at}
 use Rattle.store.specs.Kind.{kind_of, keys_epoch, commit_epoch, is_data}
 use Rattle.store.specs.declared.Numbers.{Numbers}
+use Rattle.store.specs.declared.Error.{Error}
+use Rattle.store.specs.declared.Lent.{Lent}
 
 -- a map, the pages of all places and then their keys; a letter for each position; and the record's numbers
 pub record Record : Type 0 where
@@ -24,6 +25,20 @@ pub record Record : Type 0 where
 
 abbrev pub record_of : List ℕ → List ℕ → Numbers → Record
 record_of map letters n = record { map = map; letters = letters; numbers = n }
+
+-- the record that a call is lent
+abbrev pub held : Lent → Record
+held r = record_of r.map.now r.letters.now r.numbers
+
+-- what tests hand on, with the lists in place of how they are lent
+abbrev pub lists_in : Result (Bor (List ℕ) × Bor (List ℕ)) Error → Result (List ℕ × List ℕ) Error
+lists_in (Ok l) = Ok (l.0.now, l.1.now)
+lists_in (Err error) = Err error
+
+-- and with the record
+abbrev pub held_in : Result Lent Error → Result Record Error
+held_in (Ok r) = Ok (held r)
+held_in (Err error) = Err error
 
 abbrev pub with_numbers : Record → Numbers → Record
 with_numbers r n = record { map = r.map; letters = r.letters; numbers = n }
@@ -54,9 +69,9 @@ is_dead img r b = is_data img r.numbers b && not (has_live r.map b)
 abbrev pub vacant_at : List ℕ → ℕ → Bool
 vacant_at map x = eqb (page_of map x) none && eqb (key_of map x) none
 
-abbrev pub is_at : ℕ → Place → Bool
-is_at x (At y) = eqb y x
-is_at x Outside = false
+abbrev pub is_at : ℕ → Option ℕ → Bool
+is_at x (Some y) = eqb y x
+is_at x None = false
 
 -- a whole N page of place x and key position p
 abbrev pub node_at : ℕ → ℕ → Form → Bool

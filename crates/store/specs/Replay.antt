@@ -4,38 +4,34 @@
 --   EachPlace, EachLetter   what a change makes of each place, of each letter
 --   part_read, LettersRead   what the payload of a commit's part says of its places, of its positions
 --   outranks     an event against what a place holds
---   range_right   a form whose header, if any, is in range
---   EmptyTable   a table that says which blocks are empty
 --   above_of      a page of a block whose whole or torn N or D header is above a sequence
 --   Passed       what some pages in a row make of it
 --   Replayed     what the whole pass leaves
-use Rattle.std.specs.Prelude.{ℕ, ◌*◌, ◌-◌, ◌<◌, ◌/◌, max, ◌≡◌, Bool, true, cond, ◌&&◌, List, length, get_or, eqb, leb, ltb}
+use Rattle.std.specs.Prelude.{ℕ, ◌*◌, ◌-◌, ◌<◌, ◌/◌, max, ◌≡◌, Bool, false, cond, ◌&&◌, ◌||◌, List, get_or, eqb, leb, ltb}
 use Rattle.base.specs.Part.{part}
 use Rattle.base.specs.Search.{any_from, highest_from}
 use Rattle.base.specs.Fold.{fold_from, list_from}
 use Rattle.page.specs.Frame.{payload_size}
 use Rattle.page.specs.Plan.{places}
-use Rattle.page.specs.Header.{in_range}
 use Rattle.page.specs.Key.{positions}
 use Rattle.page.specs.Entry.{free_letter, deleted_letter, entry_size, entry_of}
-use Rattle.page.specs.declared.Form.{Form}
-use Rattle.page.specs.declared.Form.TheVariants.{Empty, Whole, Torn, Spoilt}
 use Rattle.image.specs.Size.{pages_in_block, most_blocks, blocks, pages}
-use Rattle.image.specs.Look.{block_empty, form_at}
+use Rattle.image.specs.Look.{form_at}
 use Rattle.store.specs.Record.{page_of, key_of}
 use Rattle.store.specs.Mount.{Decision, by_entry, decide_by, spends, sequence_of, unused_letter, mount_map, mount_scratch, covered_in, has_above}
+use Rattle.store.specs.declared.replay.Seen.{Seen}
 
 -- map, letters and scratch, for each block whether an event above the covered sequence was seen there, and the highest sequence so far
 pub record Pass : Type 0 where
   pub map : List ℕ
   pub letters : List ℕ
   pub scratch : List ℕ
-  pub events : List ℕ
+  pub events : List Bool
   pub highest : ℕ
 
-abbrev pub pass : List ℕ → List ℕ → List ℕ → List ℕ → ℕ → Pass
-pass map letters scratch events highest =
-    record { map = map; letters = letters; scratch = scratch; events = events; highest = highest }
+abbrev pub pass : List ℕ → List ℕ → List ℕ → Seen → Pass
+pass map letters scratch seen =
+    record { map = map; letters = letters; scratch = scratch; events = seen.events; highest = seen.highest }
 
 -- what map and scratch hold of place x
 abbrev pub held_at : List ℕ → List ℕ → ℕ → Decision
@@ -63,18 +59,6 @@ LettersRead payload letters =
 abbrev pub outranks : Decision → Decision → Decision
 outranks event held = cond (leb held.sequence event.sequence) event held
 
--- the header of a form, if it has one, is in range
-abbrev pub range_right : Form → Bool
-range_right Empty = true
-range_right (Whole f) = in_range f
-range_right (Torn f) = in_range f
-range_right Spoilt = true
-
--- a table that says of each block of an image, by 1 or 0, whether it is empty
-pub record EmptyTable (img table : List ℕ) : Type 0 where
-  pub size : length table ≡ most_blocks
-  pub told : (b : ℕ) → b < blocks img → get_or table b 0 ≡ cond (block_empty img b) 1 0
-
 -- page g is a whole or torn N or D page of block b, above sequence s
 abbrev pub above_of : List ℕ → ℕ → ℕ → ℕ → Bool
 above_of img s b g = eqb (g / pages_in_block) b && ltb s (sequence_of (form_at img g))
@@ -83,7 +67,7 @@ above_of img s b g = eqb (g / pages_in_block) b && ltb s (sequence_of (form_at i
 pub record Passed (img : List ℕ) (s n g : ℕ) (t t' : Pass) : Type 0 where
   pub place : EachPlace (λ x. fold_from (λ i. decide_by s x i (form_at img i)) n g) t.map t.scratch t'.map t'.scratch
   pub letter : EachLetter (λ p l. cond (any_from (λ i. spends s p (form_at img i)) n g) deleted_letter l) t.letters t'.letters
-  pub event : (b : ℕ) → b < most_blocks → get_or t'.events b 0 ≡ cond (any_from (above_of img s b) n g) 1 (get_or t.events b 0)
+  pub event : (b : ℕ) → b < most_blocks → get_or t'.events b false ≡ any_from (above_of img s b) n g || get_or t.events b false
   pub highest : t'.highest ≡ max t.highest (highest_from (λ i. sequence_of (form_at img i)) n g)
 
 -- what the pass leaves, with the commit in block c: map and scratch, the letters but for the keys that live nodes name, the blocks with events above the
@@ -92,5 +76,5 @@ pub record Replayed (img : List ℕ) (c : ℕ) (t : Pass) : Type 0 where
   pub map : t.map ≡ mount_map img c
   pub scratch : t.scratch ≡ mount_scratch img c
   pub letters : t.letters ≡ list_from (unused_letter img c) positions 0
-  pub events : (b : ℕ) → b < blocks img → get_or t.events b 0 ≡ cond (has_above img (covered_in img c) b) 1 0
+  pub events : (b : ℕ) → b < blocks img → get_or t.events b false ≡ has_above img (covered_in img c) b
   pub highest : t.highest ≡ highest_from (λ g. sequence_of (form_at img g)) (pages img) 0

@@ -1,6 +1,6 @@
 -- Document 01, "Calls and their refusals": the stages of Commit and Wipe on a flash whose power may fail on the way.
 -- Each takes the block that it would take with power, so that the record does not depend on the cut; proofs/Follows ties them to the stages of specs/Commit.
-use Rattle.std.specs.Prelude.{ℕ, ◌-◌, ◌<◌, ◌≡◌, Bool, true, not, ◌&&◌, ◌||◌, List, [], ◌∷◌, ◌++◌, map, ltb, length, get_or}
+use Rattle.std.specs.Prelude.{ℕ, ◌-◌, ◌<◌, ◌≡◌, Bool, true, false, not, ◌&&◌, ◌||◌, List, [], ◌∷◌, ◌++◌, map, length, get_or}
 use Rattle.base.specs.Search.{first_from, any_from, which_from}
 use Rattle.page.specs.Plan.{places}
 use Rattle.image.specs.Size.{most_blocks, blocks, size_right}
@@ -65,9 +65,9 @@ abbrev pub is_unused : List ℕ → List ℕ → Numbers → ℕ → Bool
 is_unused img map r b = is_data img r b && not (has_live map b)
 
 -- a table filled for the places before x: a block with a live page is marked in it, or has one at a place from x on
-pub record LiveMarked (map marked : List ℕ) (x : ℕ) : Type 0 where
+pub record LiveMarked (map : List ℕ) (marked : List Bool) (x : ℕ) : Type 0 where
   pub size : length marked ≡ most_blocks
-  pub told : (b : ℕ) → b < most_blocks → has_live map b ≡ ltb 0 (get_or marked b 0) || any_from (live_in map b) (places - x) x
+  pub told : (b : ℕ) → b < most_blocks → has_live map b ≡ get_or marked b false || any_from (live_in map b) (places - x) x
 
 -- the erases of blocks in order
 abbrev pub erases : List ℕ → List Step

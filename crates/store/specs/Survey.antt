@@ -1,16 +1,15 @@
 -- Document 01, "Calls and their refusals", Mount: what one pass over the blocks finds, block by block.
-use Rattle.std.specs.Prelude.{ℕ, ◌+◌, ◌*◌, ◌-◌, ◌<◌, ◌≤◌, max, Bool, cond, List, ltb}
-use Rattle.base.specs.Search.{first_from, highest_from}
+use Rattle.std.specs.Prelude.{ℕ, ◌+◌, ◌*◌, ◌<◌, ◌≤◌, max, Bool, cond, List, ltb, Option, Some, None}
+use Rattle.base.specs.Search.{highest_from}
 use Rattle.page.specs.Header.{last_number}
-use Rattle.image.specs.Size.{pages_in_block, most_blocks, blocks}
+use Rattle.image.specs.Size.{pages_in_block, most_blocks}
 use Rattle.image.specs.Look.{letter_at}
 use Rattle.store.specs.Kind.{is_block_letter, kind_of, keys_epoch, commit_epoch, covered_by}
 use Rattle.store.specs.Find.{found_at}
 use Rattle.store.specs.Mount.{rank_of, foremost, covered_in, epoch_of}
 use Rattle.store.specs.declared.Kind.{Kind}
 use Rattle.store.specs.declared.Numbers.{Numbers}
-use Rattle.store.specs.declared.Found.{Found}
-use Rattle.store.specs.declared.Found.TheVariants.{At, Nothing}
+use Rattle.store.specs.declared.mount.Chosen.{Chosen}
 use Rattle.store.specs.declared.survey.Best.{Best}
 use Rattle.store.specs.declared.survey.Survey.{Survey}
 
@@ -20,9 +19,9 @@ abbrev pub best_of : (ℕ → ℕ) → ℕ → Best
 best_of rank n = record { at = foremost rank n; epoch = rank_of rank (foremost rank n) }
 
 -- the covered sequence of the commit in the block found
-abbrev pub covered_at : List ℕ → Found → ℕ
-covered_at img (At b) = covered_in img b
-covered_at img Nothing = 0
+abbrev pub covered_at : List ℕ → Option ℕ → ℕ
+covered_at img (Some b) = covered_in img b
+covered_at img None = 0
 
 unfoldable pub survey_of : List ℕ → ℕ → Survey
 survey_of img n =
@@ -36,10 +35,10 @@ survey_of img n =
 
 -- ---- the same as a loop has it: the first state, and one more block
 abbrev pub no_best : Best
-no_best = record { at = Nothing; epoch = 0 }
+no_best = record { at = None; epoch = 0 }
 
 abbrev pub better_by : Best → ℕ → ℕ → Best
-better_by best b e = cond (ltb best.epoch e) (record { at = At b; epoch = e }) best
+better_by best b e = cond (ltb best.epoch e) (record { at = Some b; epoch = e }) best
 
 abbrev pub covered_next : Best → ℕ → Kind → ℕ
 covered_next best covered k = cond (ltb best.epoch (commit_epoch k)) (covered_by k) covered
@@ -65,9 +64,9 @@ survey_next s b k =
 abbrev pub is_lettered : List ℕ → ℕ → Bool
 is_lettered img b = is_block_letter (letter_at img (b * pages_in_block))
 
--- the first of them from a block on, or the number of blocks where there is none
-unfoldable pub next_lettered : List ℕ → ℕ → ℕ
-next_lettered img from = first_from (is_lettered img) (blocks img - from) from
+-- ---- the blocks found
+abbrev pub blocks_found : Survey → Chosen
+blocks_found s = record { commit = found_at s.commit.at; keys0 = found_at s.keys0.at; keys1 = found_at s.keys1.at }
 
 -- ---- the record's numbers: one above the highest sequence and epoch, and the chosen blocks
 unfoldable pub survey_numbers : Survey → ℕ → Numbers

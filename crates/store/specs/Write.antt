@@ -1,5 +1,5 @@
 -- Document 01, "Calls and their refusals": Write.
-use Rattle.std.specs.Prelude.{ℕ, ◌+◌, Bool, cond, List, [], ◌∷◌, ◌++◌, length, set, eqb, leb, ltb}
+use Rattle.std.specs.Prelude.{ℕ, ◌+◌, Bool, cond, List, [], ◌∷◌, ◌++◌, length, set, eqb, leb, ltb, Result}
 use Rattle.page.specs.Frame.{payload_size}
 use Rattle.page.specs.Plan.{file_plan, last_file, places, count_of, start_of}
 use Rattle.page.specs.Header.{within, last_number}
@@ -9,16 +9,14 @@ use Rattle.page.specs.Page.{padded, node_page}
 use Rattle.image.specs.Look.{block_at}
 use Rattle.image.specs.Step.{Step, program}
 use Rattle.image.specs.Block.{key_in_block}
-use Rattle.store.specs.Reply.{Test, ◌else◌, verdict, is_done}
+use Rattle.store.specs.Reply.{Reply, handed, Test, ◌else◌, verdict}
 use Rattle.store.specs.Record.{Record, record_of, key_of, live, fits}
 use Rattle.store.specs.Outcome.{Outcome, Left, decided}
 use Rattle.store.specs.Find.{lowest_free, new_page, is_found, found_at}
 use Rattle.store.specs.Format.{lent_tests}
 use Rattle.store.specs.declared.Numbers.{Numbers}
-use Rattle.store.specs.declared.Reply.{Reply}
-use Rattle.store.specs.declared.write.Taking.{Taking}
-use Rattle.store.specs.declared.write.Taking.TheVariants.{Take, Refuse}
-use Rattle.store.specs.declared.Reply.TheVariants.{NoSuchFile, OffsetOutside, PayloadLength, RecordUnfit, NoFreeKey, NoRoom, NumbersSpent}
+use Rattle.store.specs.declared.Error.{Error}
+use Rattle.store.specs.declared.Error.TheVariants.{NoSuchFile, OffsetOutside, PayloadLength, RecordUnfit, NoFreeKey, NoRoom, NumbersSpent}
 
 -- refusals 4 and 5: file above 13; offset not below the count
 abbrev pub file_right : ℕ → Bool
@@ -61,8 +59,8 @@ abbrev pub write_tests : List ℕ → Record → ℕ → ℕ → List ℕ → Li
 write_tests img r file offset payload = append_tests img r file offset (payload_right payload)
 
 -- what the tests of a write hand on: the key position and the page that it takes, or the refusal
-abbrev pub taking_of : Reply → ℕ → ℕ → Taking
-taking_of v p g = cond (is_done v) (Take p g) (Refuse v)
+abbrev pub taking_of : Reply → ℕ → ℕ → Result (ℕ × ℕ) Error
+taking_of v p g = handed v (p, g)
 
 -- the place of a file and an offset below its count
 abbrev pub place_at : ℕ → ℕ → ℕ

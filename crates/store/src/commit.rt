@@ -1,41 +1,39 @@
 // Commit: both key blocks and the commit block are renewed, and data blocks without a live page erased.
 ghost use Rattle.std.specs.Prelude.{◌≡◌, []};
 ghost use Rattle.image.specs.Look.{lowest_empty};
-ghost use Rattle.store.specs.Reply.{verdict};
+ghost use Rattle.store.specs.Reply.{handed, verdict};
 ghost use Rattle.store.specs.Record.{record_of};
 ghost use Rattle.store.specs.Outcome.{left, left_whole, standing};
 ghost use Rattle.store.specs.Commit.{commit_tests, commit_leaves};
 ghost use Rattle.store.specs.Taken.{CommitTaken};
 
-use crate::{Answer, ENOUGH, Numbers, Reply, record, replies, stages, tests};
-use image::look;
+use crate::{Answer, ENOUGH, Error, Numbers, record, replies, stages, tests};
+use page::keys::{Letters, Noise};
+use page::plan::Map;
 
-// The tests of a commit, in order. Spare is the lowest empty block.
-fn refuse_commit(
+// The tests of a commit, in order. Where all are passed they have found the lowest empty block.
+fn test_commit(
     image: &[u8],
     map: &[u16],
     letters: &[u8],
     numbers: Numbers,
     noise: &[u8],
-    spare: usize,
-) -> Reply
-    requires { spare ≡ lowest_empty image.now }
-    ensures { result ≡ verdict (commit_tests image.now (record_of map.now letters.now numbers) noise.now) }
+) -> Result<usize, Error>
+    ensures { result ≡ handed (verdict (commit_tests image.now (record_of map.now letters.now numbers) noise.now))
+        (lowest_empty image.now) }
 {
-    let reply = tests::refuse_noise(image, map, letters, noise);
-    if !replies::is_done(reply) {
-        return reply;
-    }
-    tests::refuse_renewal(image, map, letters, numbers, 0, spare)
+    let lent = tests::lent(image, map, letters, numbers)?;
+    tests::refuse_noise(noise)?;
+    tests::test_renewal(image, lent, 0)
 }
 
 // Commits, once the tests are passed. Spare is the lowest empty block.
 fn commit_taken(
     image: &mut [u8],
-    map: &[u16],
-    letters: &mut [u8],
+    map: &Map,
+    letters: &mut Letters,
     numbers: Numbers,
-    noise: &[u8],
+    noise: &Noise,
     spare: usize,
     n: u64,
     k: usize,
@@ -63,12 +61,15 @@ pub fn commit_cut(
     ensures { standing result image.new map.now letters.new []
         ≡ commit_leaves (left n k) image.old map.now letters.old numbers noise.now }
 {
-    let spare = look::lowest_empty(image);
-    let reply = refuse_commit(image, map, letters, numbers, noise, spare);
-    if !replies::is_done(reply) {
-        return replies::refused(reply, numbers);
+    match test_commit(image, map, letters, numbers, noise) {
+        Ok(spare) => {
+            let map = map.as_array().unwrap();
+            let letters = letters.as_mut_array().unwrap();
+            let noise = noise.as_array().unwrap();
+            commit_taken(image, map, letters, numbers, noise, spare, n, k)
+        }
+        Err(error) => replies::refused(error, numbers),
     }
-    commit_taken(image, map, letters, numbers, noise, spare, n, k)
 }
 
 // Commits the record: keys that are not used are replaced by noise.

@@ -1,5 +1,5 @@
 // Whether a working record fits the image. Each page that the map names is looked at once.
-ghost use Rattle.std.specs.Prelude.{◌≡◌, true, ◌&&◌, ℕ, ◌≤◌, ◌<◌, ◌+◌, ◌%◌, min, length, get_or, set, replicate, eqb, leb, ltb};
+ghost use Rattle.std.specs.Prelude.{◌≡◌, true, not, ◌&&◌, ℕ, ◌≤◌, ◌<◌, ◌+◌, ◌%◌, length, get_or, set, replicate, eqb, leb, ltb};
 ghost use Rattle.std.specs.Bool.{beq};
 ghost use Rattle.base.specs.Search.{all_from};
 ghost use Rattle.page.specs.Column.{spell};
@@ -11,20 +11,20 @@ ghost use Rattle.page.specs.Entry.{none, is_letter, used_letter};
 ghost use Rattle.image.specs.Size.{block_size, size_right};
 ghost use Rattle.image.specs.Look.{form_at};
 ghost use Rattle.store.specs.Kind.{kind_of, keys_epoch, commit_epoch};
-ghost use Rattle.store.specs.Record.{record_of, map_size, vacant_at, node_at, place_fits, named_times, numbers_fit, blocks_fit, fits as record_fits};
+ghost use Rattle.store.specs.Record.{held, map_size, vacant_at, node_at, place_fits, named_times, numbers_fit, blocks_fit, fits as record_fits};
 ghost use Rattle.store.specs.Testing.{run_length, InFile, places_fit, Tested, Testing};
 
-use crate::{Numbers, kinds};
+use crate::{Kind, Lent, Numbers, kinds};
 use image::look;
-use page::keys::POSITIONS;
-use page::plan::PLACES;
+use page::keys::{Letters, POSITIONS};
+use page::plan::{Map, PLACES};
 use page::{columns, entries, forms, headers, keys, plan};
 
 // One above the last sequence and the last epoch.
 const LAST_NEXT: u32 = 100_000_000;
 
 // Vacant places are passed in runs of so many.
-const RUN_LENGTH: usize = 8;
+pub const RUN_LENGTH: usize = 8;
 
 // Whether n is a next sequence or a next epoch.
 fn is_next(n: u32) -> bool
@@ -41,11 +41,13 @@ fn numbers_fit(numbers: Numbers) -> bool
 }
 
 // Whether block b is a whole key block q.
+// Stays (5): that the image is whole blocks is one equation, known of it from a call's first test on, over all its writes. A
+// value that holds it could not last over a write.
 fn is_keys(image: &[u8], b: u32, q: u32) -> bool
     requires { length image.now % block_size ≡ 0 }
     ensures { result ≡ ltb 0 (keys_epoch q (kind_of image.now b)) }
 {
-    0 < kinds::keys_epoch(kinds::kind_of(image, b as usize), q)
+    matches!(kinds::kind_of(image, b as usize), Kind::Keys(unit, _) if unit == q)
 }
 
 // Whether block b is a whole commit block.
@@ -53,7 +55,7 @@ fn is_commit(image: &[u8], b: u32) -> bool
     requires { length image.now % block_size ≡ 0 }
     ensures { result ≡ ltb 0 (commit_epoch (kind_of image.now b)) }
 {
-    0 < kinds::commit_epoch(kinds::kind_of(image, b as usize))
+    matches!(kinds::kind_of(image, b as usize), Kind::Commit(_, _))
 }
 
 // Whether the record's blocks are whole and of their kind.
@@ -114,8 +116,8 @@ fn node_fits(
 }
 
 // Whether place x fits: none, or a whole N page of its file, offset and key.
-pub fn place_fits(image: &[u8], map: &[u16], x: usize) -> bool
-    requires { (length image.now % block_size ≡ 0) × (length map.now ≡ map_size) × (x < places) }
+pub fn place_fits(image: &[u8], map: &Map, x: usize) -> bool
+    requires { (length image.now % block_size ≡ 0) × (x < places) }
     ensures { result ≡ place_fits image.now map.now x }
 {
     let page = map[x];
@@ -137,8 +139,8 @@ pub fn place_fits(image: &[u8], map: &[u16], x: usize) -> bool
 }
 
 // Whether the run of places from x on is vacant.
-fn run_vacant(map: &[u16], x: usize) -> bool
-    requires { (length map.now ≡ map_size) × (x + run_length ≤ places) }
+pub fn is_vacant_run(map: &Map, x: usize) -> bool
+    requires { x + run_length ≤ places }
     ensures { result ≡ all_from (vacant_at map.now) run_length x }
 {
     entries::all_none(map, x)
@@ -147,56 +149,39 @@ fn run_vacant(map: &[u16], x: usize) -> bool
         & entries::all_none(map, PLACES + x + 4)
 }
 
-// Where the run from x on ends, at end at the latest.
-pub fn run_end(x: usize, end: usize) -> usize
-    requires { (x ≤ end) × (end ≤ places) }
-    ensures { result ≡ min (x + run_length) end }
-{
-    if end < x + RUN_LENGTH {
-        return end;
-    }
-    x + RUN_LENGTH
-}
-
-// Whether the places from x to end are a whole run, and vacant.
-pub fn is_vacant_run(map: &[u16], x: usize, end: usize) -> bool
-    requires { (length map.now ≡ map_size) × (x ≤ end) × (end ≤ places) }
-    ensures { result ≡ eqb end (x + run_length) && all_from (vacant_at map.now) run_length x }
-{
-    if end != x + RUN_LENGTH {
-        return false;
-    }
-    run_vacant(map, x)
-}
-
-// Marks the position of a key as named; false where it was named before. A key that is none has no position.
-fn name(named: &mut [u8], key: u16) -> bool
-    requires { length named.old ≡ positions }
-    ensures { (result ≡ eqb (get_or named.old key 0) 0) × (result ≡ true → named.new ≡ set named.old key 1) }
+// Marks the position of a key in a table; false where it has this mark. A key that is none has no position.
+pub fn mark_key(table: &mut [u8; POSITIONS], key: u16, mark: u8) -> bool
+    requires { 0 < mark }
+    ensures { (result ≡ not (eqb (get_or table.old key 0) mark))
+        × (result ≡ true → table.new ≡ set table.old key mark) }
 {
     let p = key as usize;
     if POSITIONS <= p {
         return true;
     }
-    if named[p] != 0 {
+    if table[p] == mark {
         return false;
     }
-    named[p] = 1;
+    table[p] = mark;
     true
 }
+
+// The mark of a position that is named.
+// Stays (1): `mark_key` marks letters by the same steps, and the definitions count in numbers how often a key is named.
+const NAMED: u8 = 1;
 
 // Whether place x of a file fits and its key was not named before; the key is named.
 fn pass_place(
     image: &[u8],
-    map: &[u16],
-    named: &mut [u8],
+    map: &Map,
+    named: &mut [u8; POSITIONS],
     file: u32,
     text: u32,
     first: usize,
     x: usize,
     known: u64,
 ) -> bool
-    requires { (length image.now % block_size ≡ 0) × (length map.now ≡ map_size)
+    requires { (length image.now % block_size ≡ 0)
         × InFile file first x (x + 1) × Tested image.now map.now named.old x
         × (word_bytes 4 text ≡ spell 4 file) × (second_right (word_bytes 8 known) ≡ true) }
     ensures { Testing image.now map.now named.new (x + 1) result }
@@ -209,87 +194,79 @@ fn pass_place(
     if !node_fits(image, file, text, (x - first) as u32, page, key, known) {
         return false;
     }
-    name(named, key)
+    mark_key(named, key, NAMED)
 }
 
-// Whether the places of a file from a place to end fit and name no key again; their keys are named.
+// Whether the places of a run of a file fit and name no key again; their keys are named.
 fn run_fits(
     image: &[u8],
-    map: &[u16],
-    named: &mut [u8],
+    map: &Map,
+    named: &mut [u8; POSITIONS],
     file: u32,
     first: usize,
     from: usize,
-    end: usize,
 ) -> bool
-    requires { (length image.now % block_size ≡ 0) × (length map.now ≡ map_size)
-        × InFile file first from end × Tested image.now map.now named.old from }
-    ensures { Testing image.now map.now named.new end result }
+    requires { (length image.now % block_size ≡ 0)
+        × InFile file first from (from + run_length) × Tested image.now map.now named.old from }
+    ensures { Testing image.now map.now named.new (from + run_length) result }
 {
     let text = columns::spelt4(file);
     let known = second_columns(image, map[from]);
-    let mut x: usize = from;
-    while x < end {
+    for x in from..from + RUN_LENGTH {
         if !pass_place(image, map, named, file, text, first, x, known) {
             return false;
         }
-        x += 1;
     }
     true
 }
 
-// The same, at once where the places are a whole run and vacant.
+// The same, at once where the run is vacant.
 fn pass_run(
     image: &[u8],
-    map: &[u16],
-    named: &mut [u8],
+    map: &Map,
+    named: &mut [u8; POSITIONS],
     file: u32,
     first: usize,
     from: usize,
-    end: usize,
 ) -> bool
-    requires { (length image.now % block_size ≡ 0) × (length map.now ≡ map_size)
-        × InFile file first from end × Tested image.now map.now named.old from }
-    ensures { Testing image.now map.now named.new end result }
+    requires { (length image.now % block_size ≡ 0)
+        × InFile file first from (from + run_length) × Tested image.now map.now named.old from }
+    ensures { Testing image.now map.now named.new (from + run_length) result }
 {
-    if is_vacant_run(map, from, end) {
+    if is_vacant_run(map, from) {
         return true;
     }
-    run_fits(image, map, named, file, first, from, end)
+    run_fits(image, map, named, file, first, from)
 }
 
-// Whether the places of a file fit and name no key again; their keys are named.
-fn file_fits(image: &[u8], map: &[u16], named: &mut [u8], file: u32) -> bool
-    requires { (length image.now % block_size ≡ 0) × (length map.now ≡ map_size)
+// Whether the places of a file, which are whole runs, fit and name no key again; their keys are named.
+// Stays (2): the passes over the runs of all places, here and of a mount and a commit, are four loops of one shape, and a
+// closure for the run would write what it captures, of which a proof learns nothing after a call.
+fn file_fits(image: &[u8], map: &Map, named: &mut [u8; POSITIONS], file: u32) -> bool
+    requires { (length image.now % block_size ≡ 0)
         × (file ≤ last_file) × Tested image.now map.now named.old (start_of file_plan file) }
     ensures { Testing image.now map.now named.new (start_of file_plan file + count_of file_plan file) result }
 {
     let first = plan::start(file) as usize;
     let end = first + plan::count(file) as usize;
-    let mut x: usize = first;
-    while x < end {
-        let next = run_end(x, end);
-        if !pass_run(image, map, named, file, first, x, next) {
+    for x in (first..end).step_by(RUN_LENGTH) {
+        if !pass_run(image, map, named, file, first, x) {
             return false;
         }
-        x = next;
     }
     true
 }
 
 // Whether every place fits and no key is named twice; where so, named says how often each position is, 0 or 1.
-fn places_fit(image: &[u8], map: &[u16], named: &mut [u8]) -> bool
-    requires { (length image.now % block_size
-        ≡ 0) × (length map.now ≡ map_size) × (named.old ≡ replicate positions 0) }
+fn places_fit(image: &[u8], map: &Map, named: &mut [u8; POSITIONS]) -> bool
+    requires { (length image.now % block_size ≡ 0) × (named.old ≡ replicate positions 0) }
     ensures { (result ≡ places_fit image.now map.now)
         × (result ≡ true → (p : ℕ) → p < positions → named_times map.now p ≡ get_or named.new p 0) }
 {
-    let mut file: u32 = 0;
-    while file <= plan::LAST_FILE {
+    for file in 0..=plan::LAST_FILE {
         if !file_fits(image, map, named, file) {
             return false;
         }
-        file += 1;
     }
     true
 }
@@ -301,26 +278,28 @@ fn letter_fits(l: u8, named: u8) -> bool
     entries::is_letter(l) & ((l == entries::USED) == (1 <= named))
 }
 
-// Whether every letter is one, and u stands at exactly the positions that are named.
-fn letters_fit(letters: &[u8], named: &[u8]) -> bool
-    requires { (length letters.now ≡ positions) × (length named.now ≡ positions) }
+// Whether every letter is one, and u stands at exactly the positions that are named. The fold goes on to the end, so that
+// it goes over many letters at once.
+fn letters_fit(letters: &Letters, named: &[u8; POSITIONS]) -> bool
     ensures { result ≡ all_from (λ p. is_letter (get_or letters.now p 0) && beq
         (eqb (get_or letters.now p 0) used_letter) (leb 1 (get_or named.now p 0))) positions 0 }
 {
-    let mut all = true;
-    let mut p: usize = 0;
-    while p < POSITIONS {
-        all = all & letter_fits(letters[p], named[p]);
-        p += 1;
-    }
-    all
+    letters.iter().zip(named).fold(
+        true,
+        |all, (letter, times)| all & letter_fits(*letter, *times),
+    )
 }
 
 // Whether the record fits.
-pub fn fits(image: &[u8], map: &[u16], letters: &[u8], numbers: Numbers) -> bool
-    requires { (size_right image.now ≡ true) × (length map.now ≡ map_size) × (length letters.now ≡ positions) }
-    ensures { result ≡ record_fits image.now (record_of map.now letters.now numbers) }
+pub fn fits(image: &[u8], lent: Lent) -> bool
+    requires { size_right image.now ≡ true }
+    ensures { result ≡ record_fits image.now (held lent.entry) }
 {
+    let Lent {
+        map,
+        letters,
+        numbers,
+    } = lent;
     if !numbers_fit(numbers) {
         return false;
     }

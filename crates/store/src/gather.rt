@@ -1,6 +1,5 @@
 // Gather: the live pages of one data block are copied out of it. Where each copy goes is found before the first is made.
-ghost use Rattle.std.specs.Prelude.{◌≡◌, true, cond, ◌&&◌, [], ℕ, ◌≤◌, ◌<◌, ◌+◌, ◌*◌, ◌/◌, ◌%◌, eqb, ltb, length, get_or, set, replicate};
-ghost use Rattle.base.specs.Search.{count_from};
+ghost use Rattle.std.specs.Prelude.{◌≡◌, ◌≢◌, true, cond, ◌&&◌, [], ℕ, ◌≤◌, ◌<◌, ◌+◌, ◌*◌, ◌/◌, ◌%◌, eqb, ltb, length, set, count_by, is_some, Some, MatchOption, ⊤};
 ghost use Rattle.page.specs.Frame.{page_size};
 ghost use Rattle.page.specs.declared.Frame.{Frame as HeaderFrame};
 ghost use Rattle.page.specs.Plan.{places};
@@ -11,158 +10,117 @@ ghost use Rattle.image.specs.Size.{pages_in_block, pages, size_right};
 ghost use Rattle.image.specs.Look.{form_at};
 ghost use Rattle.image.specs.Step.{program};
 ghost use Rattle.image.specs.Power.{device, act};
-ghost use Rattle.store.specs.Reply.{verdict};
-ghost use Rattle.store.specs.Record.{map_size, record_of};
+ghost use Rattle.store.specs.Record.{record_of, held};
 ghost use Rattle.store.specs.Outcome.{left, left_whole, standing};
-ghost use Rattle.store.specs.Find.{new_page_but};
-ghost use Rattle.store.specs.Gather.{live_pages, copy_of, gather_tests, gather_leaves};
-ghost use Rattle.store.specs.Targets.{pages_from, targets, PlacesIn, Begins};
+ghost use Rattle.store.specs.Gather.{live_pages, copy_of, gather_leaves};
+ghost use Rattle.store.specs.Targets.{next_target, targets, PlacesIn, Moved, MovesIn, Tried};
 ghost use Rattle.store.specs.Taken.{Ready, GatherTaken};
-ghost use Rattle.store.specs.declared.Found.TheVariants.{At as FoundAt};
-ghost use Rattle.store.specs.declared.Reply.TheVariants.{Done as DoneReply};
 
 use crate::stages::Progress;
-use crate::{Answer, ENOUGH, Found, Numbers, Reply, find, replies, stages, tests};
+use crate::{Answer, ENOUGH, Error, Lent, Numbers, find, replies, stages, tests};
 use image::look::PAGES_IN_BLOCK;
 use image::{Power, look, steps};
 use page::headers::LAST_NUMBER;
-use page::plan::PLACES;
-use page::{Form, Frame, bytes, entries};
+use page::keys::Letters;
+use page::plan::{Map, PLACES};
+use page::{Form, entries};
+
+// For each page of a block the place that has it, if it is live.
+type Places = [Option<u8>; PAGES_IN_BLOCK];
+
+// For each page of a block its place and the page of its copy, if it is live.
+type Moves = [Option<(u8, u16)>; PAGES_IN_BLOCK];
 
 // Notes place x at its page, where that stands in the block.
-fn note_place(at: &mut [u8], page: u16, block: usize, x: usize)
-    requires { (length at.old ≡ pages_in_block) × (x < places) }
+fn note_place(at: &mut Places, page: u16, block: usize, x: usize)
+    requires { x < places }
     ensures { at.new
-        ≡ cond (ltb page none && eqb (page / pages_in_block) block) (set at.old (page % pages_in_block) x) at.old }
+        ≡ cond (ltb page none && eqb (page / pages_in_block) block) (set at.old (page % pages_in_block) (Some x)) at.old }
 {
     if page == entries::NONE {
         return;
     }
     if page as usize / PAGES_IN_BLOCK == block {
-        at[page as usize % PAGES_IN_BLOCK] = x as u8;
+        at[page as usize % PAGES_IN_BLOCK] = Some(x as u8);
     }
 }
 
-// Notes for each page of a block the lowest place that has it; the number of places stays where none has.
-fn note_places(map: &[u16], at: &mut [u8], block: usize)
-    requires { (length map.now ≡ map_size) × (at.old ≡ replicate pages_in_block places) }
-    ensures { PlacesIn map.now block at.new }
+// For each page of a block the lowest place that has it.
+fn note_places(map: &Map, block: usize) -> Places
+    ensures { PlacesIn map.now block result }
 {
-    let mut x = PLACES;
-    while 0 < x {
-        x -= 1;
-        note_place(at, map[x], block, x);
+    let mut at = [None; PAGES_IN_BLOCK];
+    for x in (0..PLACES).rev() {
+        note_place(&mut at, map[x], block, x);
     }
+    at
 }
 
 // How many pages of a block have a place.
-fn count_live(at: &[u8]) -> usize
-    requires { length at.now ≡ pages_in_block }
-    ensures { result ≡ count_from (λ i. ltb (get_or at.now i 0) places) pages_in_block 0 }
+fn count_live(at: &Places) -> usize
+    ensures { result ≡ count_by is_some at.now }
 {
-    let mut n: usize = 0;
-    let mut i: usize = 0;
-    while i < PAGES_IN_BLOCK {
-        if (at[i] as usize) < PLACES {
-            n += 1;
+    at.iter().filter(|place| place.is_some()).count()
+}
+
+// The page that the next copy out of a block takes: after the page that the last one took, if there was one.
+fn next_target(image: &[u8], numbers: Numbers, block: usize, last: Option<usize>) -> Option<usize>
+    requires { (size_right image.now ≡ true) × MatchOption last ⊤ (λ g. g < pages image.now) }
+    ensures { result ≡ next_target block image.now numbers last }
+{
+    match last {
+        Some(g) => find::page_after(image, numbers, Some(block), g),
+        None => find::new_page(image, numbers, Some(block)),
+    }
+}
+
+// The place of each live page and the page that its copy takes, where there is one for each.
+fn find_moves(image: &[u8], numbers: Numbers, block: usize, at: &Places) -> Option<Moves>
+    requires { size_right image.now ≡ true }
+    ensures { let n = count_by is_some at.now in
+        MatchOption result (length (targets block image.now numbers n) ≢ n)
+        (λ moves. Moved at.now (targets block image.now numbers n) moves × (length (targets block image.now numbers n) ≡ n)) }
+{
+    let mut moves = [None; PAGES_IN_BLOCK];
+    let mut last = None;
+    for (i, place) in at.iter().enumerate() {
+        if let Some(x) = *place {
+            let to = next_target(image, numbers, block, last)?;
+            moves[i] = Some((x, to as u16));
+            last = Some(to);
         }
-        i += 1;
     }
-    n
+    Some(moves)
 }
 
-// Finds n pages in turn for copies out of a block, the first of which is g; whether there are so many.
-fn find_after(
-    image: &[u8],
-    numbers: Numbers,
-    block: usize,
-    to: &mut [u16],
-    g: usize,
-    n: usize,
-) -> bool
-    requires image_value { (size_right image.now ≡ true) × (length to.old ≡ pages_in_block) }
-    requires le_n { (1 ≤ n) × (n ≤ pages_in_block) × (new_page_but (FoundAt block) image.now numbers ≡ FoundAt g) }
-    ensures { (result ≡ eqb (length (targets block image.now numbers n)) n)
-        × (result ≡ true → Begins to.new (targets block image.now numbers n)) }
+// The tests of a block to gather, in order, of a record that fits. Where all are passed they have found its moves.
+fn test_block(image: &[u8], lent: Lent, block: usize) -> Result<Moves, Error>
+    requires { Ready image.now (held lent) }
+    ensures { Tried image.now (held lent.entry) block result }
 {
-    to[0] = g as u16;
-    let mut last = g;
-    let mut j: usize = 1;
-    while j < n {
-        let Found::At(h) = find::page_after(image, numbers, Found::At(block), last) else {
-            return false;
-        };
-        to[j] = h as u16;
-        last = h;
-        j += 1;
-    }
-    true
-}
-
-// Finds the pages that n copies out of a block take; whether there are so many.
-fn find_targets(image: &[u8], numbers: Numbers, block: usize, to: &mut [u16], n: usize) -> bool
-    requires image_value { (size_right image.now ≡ true) × (length to.old ≡ pages_in_block) }
-    requires le_n { (1 ≤ n) × (n ≤ pages_in_block) }
-    ensures { (result ≡ eqb (length (targets block image.now numbers n)) n)
-        × (result ≡ true → Begins to.new (targets block image.now numbers n)) }
-{
-    match find::new_page(image, numbers, Found::At(block)) {
-        Found::At(g) => find_after(image, numbers, block, to, g, n),
-        Found::Nothing => false,
-    }
-}
-
-// The tests of a block to gather, in order, of a record that fits. Where all are passed, at has the places of the block's
-// pages and to the pages of the copies.
-fn refuse_block(
-    image: &[u8],
-    map: &[u16],
-    letters: &[u8],
-    numbers: Numbers,
-    block: usize,
-    at: &mut [u8],
-    to: &mut [u16],
-) -> Reply
-    requires ready { Ready image.now (record_of map.now letters.now numbers) }
-    requires at_value { (at.old ≡ replicate pages_in_block places) × (length to.old ≡ pages_in_block) }
-    ensures { (result ≡ verdict (gather_tests image.now (record_of map.now letters.now numbers) block))
-        × (result ≡ DoneReply → PlacesIn map.now block at.new
-        × Begins to.new (targets block image.now numbers (length (live_pages map.now block)))) }
-{
-    note_places(map, at, block);
-    let n = count_live(at);
+    let at = note_places(lent.map, block);
+    let n = count_live(&at);
     if n == 0 {
-        return Reply::NothingToGather;
+        return Err(Error::NothingToGather);
     }
-    if LAST_NUMBER + 1 < numbers.sequence + n as u32 {
-        return Reply::NumbersSpent;
+    if LAST_NUMBER + 1 < lent.numbers.sequence + n as u32 {
+        return Err(Error::NumbersSpent);
     }
-    if !find_targets(image, numbers, block, to, n) {
-        return Reply::NoRoom;
-    }
-    Reply::Done
+    find_moves(image, lent.numbers, block, &at).ok_or(Error::NoRoom)
 }
 
-// The tests of a gather, in order. Where all are passed, at and to are as above.
-fn refuse_gather(
+// The tests of a gather, in order. Where all are passed they have found its moves.
+fn test_gather(
     image: &[u8],
     map: &[u16],
     letters: &[u8],
     numbers: Numbers,
     block: usize,
-    at: &mut [u8],
-    to: &mut [u16],
-) -> Reply
-    requires { (at.old ≡ replicate pages_in_block places) × (length to.old ≡ pages_in_block) }
-    ensures { (result ≡ verdict (gather_tests image.now (record_of map.now letters.now numbers) block))
-        × (result ≡ DoneReply → PlacesIn map.now block at.new
-        × Begins to.new (targets block image.now numbers (length (live_pages map.now block)))) }
+) -> Result<Moves, Error>
+    ensures { Tried image.now (record_of map.now letters.now numbers) block result }
 {
-    let reply = tests::refuse_record(image, map, letters, numbers);
-    if !replies::is_done(reply) {
-        return reply;
-    }
-    refuse_block(image, map, letters, numbers, block, at, to)
+    let lent = tests::fitting(image, map, letters, numbers)?;
+    test_block(image, lent, block)
 }
 
 // Programs page to with the node of page from, under another sequence; its bytes stay as they are stored.
@@ -177,15 +135,14 @@ fn copy_page(image: &mut [u8], from: usize, to: usize, sequence: u32, p: Power) 
     };
     let mut header = f;
     header.number = sequence;
-    let mut payload = [0u8; Frame::PAYLOAD];
-    bytes::copy(&mut payload, look::payload_at(image, from));
+    let payload = *look::payload_at(image, from);
     steps::program_page(image, to, header, &payload, p)
 }
 
 // Moves the node of page from to page to and place x with it.
 fn move_page(
     image: &mut [u8],
-    map: &mut [u16],
+    map: &mut Map,
     from: usize,
     to: usize,
     x: usize,
@@ -193,7 +150,7 @@ fn move_page(
 ) -> Progress
     requires page_size_in_bounds { (from * page_size + page_size ≤ length image.old) × (to * page_size + page_size ≤ length image.old) }
     requires from_value { (f : HeaderFrame) × (form_at image.old from ≡ Form.Whole f) }
-    requires to_lt_none { (to < none) × (x < length map.old) × (p.numbers.sequence ≤ last_number) }
+    requires to_lt_none { (to < none) × (x < places) × (p.numbers.sequence ≤ last_number) }
     ensures { (device result.power image.new
         ≡ act (program to (copy_of image.old from p.numbers.sequence)) (device p.power image.old))
         × (map.new ≡ set map.old x to) × (result.numbers ≡ next_sequence p.numbers) }
@@ -210,31 +167,25 @@ fn move_page(
 // Gathers a block, once the tests are passed: its live pages, lowest first, each to the page that was found for it.
 fn gather_taken(
     image: &mut [u8],
-    map: &mut [u16],
-    letters: &[u8],
+    map: &mut Map,
+    letters: &Letters,
     numbers: Numbers,
     block: usize,
-    at: &[u8],
-    to: &[u16],
+    moves: Moves,
     n: u64,
     k: usize,
 ) -> Answer
     requires gather_taken { GatherTaken image.old (record_of map.old letters.now numbers) block }
-    requires places_in { PlacesIn map.old block at.now
-        × Begins to.now (targets block image.old numbers (length (live_pages map.old block))) }
+    requires moves_in { MovesIn map.old block (targets block image.old numbers (length (live_pages map.old block))) moves }
     ensures { standing result image.new map.new letters.now []
         ≡ gather_leaves (left n k) image.old map.old letters.now numbers block }
 {
     let mut p = stages::begin(numbers, n, k);
-    let mut i: usize = 0;
-    let mut j: usize = 0;
-    while i < PAGES_IN_BLOCK {
-        let x = at[i] as usize;
-        if x < PLACES {
-            p = move_page(image, map, block * PAGES_IN_BLOCK + i, to[j] as usize, x, p);
-            j += 1;
+    for (i, found) in moves.iter().enumerate() {
+        if let Some((x, to)) = *found {
+            let from = block * PAGES_IN_BLOCK + i;
+            p = move_page(image, map, from, to as usize, x as usize, p);
         }
-        i += 1;
     }
     stages::answer(p)
 }
@@ -252,14 +203,14 @@ pub fn gather_cut(
     ensures { standing result image.new map.new letters.now []
         ≡ gather_leaves (left n k) image.old map.old letters.now numbers block }
 {
-    let mut at = [PLACES as u8; PAGES_IN_BLOCK];
-    let mut to = [0u16; PAGES_IN_BLOCK];
-    let b = block as usize;
-    let reply = refuse_gather(image, map, letters, numbers, b, &mut at, &mut to);
-    if !replies::is_done(reply) {
-        return replies::refused(reply, numbers);
+    match test_gather(image, map, letters, numbers, block as usize) {
+        Ok(moves) => {
+            let map = map.as_mut_array().unwrap();
+            let letters = letters.as_array().unwrap();
+            gather_taken(image, map, letters, numbers, block as usize, moves, n, k)
+        }
+        Err(error) => replies::refused(error, numbers),
     }
-    gather_taken(image, map, letters, numbers, b, &at, &to, n, k)
 }
 
 // Copies the live pages of a data block out of it.

@@ -1,5 +1,5 @@
 // Block kinds: whole key blocks, whole commit blocks, data blocks.
-ghost use Rattle.std.specs.Prelude.{◌≡◌, true, cond, ◌≤◌, ◌<◌, ◌+◌, ◌*◌, ◌-◌, ◌%◌, length};
+ghost use Rattle.std.specs.Prelude.{◌≡◌, true, ◌≤◌, ◌<◌, ◌+◌, ◌*◌, ◌-◌, ◌%◌, length};
 ghost use Rattle.base.specs.Search.{all_from};
 ghost use Rattle.page.specs.Frame.{page_size};
 ghost use Rattle.page.specs.declared.Frame.{Frame as HeaderFrame};
@@ -9,7 +9,7 @@ ghost use Rattle.page.specs.Entry.{parts, valid_payload};
 ghost use Rattle.page.specs.Page.{payload_of};
 ghost use Rattle.image.specs.Size.{block_size, pages_in_block};
 ghost use Rattle.image.specs.Look.{page_at, page_empty, form_at};
-ghost use Rattle.store.specs.Kind.{page_in, same_frame, whole_with, key_block_whole, part_whole, is_block_letter, kind_by, kind_of, keys_epoch, commit_epoch, covered_by, headed, has_events, is_chosen, is_data};
+ghost use Rattle.store.specs.Kind.{page_in, whole_with, key_block_whole, part_whole, is_block_letter, kind_by, kind_of, headed, has_events, is_chosen, is_data};
 
 use crate::{Kind, Numbers};
 use image::look;
@@ -17,19 +17,15 @@ use image::look::PAGES_IN_BLOCK;
 use page::entries::PARTS;
 use page::{Form, Frame, entries, forms};
 
-// Whether two headers are the same, field by field.
-fn same_frame(f: Frame, h: Frame) -> bool
-    ensures { result ≡ same_frame f h }
-{
-    (f.kind == h.kind)
-        & (f.number == h.number)
-        & (f.unit == h.unit)
-        & (f.part == h.part)
-        & (f.key == h.key)
-        & (f.second == h.second)
-}
+// An image has at most 256 blocks.
+pub const MOST_BLOCKS: usize = 256;
+
+// A mark for each block that an image can have.
+pub type Marks = [bool; MOST_BLOCKS];
 
 // Whether page i of block b is whole, with the header of page 0, which is whole, but for the part i.
+// Stays (5): the definitions take the image and the number of a block, and laws compare its pages before and after a step.
+// The contract of a block by itself would say beside each clause which block of which image it is.
 fn page_like(image: &[u8], b: usize, i: usize) -> bool
     requires block_size_in_bounds { (b * block_size + block_size ≤ length image.now) × (i < pages_in_block) }
     requires b_value { (f : HeaderFrame)
@@ -50,15 +46,13 @@ fn key_block_whole(image: &[u8], b: usize, f: Frame) -> bool
 {
     let q = f.unit;
     let e = f.number;
-    if !same_frame(f, Frame::keys(e, q, 0)) {
+    if f != Frame::keys(e, q, 0) {
         return false;
     }
-    let mut page: usize = 1;
-    while page < PAGES_IN_BLOCK {
+    for page in 1..PAGES_IN_BLOCK {
         if !page_like(image, b, page) {
             return false;
         }
-        page += 1;
     }
     true
 }
@@ -84,33 +78,23 @@ fn part_whole(image: &[u8], b: usize, i: usize, e: u32, s: u32) -> bool
     payload_valid(image, b * PAGES_IN_BLOCK + i, i)
 }
 
-// The same of page 0, which is whole with header f.
-fn first_part_whole(image: &[u8], b: usize, f: Frame) -> bool
-    requires { (b * block_size + block_size ≤ length image.now) × (form_at image.now (page_in b 0) ≡ Form.Whole f) }
-    ensures { result ≡ part_whole image.now b f.number f.second 0 }
-{
-    if !same_frame(f, Frame::commit(f.number, 0, f.second)) {
-        return false;
-    }
-    payload_valid(image, b * PAGES_IN_BLOCK, 0)
-}
-
 // Whether block b, whose page 0 is whole with header f, has the whole parts of a commit.
 fn parts_whole(image: &[u8], b: usize, f: Frame) -> bool
     requires { (b * block_size + block_size ≤ length image.now) × (form_at image.now (page_in b 0) ≡ Form.Whole f) }
     ensures { result ≡ all_from (part_whole image.now b f.number f.second) parts 0 }
 {
-    if !first_part_whole(image, b, f) {
-        return false;
-    }
     let e = f.number;
     let s = f.second;
-    let mut part: usize = 1;
-    while part < PARTS {
+    if f != Frame::commit(e, 0, s) {
+        return false;
+    }
+    if !payload_valid(image, b * PAGES_IN_BLOCK, 0) {
+        return false;
+    }
+    for part in 1..PARTS {
         if !part_whole(image, b, part, e, s) {
             return false;
         }
-        part += 1;
     }
     true
 }
@@ -120,12 +104,10 @@ fn rest_empty(image: &[u8], b: usize) -> bool
     requires { b * block_size + block_size ≤ length image.now }
     ensures { result ≡ all_from (λ i. page_empty image.now (page_in b i)) (pages_in_block - parts) parts }
 {
-    let mut i: usize = PARTS;
-    while i < PAGES_IN_BLOCK {
+    for i in PARTS..PAGES_IN_BLOCK {
         if !look::page_empty(image, b * PAGES_IN_BLOCK + i) {
             return false;
         }
-        i += 1;
     }
     true
 }
@@ -180,54 +162,11 @@ pub fn kind_of(image: &[u8], b: usize) -> Kind
     }
 }
 
-// The epoch of a whole key block q, 0 where it is none.
-pub fn keys_epoch(kind: Kind, q: u32) -> u32
-    ensures { result ≡ keys_epoch q kind }
-{
-    match kind {
-        Kind::Keys(unit, epoch) => if unit == q { epoch } else { 0 },
-        Kind::Commit(_, _) => 0,
-        Kind::Other => 0,
-    }
-}
-
-// The epoch of a whole commit block, 0 where it is none.
-pub fn commit_epoch(kind: Kind) -> u32
-    ensures { result ≡ commit_epoch kind }
-{
-    match kind {
-        Kind::Keys(_, _) => 0,
-        Kind::Commit(epoch, _) => epoch,
-        Kind::Other => 0,
-    }
-}
-
-// The sequence that a whole commit block covers, 0 where it is none.
-pub fn covered_by(kind: Kind) -> u32
-    ensures { result ≡ covered_by kind }
-{
-    match kind {
-        Kind::Keys(_, _) => 0,
-        Kind::Commit(_, covered) => covered,
-        Kind::Other => 0,
-    }
-}
-
 // Whether a kind letter is N or D.
 pub fn is_event_letter(kind: u8) -> bool
     ensures { result ≡ is_event_letter kind }
 {
     (kind == Frame::NODE_LETTER) | (kind == Frame::CUT_OFF_LETTER)
-}
-
-// The sequence of an N or D header, 0 of any other.
-pub fn event_number(f: Frame) -> u32
-    ensures { result ≡ cond (is_event_letter f.kind) f.number 0 }
-{
-    if is_event_letter(f.kind) {
-        return f.number;
-    }
-    0
 }
 
 // Whether a page is a whole or torn N or D page.
@@ -265,12 +204,10 @@ pub fn has_event(image: &[u8], b: usize) -> bool
     requires { b * block_size + block_size ≤ length image.now }
     ensures { result ≡ has_events image.now b }
 {
-    let mut i: usize = 0;
-    while i < PAGES_IN_BLOCK {
+    for i in 0..PAGES_IN_BLOCK {
         if event_at(image, b * PAGES_IN_BLOCK + i) {
             return true;
         }
-        i += 1;
     }
     false
 }

@@ -1,120 +1,88 @@
 // Mount: the working record of an image; then every block that it needs no more, or that an erase may have left unsettled, is erased.
 ghost use Rattle.std.specs.Prelude.{◌≡◌};
 ghost use Rattle.image.specs.Size.{blocks};
-ghost use Rattle.store.specs.Reply.{verdict};
+ghost use Rattle.store.specs.Reply.{handed, verdict};
 ghost use Rattle.store.specs.Outcome.{left, left_whole, standing};
 ghost use Rattle.store.specs.Mount.{size_tests, block_tests, mount_leaves};
-ghost use Rattle.store.specs.Survey.{survey_of, survey_numbers, Surveyed};
+ghost use Rattle.store.specs.Survey.{survey_of, blocks_found, survey_numbers, Surveyed};
 ghost use Rattle.store.specs.Taken.{MountChosen};
 
-use crate::rebuild::Rebuilt;
+use crate::replay::Scratch;
 use crate::survey::Survey;
-use crate::{Answer, ENOUGH, Numbers, Reply, rebuild, replies, survey, sweep, tests};
-use image::{Power, look};
-use page::plan::PLACES;
+use crate::{Answer, ENOUGH, Error, Numbers, rebuild, replies, stages, survey, sweep, tests};
+use page::keys::Letters;
+use page::plan::{Map, PLACES};
 
-// An image has at most 256 blocks.
-const MOST_BLOCKS: usize = 256;
+// The blocks that a mount chooses: the commit block, and key blocks 0 and 1.
+#[derive(Clone, Copy)]
+struct Chosen {
+    commit: usize,
+    keys0: usize,
+    keys1: usize,
+}
 
-// The tests of the image's size and of the buffers' lengths, in order.
-fn refuse_sizes(image: &[u8], map: &[u16], letters: &[u8], scratch: &[u32]) -> Reply
+// The tests of the image's size and of the lists, in order.
+fn refuse_sizes(image: &[u8], map: &[u16], letters: &[u8], scratch: &[u32]) -> Result<(), Error>
     ensures { result ≡ verdict (size_tests image.now map.now letters.now scratch.now) }
 {
-    if !look::size_right(image) {
-        return Reply::ImageSize;
-    }
-    if !tests::buffers_right(map, letters) {
-        return Reply::BufferLength;
-    }
+    tests::lists(image, map, letters)?;
     if scratch.len() != PLACES {
-        return Reply::BufferLength;
+        return Err(Error::BufferLength);
     }
-    Reply::Done
+    Ok(())
 }
 
-// The tests of the blocks that a mount chooses, in order.
-fn refuse_blocks(s: Survey) -> Reply
-    ensures { result ≡ verdict (block_tests s.commit.at s.keys0.at s.keys1.at) }
+// The tests of the blocks that a mount chooses, in order. Where all are passed they hand on the blocks.
+fn test_blocks(s: Survey) -> Result<Chosen, Error>
+    ensures { result ≡ handed (verdict (block_tests s.commit.at s.keys0.at s.keys1.at)) (blocks_found s) }
 {
-    let commit = s.commit;
-    let keys0 = s.keys0;
-    let keys1 = s.keys1;
-    if !survey::is_found(commit) {
-        return Reply::NoCommit;
-    }
-    if !(survey::is_found(keys0) & survey::is_found(keys1)) {
-        return Reply::NoKeyBlock;
-    }
-    Reply::Done
+    let commit = s.commit.at.ok_or(Error::NoCommit)?;
+    let keys0 = s.keys0.at.ok_or(Error::NoKeyBlock)?;
+    let keys1 = s.keys1.at.ok_or(Error::NoKeyBlock)?;
+    Ok(Chosen {
+        commit,
+        keys0,
+        keys1,
+    })
 }
 
-// The numbers of the record, with the highest sequence of the pages.
-fn numbers_of(s: Survey, highest: u32) -> Numbers
-    requires { Surveyed s highest }
+// The numbers of the record, with the blocks that are chosen and the highest sequence of the pages.
+fn numbers_of(s: Survey, chosen: Chosen, highest: u32) -> Numbers
+    requires { Surveyed s highest × (chosen ≡ blocks_found s) }
     ensures { result ≡ survey_numbers s highest }
 {
-    let commit = s.commit;
-    let keys0 = s.keys0;
-    let keys1 = s.keys1;
     Numbers {
-        sequence: survey::larger(s.covered, highest) + 1,
+        sequence: s.covered.max(highest) + 1,
         epoch: s.highest + 1,
-        keys0: survey::found_at(keys0) as u32,
-        keys1: survey::found_at(keys1) as u32,
-        commit: survey::found_at(commit) as u32,
+        keys0: chosen.keys0 as u32,
+        keys1: chosen.keys1 as u32,
+        commit: chosen.commit as u32,
     }
 }
 
 // Mounts, once the blocks are chosen. The buffers are filled before the first erase.
 fn mount_chosen(
     image: &mut [u8],
-    map: &mut [u16],
-    letters: &mut [u8],
-    scratch: &mut [u32],
+    map: &mut Map,
+    letters: &mut Letters,
+    scratch: &mut Scratch,
     s: Survey,
+    chosen: Chosen,
     n: u64,
     k: usize,
 ) -> Answer
     requires mount_chosen { MountChosen image.old map.old letters.old scratch.old }
-    requires s_value { s ≡ survey_of image.old (blocks image.old) }
+    requires s_value { (s ≡ survey_of image.old (blocks image.old)) × (chosen ≡ blocks_found s) }
     ensures { standing result image.new map.new letters.new scratch.new
         ≡ mount_leaves (left n k) image.old map.old letters.old scratch.old }
 {
-    let mut events = [0u8; MOST_BLOCKS];
-    let mut empties = [0u8; MOST_BLOCKS];
-    sweep::find_empty(image, &mut empties);
-    let commit = s.commit;
-    let Rebuilt::Fits(highest) = rebuild::rebuild_record(
-        image,
-        survey::found_at(commit),
-        s.covered,
-        map,
-        letters,
-        scratch,
-        &mut events,
-        &empties,
-    ) else {
-        return Answer {
-            reply: Reply::EntryUnfit,
-            numbers: Numbers::none(),
-        };
+    let Some(seen) = rebuild::rebuild_record(image, chosen.commit, s.covered, map, letters, scratch)
+    else {
+        return replies::refused(Error::EntryUnfit, Numbers::none());
     };
-    let numbers = numbers_of(s, highest);
-    let power = sweep::erase_swept(
-        image,
-        map,
-        &events,
-        numbers,
-        Power {
-            steps: n,
-            bytes: k,
-            on: true,
-        },
-    );
-    Answer {
-        reply: replies::taken(power),
-        numbers: numbers,
-    }
+    let numbers = numbers_of(s, chosen, seen.highest);
+    let power = sweep::erase_swept(image, map, &seen.events, numbers, stages::power_for(n, k));
+    replies::taken(power, numbers)
 }
 
 // A mount of which the power lasts for n steps and the first k bytes of the next.
@@ -129,23 +97,20 @@ pub fn mount_cut(
     ensures { standing result image.new map.new letters.new scratch.new
         ≡ mount_leaves (left n k) image.old map.old letters.old scratch.old }
 {
-    let sizes = refuse_sizes(image, map, letters, scratch);
-    if !replies::is_done(sizes) {
-        return Answer {
-            reply: sizes,
-            numbers: Numbers::none(),
-        };
+    if let Err(error) = refuse_sizes(image, map, letters, scratch) {
+        return replies::refused(error, Numbers::none());
     }
+    let map = map.as_mut_array().unwrap();
+    let letters = letters.as_mut_array().unwrap();
+    let scratch = scratch.as_mut_array().unwrap();
     let s = survey::survey_blocks(image);
-    let reply = refuse_blocks(s);
-    if !replies::is_done(reply) {
-        rebuild::clear_record(map, letters, scratch);
-        return Answer {
-            reply: reply,
-            numbers: Numbers::none(),
-        };
+    match test_blocks(s) {
+        Ok(chosen) => mount_chosen(image, map, letters, scratch, s, chosen, n, k),
+        Err(error) => {
+            rebuild::clear_record(map, letters, scratch);
+            replies::refused(error, Numbers::none())
+        }
     }
-    mount_chosen(image, map, letters, scratch, s, n, k)
 }
 
 // Mounts the image: the record of it, or map, letters and scratch filled where it is refused with 12 to 14.

@@ -9,6 +9,8 @@ use crate::Numbers;
 
 impl Numbers {
     // Those of a refused format or mount.
+    // Stays (1): all 0 by the contracts of `format_cut` and `mount_cut` (`format_leaves`, `mount_leaves`), whose answer has
+    // numbers in either case.
     pub fn none() -> Numbers
         ensures { result ≡ no_numbers }
     {

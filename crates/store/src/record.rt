@@ -5,7 +5,7 @@ ghost use Rattle.page.specs.Key.{positions};
 ghost use Rattle.page.specs.Entry.{none, used_letter};
 ghost use Rattle.image.specs.Size.{block_size};
 ghost use Rattle.store.specs.declared.Numbers.{Numbers as RecordNumbers};
-ghost use Rattle.store.specs.Record.{record_of, map_size, key_of, live};
+ghost use Rattle.store.specs.Record.{record_of, key_of, live};
 ghost use Rattle.store.specs.Write.{place_at, key_held, released};
 ghost use Rattle.store.specs.CutOff.{removed, any_live};
 ghost use Rattle.store.specs.Commit.{clean_letter};
@@ -13,7 +13,8 @@ ghost use Rattle.store.specs.Taken.{Planned};
 
 use crate::Numbers;
 use image::keys;
-use page::plan::PLACES;
+use page::keys::Letters;
+use page::plan::{Map, PLACES};
 use page::{entries, keys as positions, plan};
 
 // The place of a file and an offset below its count.
@@ -46,9 +47,9 @@ pub fn key_held(image: &[u8], numbers: Numbers, p: usize) -> [u8; 16]
 }
 
 // Makes the key of place x deleted, where the place has a node.
-pub fn release(map: &[u16], letters: &mut [u8], x: usize)
-    requires { (length map.now ≡ map_size) × (length letters.old
-        ≡ positions) × (x < places) × (live map.now x ≡ true → key_of map.now x < positions) }
+// Stays (5): a struct of both lists would hold them as `&mut`, and each method would have to say that these stay the same.
+pub fn release(map: &Map, letters: &mut Letters, x: usize)
+    requires { (x < places) × (live map.now x ≡ true → key_of map.now x < positions) }
     ensures { letters.new ≡ released map.now letters.old x }
 {
     if map[x] == entries::NONE {
@@ -59,9 +60,8 @@ pub fn release(map: &[u16], letters: &mut [u8], x: usize)
 }
 
 // Puts place x at page g and key position p.
-pub fn set_place(map: &mut [u16], letters: &mut [u8], x: usize, g: usize, p: usize)
-    requires map_len { (length map.old ≡ map_size) × (length letters.old
-        ≡ positions) × (x < places) × (live map.old x ≡ true → key_of map.old x < positions) }
+pub fn set_place(map: &mut Map, letters: &mut Letters, x: usize, g: usize, p: usize)
+    requires x_lt_places { (x < places) × (live map.old x ≡ true → key_of map.old x < positions) }
     requires g_lt_none { (g < none) × (p < positions) }
     ensures { (map.new ≡ set (set map.old x g) (places + x) p)
         × (letters.new ≡ set (released map.old letters.old x) p used_letter) }
@@ -73,9 +73,8 @@ pub fn set_place(map: &mut [u16], letters: &mut [u8], x: usize, g: usize, p: usi
 }
 
 // Makes place x vacant.
-fn empty_place(map: &mut [u16], letters: &mut [u8], x: usize)
-    requires { (length map.old ≡ map_size) × (length letters.old
-        ≡ positions) × (x < places) × (live map.old x ≡ true → key_of map.old x < positions) }
+fn empty_place(map: &mut Map, letters: &mut Letters, x: usize)
+    requires { (x < places) × (live map.old x ≡ true → key_of map.old x < positions) }
     ensures { (map.new
         ≡ set (set map.old x none) (places + x) none) × (letters.new ≡ released map.old letters.old x) }
 {
@@ -85,34 +84,24 @@ fn empty_place(map: &mut [u16], letters: &mut [u8], x: usize)
 }
 
 // Makes the places of a file vacant from an offset on.
-pub fn remove(map: &mut [u16], letters: &mut [u8], file: u32, offset: u32)
-    requires { (length map.old ≡ map_size) × (length letters.old ≡ positions)
-        × Planned file offset × ((x : ℕ) → x < places → live map.old x ≡ true → key_of map.old x < positions) }
+pub fn remove(map: &mut Map, letters: &mut Letters, file: u32, offset: u32)
+    requires { Planned file offset × ((x : ℕ) → x < places → live map.old x ≡ true → key_of map.old x < positions) }
     ensures { (n : RecordNumbers)
         → record_of map.new letters.new n ≡ removed (record_of map.old letters.old n) file offset }
 {
-    let end = place_after(file);
-    let mut x = place_at(file, offset);
-    while x < end {
+    for x in place_at(file, offset)..place_after(file) {
         empty_place(map, letters, x);
-        x += 1;
     }
 }
 
 // Whether a place of a file from an offset on has a node.
-pub fn any_live(map: &[u16], file: u32, offset: u32) -> bool
-    requires { (length map.now ≡ map_size) × Planned file offset }
+pub fn any_live(map: &Map, file: u32, offset: u32) -> bool
+    requires { Planned file offset }
     ensures { result ≡ any_live map.now file offset }
 {
-    let end = place_after(file);
-    let mut x = place_at(file, offset);
-    while x < end {
-        if map[x] != entries::NONE {
-            return true;
-        }
-        x += 1;
-    }
-    false
+    map[place_at(file, offset)..place_after(file)]
+        .iter()
+        .any(|page| *page < entries::NONE)
 }
 
 // A letter after a commit: a deleted position is free.
@@ -126,12 +115,10 @@ fn clean_letter(l: u8) -> u8
 }
 
 // Makes every deleted position free.
-pub fn clean(letters: &mut [u8])
+pub fn clean(letters: &mut Letters)
     ensures { letters.new ≡ each clean_letter letters.old }
 {
-    let mut p: usize = 0;
-    while p < letters.len() {
-        letters[p] = clean_letter(letters[p]);
-        p += 1;
+    for letter in letters.iter_mut() {
+        *letter = clean_letter(*letter);
     }
 }

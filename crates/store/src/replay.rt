@@ -1,52 +1,52 @@
 // Mount's pass over the pages: what the commit says of each place and position, then every whole or torn N or D page in order.
-ghost use Rattle.std.specs.Prelude.{◌≡◌, true, cond, ◌&&◌, ℕ, ◌≤◌, ◌<◌, ◌+◌, ◌*◌, ◌/◌, max, length, set, replicate, eqb, leb, ltb};
+ghost use Rattle.std.specs.Prelude.{◌≡◌, true, false, cond, ◌&&◌, ℕ, ◌≤◌, ◌<◌, ◌+◌, ◌*◌, ◌/◌, max, length, set, replicate, eqb, leb, ltb};
 ghost use Rattle.page.specs.Frame.{payload_size};
 ghost use Rattle.page.specs.Plan.{places};
 ghost use Rattle.page.specs.Header.{in_range, node_letter, is_event_letter};
 ghost use Rattle.page.specs.Key.{positions};
 ghost use Rattle.page.specs.Entry.{none, free_letter, deleted_letter, entries_in_part};
 ghost use Rattle.image.specs.Size.{block_size, pages_in_block, most_blocks, blocks, pages, size_right};
-ghost use Rattle.image.specs.Look.{letter_at, block_empty};
+ghost use Rattle.image.specs.Look.{letter_at};
 ghost use Rattle.store.specs.Kind.{kind_of};
 ghost use Rattle.store.specs.Record.{map_size};
-ghost use Rattle.store.specs.Mount.{letter_in, entry_in, by_entry, decide_by, spends, sequence_of};
-ghost use Rattle.store.specs.Replay.{pass, EachPlace, EachLetter, part_read, LettersRead, outranks, range_right, EmptyTable, Passed, Replayed};
+ghost use Rattle.store.specs.Mount.{letter_in, entry_in, by_entry, decide_by};
+ghost use Rattle.store.specs.Replay.{pass, EachPlace, EachLetter, part_read, LettersRead, outranks, Passed, Replayed};
 
+use crate::kinds::{MOST_BLOCKS, Marks};
 use crate::{Kind, format, kinds, record};
 use image::look;
 use image::look::PAGES_IN_BLOCK;
 use page::entries::{ENTRIES_IN_PART, ENTRY_SIZE, FIRST_ENTRY_PART, PARTS};
-use page::keys::POSITIONS;
-use page::plan::PLACES;
+use page::frames::Payload;
+use page::keys::{Letters, POSITIONS};
+use page::plan::{Map, PLACES};
 use page::{Entry, Form, Frame, entries, plan};
 
-// The page that an entry gives, none where it gives no page.
-fn entry_page(entry: Entry) -> u16
-    requires { (by_entry entry).page ≤ none }
-    ensures { result ≡ (by_entry entry).page }
-{
-    match entry {
-        Entry::At(page, _) => page as u16,
-        Entry::Vacant => entries::NONE,
-        Entry::Misspelt => entries::NONE,
-    }
+// The sequence that decided each place, 0 where its entry did.
+pub type Scratch = [u32; PLACES];
+
+// What the pages passed say beside the lists: the blocks that have an event above the covered sequence, and the highest
+// sequence.
+#[derive(Clone, Copy)]
+pub struct Seen {
+    pub events: Marks,
+    pub highest: u32,
 }
 
-// The key position that an entry gives, none where it gives no page.
-fn entry_key(entry: Entry) -> u16
-    requires { (by_entry entry).key ≤ none }
-    ensures { result ≡ (by_entry entry).key }
+// The page and the key position that an entry gives, none for both where it gives no page.
+fn page_and_key(entry: Entry) -> (u16, u16)
+    requires { ((by_entry entry).page ≤ none) × ((by_entry entry).key ≤ none) }
+    ensures { (result.0 ≡ (by_entry entry).page) × (result.1 ≡ (by_entry entry).key) }
 {
     match entry {
-        Entry::At(_, key) => key as u16,
-        Entry::Vacant => entries::NONE,
-        Entry::Misspelt => entries::NONE,
+        Entry::At(page, key) => (page as u16, key as u16),
+        Entry::Vacant | Entry::Misspelt => (entries::NONE, entries::NONE),
     }
 }
 
 // Puts a sequence, a page and a key at place x.
-fn put_place(map: &mut [u16], scratch: &mut [u32], x: usize, sequence: u32, page: u16, key: u16)
-    requires { (length map.old ≡ map_size) × (length scratch.old ≡ places) × (x < places) }
+fn put_place(map: &mut Map, scratch: &mut Scratch, x: usize, sequence: u32, page: u16, key: u16)
+    requires { x < places }
     ensures { EachPlace (λ y held. cond (eqb x y) (record { sequence = sequence; page = page; key = key }) held)
         map.old scratch.old map.new scratch.new }
 {
@@ -56,55 +56,38 @@ fn put_place(map: &mut [u16], scratch: &mut [u32], x: usize, sequence: u32, page
 }
 
 // Puts the entries of a part's payload at its places, which begin with first.
-fn read_part(payload: &[u8], map: &mut [u16], scratch: &mut [u32], first: usize)
-    requires { (length payload.now ≡ payload_size) × (length map.old
-        ≡ map_size) × (length scratch.old ≡ places) × (first + entries_in_part ≤ places) }
+fn read_part(payload: &Payload, map: &mut Map, scratch: &mut Scratch, first: usize)
+    requires { first + entries_in_part ≤ places }
     ensures { EachPlace (part_read payload.now first (first + entries_in_part)) map.old scratch.old map.new
         scratch.new }
 {
-    let mut j: usize = 0;
-    while j < ENTRIES_IN_PART {
-        let entry = entries::entry_at(payload, ENTRY_SIZE * j);
-        put_place(
-            map,
-            scratch,
-            first + j,
-            0,
-            entry_page(entry),
-            entry_key(entry),
-        );
-        j += 1;
+    for j in 0..ENTRIES_IN_PART {
+        let (page, key) = page_and_key(entries::entry_at(payload, ENTRY_SIZE * j));
+        put_place(map, scratch, first + j, 0, page, key);
     }
 }
 
 // Makes every number 0.
-pub fn clear_scratch(scratch: &mut [u32])
-    ensures { scratch.new ≡ replicate (length scratch.old) 0 }
+pub fn clear_scratch(scratch: &mut Scratch)
+    ensures { scratch.new ≡ replicate places 0 }
 {
-    let mut i = 0;
-    while i < scratch.len() {
-        scratch[i] = 0;
-        i += 1;
-    }
+    scratch.fill(0);
 }
 
 // Puts the commit's entry at every place: first none at each, then what the parts say that are not vacant throughout.
-fn read_entries(image: &[u8], c: usize, map: &mut [u16], scratch: &mut [u32])
-    requires { (c * block_size + block_size ≤ length image.now)
-        × (length map.old ≡ map_size) × (length scratch.old ≡ places) }
+fn read_entries(image: &[u8], c: usize, map: &mut Map, scratch: &mut Scratch)
+    requires { c * block_size + block_size ≤ length image.now }
     ensures { EachPlace (λ x held. by_entry (entry_in image.now c x)) map.old scratch.old map.new
         scratch.new }
 {
     format::clear_map(map);
     clear_scratch(scratch);
-    let mut part: usize = FIRST_ENTRY_PART;
-    while part < PARTS {
+    for part in FIRST_ENTRY_PART..PARTS {
         let payload = look::payload_at(image, c * PAGES_IN_BLOCK + part);
         if !entries::all_vacant(payload) {
             let first = ENTRIES_IN_PART * (part - FIRST_ENTRY_PART);
             read_part(payload, map, scratch, first);
         }
-        part += 1;
     }
 }
 
@@ -119,20 +102,18 @@ fn unspent(letter: u8) -> u8
 }
 
 // Puts the letters that the positions of a part's payload start with.
-fn read_letter_part(payload: &[u8], letters: &mut [u8])
-    requires { (length payload.now ≡ payload_size) × (length letters.old ≡ payload_size) }
+fn read_letter_part(payload: &Payload, letters: &mut [u8])
+    requires { length letters.old ≡ payload_size }
     ensures { LettersRead payload.now letters.new }
 {
-    let mut p: usize = 0;
-    while p < Frame::PAYLOAD {
-        letters[p] = unspent(payload[p]);
-        p += 1;
+    for (p, letter) in letters.iter_mut().enumerate() {
+        *letter = unspent(payload[p]);
     }
 }
 
 // Puts at every position the letter that it starts with.
-fn read_letters(image: &[u8], c: usize, letters: &mut [u8])
-    requires { (c * block_size + block_size ≤ length image.now) × (length letters.old ≡ positions) }
+fn read_letters(image: &[u8], c: usize, letters: &mut Letters)
+    requires { c * block_size + block_size ≤ length image.now }
     ensures { EachLetter (λ p l. cond (eqb (letter_in image.now c p) free_letter) free_letter deleted_letter)
         letters.old letters.new }
 {
@@ -145,8 +126,8 @@ fn read_letters(image: &[u8], c: usize, letters: &mut [u8])
 }
 
 // An event gives place x a page and a key, where the place holds no higher sequence.
-fn take_place(map: &mut [u16], scratch: &mut [u32], x: usize, sequence: u32, page: u16, key: u16)
-    requires { (length map.old ≡ map_size) × (length scratch.old ≡ places) × (x < places) }
+fn take_place(map: &mut Map, scratch: &mut Scratch, x: usize, sequence: u32, page: u16, key: u16)
+    requires { x < places }
     ensures { EachPlace (λ y held. cond (eqb x y) (outranks (record {
       sequence = sequence;
       page = page;
@@ -160,8 +141,8 @@ fn take_place(map: &mut [u16], scratch: &mut [u32], x: usize, sequence: u32, pag
 }
 
 // A cut-off takes the places from first up to end.
-fn remove_places(map: &mut [u16], scratch: &mut [u32], first: usize, end: usize, sequence: u32)
-    requires { (length map.old ≡ map_size) × (length scratch.old ≡ places) × (first ≤ end) × (end ≤ places) }
+fn remove_places(map: &mut Map, scratch: &mut Scratch, first: usize, end: usize, sequence: u32)
+    requires { (first ≤ end) × (end ≤ places) }
     ensures { EachPlace (λ y held. cond (leb first y && ltb y end) (outranks (record {
       sequence = sequence;
       page
@@ -169,16 +150,14 @@ fn remove_places(map: &mut [u16], scratch: &mut [u32], first: usize, end: usize,
       key = none;
     }) held) held) map.old scratch.old map.new scratch.new }
 {
-    let mut x = first;
-    while x < end {
+    for x in first..end {
         take_place(map, scratch, x, sequence, entries::NONE, entries::NONE);
-        x += 1;
     }
 }
 
 // What the whole page g with header f gives its places.
-fn apply_event(map: &mut [u16], scratch: &mut [u32], g: usize, f: Frame, covered: u32)
-    requires { (length map.old ≡ map_size) × (length scratch.old ≡ places) × (g < none) × (in_range f ≡ true) }
+fn apply_event(map: &mut Map, scratch: &mut Scratch, g: usize, f: Frame, covered: u32)
+    requires { (g < none) × (in_range f ≡ true) }
     ensures { EachPlace (λ x. decide_by covered x g (Form.Whole f)) map.old scratch.old map.new
         scratch.new }
 {
@@ -197,23 +176,9 @@ fn apply_event(map: &mut [u16], scratch: &mut [u32], g: usize, f: Frame, covered
     }
 }
 
-// What page g gives its places: only a whole page is an event.
-fn apply(map: &mut [u16], scratch: &mut [u32], g: usize, form: Form, covered: u32)
-    requires { (length map.old
-        ≡ map_size) × (length scratch.old ≡ places) × (g < none) × (range_right form ≡ true) }
-    ensures { EachPlace (λ x. decide_by covered x g form) map.old scratch.old map.new scratch.new }
-{
-    match form {
-        Form::Empty => {}
-        Form::Whole(f) => apply_event(map, scratch, g, f, covered),
-        Form::Torn(_) => {}
-        Form::Spoilt => {}
-    }
-}
-
 // A header of a node above the covered sequence leaves its key deleted.
-fn spend_key(letters: &mut [u8], f: Frame, covered: u32)
-    requires { (length letters.old ≡ positions) × (in_range f ≡ true) }
+fn spend_key(letters: &mut Letters, f: Frame, covered: u32)
+    requires { in_range f ≡ true }
     ensures { EachLetter (λ p l. cond (eqb f.kind node_letter && ltb covered f.number && eqb f.key p)
         deleted_letter l) letters.old letters.new }
 {
@@ -226,76 +191,45 @@ fn spend_key(letters: &mut [u8], f: Frame, covered: u32)
     }
 }
 
-// What a page does to the letters: a torn node spends its key as a whole one does.
-fn spend(letters: &mut [u8], form: Form, covered: u32)
-    requires { (length letters.old ≡ positions) × (range_right form ≡ true) }
-    ensures { EachLetter (λ p l. cond (spends covered p form) deleted_letter l) letters.old letters.new }
-{
-    match form {
-        Form::Empty => {}
-        Form::Whole(f) => spend_key(letters, f, covered),
-        Form::Torn(f) => spend_key(letters, f, covered),
-        Form::Spoilt => {}
-    }
-}
-
 // Notes the block of page g as one that has an event, where the page's sequence is above the covered one.
-fn note(events: &mut [u8], g: usize, sequence: u32, covered: u32)
-    requires { (length events.old ≡ most_blocks) × (g / pages_in_block < most_blocks) }
-    ensures { events.new ≡ cond (ltb covered sequence) (set events.old (g / pages_in_block) 1) events.old }
+fn note(events: &mut Marks, g: usize, sequence: u32, covered: u32)
+    requires { g / pages_in_block < most_blocks }
+    ensures { events.new ≡ cond (ltb covered sequence) (set events.old (g / pages_in_block) true) events.old }
 {
     if covered < sequence {
-        events[g / PAGES_IN_BLOCK] = 1;
+        events[g / PAGES_IN_BLOCK] = true;
     }
 }
 
-// The sequence of a whole or torn N or D page, 0 of any other.
-fn sequence_of(form: Form) -> u32
-    ensures { result ≡ sequence_of form }
-{
-    match form {
-        Form::Empty => 0,
-        Form::Whole(f) => kinds::event_number(f),
-        Form::Torn(f) => kinds::event_number(f),
-        Form::Spoilt => 0,
-    }
-}
-
-// The higher of two numbers.
-fn higher(a: u32, b: u32) -> u32
-    ensures { result ≡ max a b }
-{
-    if a < b {
-        return b;
-    }
-    a
-}
-
-// What page g, which begins with N or D, makes of the lists, by its form; returns the highest sequence.
+// What page g, which begins with N or D, makes of the lists, by its form. A torn page decides no place, but spends its key.
+// Stays (5): the size is tested once in a call, and then the call writes the image. A value that holds the test could not
+// last over a write, and would be made by one more test behind each.
 fn replay_form(
     image: &[u8],
     g: usize,
     covered: u32,
-    highest: u32,
-    map: &mut [u16],
-    letters: &mut [u8],
-    scratch: &mut [u32],
-    events: &mut [u8],
-) -> u32
-    requires image_value { (size_right image.now ≡ true) × (g < pages image.now)
+    map: &mut Map,
+    letters: &mut Letters,
+    scratch: &mut Scratch,
+    seen: &mut Seen,
+)
+    requires { (size_right image.now ≡ true) × (g < pages image.now)
         × (is_event_letter (letter_at image.now g) ≡ true) }
-    requires map_len { (length map.old ≡ map_size)
-        × (length letters.old ≡ positions) × (length scratch.old ≡ places) × (length events.old ≡ most_blocks) }
     ensures { Passed image.now covered 1 g
-        (pass map.old letters.old scratch.old events.old highest)
-        (pass map.new letters.new scratch.new events.new result) }
+        (pass map.old letters.old scratch.old seen.old)
+        (pass map.new letters.new scratch.new seen.new) }
 {
-    let form = look::event_form_at(image, g);
-    apply(map, scratch, g, form, covered);
-    spend(letters, form, covered);
-    let sequence = sequence_of(form);
-    note(events, g, sequence, covered);
-    higher(highest, sequence)
+    let f = match look::event_form_at(image, g) {
+        Form::Whole(f) => {
+            apply_event(map, scratch, g, f, covered);
+            f
+        }
+        Form::Torn(f) => f,
+        Form::Empty | Form::Spoilt => return,
+    };
+    spend_key(letters, f, covered);
+    note(&mut seen.events, g, f.number, covered);
+    seen.highest = seen.highest.max(f.number);
 }
 
 // The same; what is no event is mostly told by its first byte.
@@ -303,107 +237,85 @@ fn replay_page(
     image: &[u8],
     g: usize,
     covered: u32,
-    highest: u32,
-    map: &mut [u16],
-    letters: &mut [u8],
-    scratch: &mut [u32],
-    events: &mut [u8],
-) -> u32
-    requires image_value { (size_right image.now ≡ true) × (g < pages image.now) }
-    requires map_len { (length map.old ≡ map_size)
-        × (length letters.old ≡ positions) × (length scratch.old ≡ places) × (length events.old ≡ most_blocks) }
+    map: &mut Map,
+    letters: &mut Letters,
+    scratch: &mut Scratch,
+    seen: &mut Seen,
+)
+    requires { (size_right image.now ≡ true) × (g < pages image.now) }
     ensures { Passed image.now covered 1 g
-        (pass map.old letters.old scratch.old events.old highest)
-        (pass map.new letters.new scratch.new events.new result) }
+        (pass map.old letters.old scratch.old seen.old)
+        (pass map.new letters.new scratch.new seen.new) }
 {
     if !kinds::is_event_letter(look::letter_at(image, g)) {
-        return highest;
+        return;
     }
-    replay_form(image, g, covered, highest, map, letters, scratch, events)
+    replay_form(image, g, covered, map, letters, scratch, seen);
 }
 
-// What the pages of block b make of the lists, in order; an empty block leaves them as they are. Returns the highest
-// sequence, which was before.
+// What the pages of block b make of the lists, in order; an empty block leaves them as they are.
 fn replay_block(
     image: &[u8],
     b: usize,
-    empty: bool,
     covered: u32,
-    before: u32,
-    map: &mut [u16],
-    letters: &mut [u8],
-    scratch: &mut [u32],
-    events: &mut [u8],
-) -> u32
-    requires image_value { (size_right image.now ≡ true) × (b < blocks image.now) × (empty ≡ block_empty image.now b) }
-    requires map_len { (length map.old ≡ map_size)
-        × (length letters.old ≡ positions) × (length scratch.old ≡ places) × (length events.old ≡ most_blocks) }
+    map: &mut Map,
+    letters: &mut Letters,
+    scratch: &mut Scratch,
+    seen: &mut Seen,
+)
+    requires { (size_right image.now ≡ true) × (b < blocks image.now) }
     ensures { Passed image.now covered pages_in_block (b * pages_in_block)
-        (pass map.old letters.old scratch.old events.old before)
-        (pass map.new letters.new scratch.new events.new result) }
+        (pass map.old letters.old scratch.old seen.old)
+        (pass map.new letters.new scratch.new seen.new) }
 {
-    if empty {
-        return before;
+    if look::block_empty(image, b) {
+        return;
     }
-    let end = b * PAGES_IN_BLOCK + PAGES_IN_BLOCK;
-    let mut highest = before;
-    let mut g = b * PAGES_IN_BLOCK;
-    while g < end {
-        highest = replay_page(image, g, covered, highest, map, letters, scratch, events);
-        g += 1;
+    let first = b * PAGES_IN_BLOCK;
+    for g in first..first + PAGES_IN_BLOCK {
+        replay_page(image, g, covered, map, letters, scratch, seen);
     }
-    highest
 }
 
-// What all pages make of the lists, in order; returns the highest sequence. The empties say of each block, by 1 or 0,
-// whether it is empty.
+// What all pages make of the lists, in order.
 fn replay_pages(
     image: &[u8],
     covered: u32,
-    map: &mut [u16],
-    letters: &mut [u8],
-    scratch: &mut [u32],
-    events: &mut [u8],
-    empties: &[u8],
-) -> u32
-    requires image_value { (size_right image.now ≡ true) × EmptyTable image.now empties.now }
-    requires map_len { (length map.old ≡ map_size)
-        × (length letters.old ≡ positions) × (length scratch.old ≡ places) × (length events.old ≡ most_blocks) }
+    map: &mut Map,
+    letters: &mut Letters,
+    scratch: &mut Scratch,
+    seen: &mut Seen,
+)
+    requires { size_right image.now ≡ true }
     ensures { Passed image.now covered (pages image.now) 0
-        (pass map.old letters.old scratch.old events.old 0)
-        (pass map.new letters.new scratch.new events.new result) }
+        (pass map.old letters.old scratch.old seen.old)
+        (pass map.new letters.new scratch.new seen.new) }
 {
-    let n = look::blocks(image);
-    let mut highest: u32 = 0;
-    let mut b: usize = 0;
-    while b < n {
-        let empty = empties[b] != 0;
-        highest = replay_block(
-            image, b, empty, covered, highest, map, letters, scratch, events,
-        );
-        b += 1;
+    for b in 0..look::blocks(image) {
+        replay_block(image, b, covered, map, letters, scratch, seen);
     }
-    highest
 }
 
-// The whole pass, with the commit in block c, which covers covered; returns the highest sequence of the pages.
+// The whole pass, with the commit in block c, which covers covered.
+// Stays (5): map, letters and scratch are lent by C. A struct of the three would hold them as `&mut`, and each function would
+// have an equation for each field.
 pub fn replay(
     image: &[u8],
     c: usize,
     covered: u32,
-    map: &mut [u16],
-    letters: &mut [u8],
-    scratch: &mut [u32],
-    events: &mut [u8],
-    empties: &[u8],
-) -> u32
-    requires image_value { (size_right image.now ≡ true) × ((e : ℕ) × (kind_of image.now c ≡ Kind.Commit e covered)) }
-    requires map_len { (length map.old ≡ map_size) × (length letters.old
-        ≡ positions) × (length scratch.old ≡ places) × (events.old ≡ replicate most_blocks 0)
-        × EmptyTable image.now empties.now }
-    ensures { Replayed image.now c (pass map.new letters.new scratch.new events.new result) }
+    map: &mut Map,
+    letters: &mut Letters,
+    scratch: &mut Scratch,
+) -> Seen
+    requires { (size_right image.now ≡ true) × ((e : ℕ) × (kind_of image.now c ≡ Kind.Commit e covered)) }
+    ensures { Replayed image.now c (pass map.new letters.new scratch.new result) }
 {
     read_entries(image, c, map, scratch);
     read_letters(image, c, letters);
-    replay_pages(image, covered, map, letters, scratch, events, empties)
+    let mut seen = Seen {
+        events: [false; MOST_BLOCKS],
+        highest: 0,
+    };
+    replay_pages(image, covered, map, letters, scratch, &mut seen);
+    seen
 }

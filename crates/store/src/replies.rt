@@ -1,57 +1,45 @@
 // Replies and their numbers.
-ghost use Rattle.std.specs.Prelude.{◌≡◌, cond};
-ghost use Rattle.store.specs.Reply.{number_of, is_done};
+ghost use Rattle.std.specs.Prelude.{◌≡◌, cond, Err};
+ghost use Rattle.store.specs.Reply.{Done, error_number, number_of};
 ghost use Rattle.store.specs.Outcome.{answered};
-ghost use Rattle.store.specs.declared.Reply.TheVariants.{Done, PowerCut};
+ghost use Rattle.store.specs.declared.Error.TheVariants.{PowerCut};
 
-use crate::{Answer, Numbers, Reply};
+use crate::{Answer, Error, Numbers};
 use image::Power;
 
-// Document 01's number of a reply.
-pub fn number(r: Reply) -> u32
-    ensures { result ≡ number_of r }
-{
-    match r {
-        Reply::Done => 0,
-        Reply::ImageSize => 1,
-        Reply::BufferLength => 2,
-        Reply::NoiseLength => 3,
-        Reply::NoSuchFile => 4,
-        Reply::OffsetOutside => 5,
-        Reply::PayloadLength => 6,
-        Reply::RecordUnfit => 7,
-        Reply::NothingThere => 8,
-        Reply::NoFreeKey => 9,
-        Reply::NoRoom => 10,
-        Reply::NumbersSpent => 11,
-        Reply::NoKeyBlock => 12,
-        Reply::NoCommit => 13,
-        Reply::EntryUnfit => 14,
-        Reply::NothingToGather => 15,
-        Reply::PowerCut => 255,
+impl Error {
+    // The documents' number of a refusal; 255 for a call that the power cut.
+    pub fn number(self) -> u32
+        ensures { result ≡ error_number self }
+    {
+        self as u32
     }
 }
 
-// Whether a reply is success.
-pub(crate) fn is_done(r: Reply) -> bool
-    ensures { result ≡ is_done r }
+// Document 01's number of a reply.
+pub fn number(r: Result<(), Error>) -> u32
+    ensures { result ≡ number_of r }
 {
-    number(r) == 0
+    match r {
+        Ok(()) => 0,
+        Err(error) => error.number(),
+    }
 }
 
-// The reply of a call that was taken, by the power that is left.
-pub(crate) fn taken(p: Power) -> Reply
-    ensures { result ≡ cond p.on Done PowerCut }
+// The answer of a call that was taken: its reply by the power that is left, and the numbers of the record by now.
+pub(crate) fn taken(p: Power, numbers: Numbers) -> Answer
+    ensures { result ≡ answered (cond p.on Done (Err PowerCut)) numbers }
 {
-    if p.on { Reply::Done } else { Reply::PowerCut }
+    let reply = if p.on { Ok(()) } else { Err(Error::PowerCut) };
+    Answer { reply, numbers }
 }
 
-// The answer of a call that is refused, or that leaves the record's numbers.
-pub(crate) fn refused(r: Reply, numbers: Numbers) -> Answer
-    ensures { result ≡ answered r numbers }
+// The answer of a call that is refused: the record's numbers stay.
+pub(crate) fn refused(error: Error, numbers: Numbers) -> Answer
+    ensures { result ≡ answered (Err error) numbers }
 {
     Answer {
-        reply: r,
-        numbers: numbers,
+        reply: Err(error),
+        numbers,
     }
 }

@@ -1,23 +1,24 @@
 // The stages of commit and wipe: a key block or the commit block replaced by a new copy, and the data blocks without a
 // live page erased.
-ghost use Rattle.std.specs.Prelude.{◌≡◌, true, cond, ◌&&◌, ℕ, ◌≤◌, ◌<◌, ◌+◌, ◌*◌, ◌-◌, ◌/◌, length, get_or, set, replicate, eqb, ltb};
-ghost use Rattle.base.specs.Search.{first_from, which_from};
+ghost use Rattle.std.specs.Prelude.{◌≡◌, true, false, cond, not, ◌||◌, ℕ, ◌≤◌, ◌<◌, ◌+◌, ◌*◌, ◌/◌, length, get_or, set, replicate, eqb, ltb, Err};
 ghost use Rattle.page.specs.Plan.{places};
-ghost use Rattle.page.specs.Key.{positions};
 ghost use Rattle.page.specs.Header.{last_number};
 ghost use Rattle.image.specs.Size.{block_size, pages_in_block, most_blocks, blocks as blocks_in, size_right};
-ghost use Rattle.image.specs.Power.{device, run};
+ghost use Rattle.image.specs.Power.{device, power_for, run};
 ghost use Rattle.store.specs.Kind.{is_chosen, is_data};
 ghost use Rattle.store.specs.Record.{map_size};
 ghost use Rattle.store.specs.Outcome.{answered};
-ghost use Rattle.store.specs.declared.Reply.TheVariants.{Done, PowerCut};
-ghost use Rattle.store.specs.Format.{noise_size};
-ghost use Rattle.store.specs.Stages.{is_spare, lowest_spare, at_work, begun, keys_moved, commit_moved, has_live, LiveMarked, erases, unused_erases, renewed, Able};
+ghost use Rattle.store.specs.Reply.{Done};
+ghost use Rattle.store.specs.declared.Error.TheVariants.{PowerCut};
+ghost use Rattle.store.specs.Testing.{run_length};
+ghost use Rattle.store.specs.Stages.{is_spare, lowest_spare, at_work, begun, keys_moved, commit_moved, has_live, LiveMarked, unused_erases, renewed, Able};
 
-use crate::{Answer, Numbers, fit, kinds, replies};
+use crate::kinds::{MOST_BLOCKS, Marks};
+use crate::{Answer, Numbers, fit, kinds, replies, sweep};
 use image::look::PAGES_IN_BLOCK;
 use image::{Power, blocks, look, steps};
-use page::plan::PLACES;
+use page::keys::{Letters, Noise};
+use page::plan::{Map, PLACES};
 
 // A call at work: the power that is left, and the record's numbers so far.
 #[derive(Clone, Copy)]
@@ -26,29 +27,32 @@ pub struct Progress {
     pub numbers: Numbers,
 }
 
+// Power for n steps and k bytes of the next.
+pub(crate) fn power_for(n: u64, k: usize) -> Power
+    ensures { result ≡ power_for n k }
+{
+    Power {
+        steps: n,
+        bytes: k,
+        on: true,
+    }
+}
+
 // A call that begins with power for n steps and k bytes of the next.
 pub fn begin(numbers: Numbers, n: u64, k: usize) -> Progress
     ensures { result ≡ begun n k numbers }
 {
     Progress {
-        power: Power {
-            steps: n,
-            bytes: k,
-            on: true,
-        },
+        power: power_for(n, k),
         numbers: numbers,
     }
 }
 
 // The answer of a call that has gone so far.
 pub fn answer(p: Progress) -> Answer
-    ensures { result ≡ answered (cond p.power.on Done PowerCut) p.numbers }
+    ensures { result ≡ answered (cond p.power.on Done (Err PowerCut)) p.numbers }
 {
-    let numbers = p.numbers;
-    Answer {
-        reply: replies::taken(p.power),
-        numbers: numbers,
-    }
+    replies::taken(p.power, p.numbers)
 }
 
 // Whether block b is spare: not chosen now, and chosen when the call began, so erased since, or empty.
@@ -66,32 +70,27 @@ fn is_spare(image: &[u8], first: Numbers, numbers: Numbers, b: usize) -> bool
 }
 
 // The lowest spare block, or the number of blocks where there is none.
+// Stays (1): each caller's record has a spare block (`Able`), so that an option would be unwrapped at once in all three.
 pub fn lowest_spare(image: &[u8], first: Numbers, numbers: Numbers) -> usize
     ensures { result ≡ lowest_spare image.now first numbers }
 {
     let n = look::blocks(image);
-    let mut b = 0;
-    while b < n {
-        if is_spare(image, first, numbers, b) {
-            return b;
-        }
-        b += 1;
-    }
-    b
+    (0..n)
+        .find(|b| is_spare(image, first, numbers, *b))
+        .unwrap_or(n)
 }
 
 // Replaces key block q: a new copy in block b, the lowest spare one, then the old one erased.
 fn replace_keys(
     image: &mut [u8],
-    letters: &[u8],
-    noise: &[u8],
+    letters: &Letters,
+    noise: &Noise,
     first: Numbers,
     p: Progress,
     q: u32,
     b: usize,
 ) -> Progress
-    requires able { Able image.old first p.numbers × (q < 2) × (b ≡ lowest_spare image.old first p.numbers) }
-    requires letters_len { (length letters.now ≡ positions) × (length noise.now ≡ noise_size) }
+    requires { Able image.old first p.numbers × (q < 2) × (b ≡ lowest_spare image.old first p.numbers) }
     ensures { at_work result image.new ≡ keys_moved letters.now noise.now first q (at_work p image.old) }
 {
     let numbers = p.numbers;
@@ -114,17 +113,18 @@ fn replace_keys(
 }
 
 // Replaces the commit block: map and letters in block b, the lowest spare one, then the old one erased.
+// Stays (5): first, which every stage takes, could stand in Progress; each of them would then promise beside its equation
+// that it stays as it was.
 pub fn replace_commit(
     image: &mut [u8],
-    map: &[u16],
-    letters: &[u8],
+    map: &Map,
+    letters: &Letters,
     first: Numbers,
     p: Progress,
     b: usize,
 ) -> Progress
-    requires able { Able image.old first p.numbers
+    requires { Able image.old first p.numbers
         × (1 ≤ p.numbers.sequence) × (b ≡ lowest_spare image.old first p.numbers) }
-    requires map_len { (length map.now ≡ map_size) × (length letters.now ≡ positions) }
     ensures { at_work result image.new ≡ commit_moved map.now letters.now first (at_work p image.old) }
 {
     let numbers = p.numbers;
@@ -145,98 +145,69 @@ pub fn replace_commit(
 }
 
 // Marks the block of a page; that of none is past the table.
-fn mark(marked: &mut [u8], page: u16)
-    ensures { marked.new ≡ set marked.old (page / pages_in_block) 1 }
+fn mark(marked: &mut Marks, page: u16)
+    ensures { marked.new ≡ set marked.old (page / pages_in_block) true }
 {
     let b = page as usize / PAGES_IN_BLOCK;
-    if marked.len() <= b {
+    if MOST_BLOCKS <= b {
         return;
     }
-    marked[b] = 1;
+    marked[b] = true;
 }
 
-// Marks the blocks of the pages of places from one to end. A vacant run has none.
-fn mark_run(map: &[u16], marked: &mut [u8], from: usize, end: usize)
-    requires { (length map.now ≡ map_size) × (from ≤ end) × (end ≤ places)
-        × LiveMarked map.now marked.old from }
-    ensures { LiveMarked map.now marked.new end }
+// Marks the blocks of the pages of the places of a run. A vacant run has none.
+fn mark_run(map: &Map, marked: &mut Marks, from: usize)
+    requires { (from + run_length ≤ places) × LiveMarked map.now marked.old from }
+    ensures { LiveMarked map.now marked.new (from + run_length) }
 {
-    if fit::is_vacant_run(map, from, end) {
+    if fit::is_vacant_run(map, from) {
         return;
     }
-    let mut x: usize = from;
-    while x < end {
-        mark(marked, map[x]);
-        x += 1;
+    for page in &map[from..from + fit::RUN_LENGTH] {
+        mark(marked, *page);
     }
 }
 
 // Marks the blocks that have a live page.
-pub fn mark_live(map: &[u16], marked: &mut [u8])
-    requires { (length map.now ≡ map_size) × (marked.old ≡ replicate most_blocks 0) }
-    ensures { (length marked.new
-        ≡ most_blocks) × ((b : ℕ) → b < most_blocks → has_live map.now b ≡ ltb 0 (get_or marked.new b 0)) }
+// Stays (2): as `fit::file_fits`.
+pub fn mark_live(map: &Map, marked: &mut Marks)
+    requires { marked.old ≡ replicate most_blocks false }
+    ensures { (b : ℕ) → b < most_blocks → has_live map.now b ≡ get_or marked.new b false }
 {
-    let mut x: usize = 0;
-    while x < PLACES {
-        let end = fit::run_end(x, PLACES);
-        mark_run(map, marked, x, end);
-        x = end;
+    for x in (0..PLACES).step_by(fit::RUN_LENGTH) {
+        mark_run(map, marked, x);
     }
 }
 
-// The first data block from from on that is not marked, or the number of blocks where there is none.
-fn next_unused(image: &[u8], numbers: Numbers, marked: &[u8], from: usize) -> usize
-    requires { (blocks_in image.now ≤ most_blocks) × (length marked.now ≡ most_blocks) }
-    ensures { result ≡ first_from (λ b. eqb (get_or marked.now b 0) 0 && is_data image.now numbers b)
-        (blocks_in image.now - from) from }
+// Marks the blocks that are no data blocks, beside those that are marked.
+fn mark_others(image: &[u8], numbers: Numbers, marked: &mut Marks)
+    requires { blocks_in image.now ≤ most_blocks }
+    ensures { (b : ℕ) → b < blocks_in image.now → get_or marked.new b false
+        ≡ (get_or marked.old b false || not (is_data image.now numbers b)) }
 {
-    let n = look::blocks(image);
-    let mut b = from;
-    while b < n {
-        if marked[b] == 0 {
-            if kinds::is_data(image, numbers, b) {
-                return b;
-            }
-        }
-        b += 1;
+    for b in 0..look::blocks(image) {
+        marked[b] = marked[b] || !kinds::is_data(image, numbers, b);
     }
-    b
-}
-
-// Erases the data blocks that are not marked, in order.
-fn erase_all_unmarked(image: &mut [u8], numbers: Numbers, marked: &[u8], p: Power) -> Power
-    requires { (blocks_in image.old ≤ most_blocks) × (length marked.now ≡ most_blocks) }
-    ensures { device result image.new ≡ run (erases (which_from (λ b. eqb (get_or marked.now b 0) 0 && is_data
-        image.old numbers b) (blocks_in image.old) 0)) (device p image.old) }
-{
-    let n = look::blocks(image);
-    let mut q = p;
-    let mut b = next_unused(image, numbers, marked, 0);
-    while b < n {
-        q = steps::erase_block(image, b, q);
-        b = next_unused(image, numbers, marked, b + 1);
-    }
-    q
 }
 
 // Erases the data blocks without a live page, in order.
-fn erase_unused(image: &mut [u8], map: &[u16], numbers: Numbers, p: Power) -> Power
-    requires { (size_right image.old ≡ true) × (length map.now ≡ map_size) }
+fn erase_unused(image: &mut [u8], map: &Map, numbers: Numbers, p: Power) -> Power
+    requires { size_right image.old ≡ true }
     ensures { device result image.new ≡ run (unused_erases map.now numbers image.old) (device p image.old) }
 {
-    let mut marked = [0u8; 256];
+    let mut marked = [false; MOST_BLOCKS];
     mark_live(map, &mut marked);
-    erase_all_unmarked(image, numbers, &marked, p)
+    mark_others(image, numbers, &mut marked);
+    sweep::erase_unmarked(image, &marked, p)
 }
 
 // The stages of a commit: key block 0, whose copy goes to the lowest spare block, key block 1, the commit block, then
 // the data blocks without a live page.
 pub fn renew(
     image: &mut [u8],
-    map: &[u16],
-    letters: &[u8],
-    noise: &[u8],
+    map: &Map,
+    letters: &Letters,
+    noise: &Noise,
     first: Numbers,
     p: Progress,
     spare: usize,
@@ -244,8 +215,6 @@ pub fn renew(
     requires able { Able image.old first p.numbers × (spare ≡ lowest_spare image.old first p.numbers)
         × (is_chosen first p.numbers.keys0 ≡ true) × (is_chosen first p.numbers.keys1 ≡ true) }
     requires le_sequence { (1 ≤ p.numbers.sequence) × (p.numbers.epoch ≤ last_number) }
-    requires map_len { (length map.now
-        ≡ map_size) × (length letters.now ≡ positions) × (length noise.now ≡ noise_size) }
     ensures { at_work result image.new ≡ renewed map.now letters.now noise.now first (at_work p image.old) }
 {
     let keys0 = replace_keys(image, letters, noise, first, p, 0, spare);

@@ -1,142 +1,138 @@
 // The tests that several calls begin with, in document 01's order.
-ghost use Rattle.std.specs.Prelude.{◌≡◌, true, ◌++◌, ◌≤◌};
+ghost use Rattle.std.specs.Prelude.{◌≡◌, true, [], ◌∷◌, ◌++◌, ◌≤◌, leb, drop};
 ghost use Rattle.page.specs.Header.{last_number};
 ghost use Rattle.image.specs.Size.{size_right};
 ghost use Rattle.image.specs.Look.{lowest_empty};
-ghost use Rattle.store.specs.Reply.{verdict};
-ghost use Rattle.store.specs.Record.{record_of};
-ghost use Rattle.store.specs.Format.{buffers_right, lent_tests, format_tests};
-ghost use Rattle.store.specs.Write.{fit_tests, plan_tests, place_tests, node_tests};
+ghost use Rattle.store.specs.Reply.{handed, ◌else◌, verdict};
+ghost use Rattle.store.specs.Record.{record_of, held, held_in, lists_in};
+ghost use Rattle.store.specs.Format.{lent_tests, noise_tests};
+ghost use Rattle.store.specs.Write.{fit_tests, plan_tests, node_tests};
 ghost use Rattle.store.specs.Commit.{renewal_tests};
-ghost use Rattle.store.specs.Taken.{Buffers};
+ghost use Rattle.store.specs.declared.Error.TheVariants.{NumbersSpent};
 
-use crate::{Numbers, Reply, fit, replies};
+use crate::{Error, Lent, Numbers, fit};
 use image::look;
 use page::headers::LAST_NUMBER;
-use page::keys::{NOISE_SIZE, POSITIONS};
-use page::plan::MAP_SIZE;
-use page::{Frame, plan};
+use page::keys::{Letters, NOISE_SIZE};
+use page::plan;
+use page::plan::Map;
 
-// Whether map and letters have the right lengths.
-pub fn buffers_right(map: &[u16], letters: &[u8]) -> bool
-    ensures { result ≡ buffers_right map.now letters.now }
-{
-    (map.len() == MAP_SIZE) & (letters.len() == POSITIONS)
-}
-
-// The tests of what every call is lent, in order.
-fn refuse_lent(image: &[u8], map: &[u16], letters: &[u8]) -> Reply
-    ensures { result ≡ verdict (lent_tests image.now map.now letters.now) }
+// The lists that a call is lent, where the image has a right size and they have their lengths: what every call tests first.
+pub(crate) fn lists<'a>(
+    image: &[u8],
+    map: &'a [u16],
+    letters: &'a [u8],
+) -> Result<(&'a Map, &'a Letters), Error>
+    ensures { lists_in result ≡ handed (verdict (lent_tests image.now map.now letters.now)) (map.now, letters.now) }
 {
     if !look::size_right(image) {
-        return Reply::ImageSize;
+        return Err(Error::ImageSize);
     }
-    if !buffers_right(map, letters) {
-        return Reply::BufferLength;
-    }
-    Reply::Done
+    let map = map.as_array().ok_or(Error::BufferLength)?;
+    let letters = letters.as_array().ok_or(Error::BufferLength)?;
+    Ok((map, letters))
 }
 
-// The tests of a record, in order, with which a gather begins.
-pub fn refuse_record(image: &[u8], map: &[u16], letters: &[u8], numbers: Numbers) -> Reply
-    ensures { result ≡ verdict (lent_tests image.now map.now letters.now ++ fit_tests image.now
-        (record_of map.now letters.now numbers)) }
+// The record that a call is lent, where those tests are passed.
+pub fn lent<'a>(
+    image: &[u8],
+    map: &'a [u16],
+    letters: &'a [u8],
+    numbers: Numbers,
+) -> Result<Lent<'a>, Error>
+    ensures { held_in result
+        ≡ handed (verdict (lent_tests image.now map.now letters.now)) (record_of map.now letters.now numbers) }
 {
-    let reply = refuse_lent(image, map, letters);
-    if !replies::is_done(reply) {
-        return reply;
+    let (map, letters) = lists(image, map, letters)?;
+    Ok(Lent {
+        map,
+        letters,
+        numbers,
+    })
+}
+
+// The test of a record.
+pub(crate) fn refuse_unfit(image: &[u8], lent: Lent) -> Result<(), Error>
+    requires { size_right image.now ≡ true }
+    ensures { result ≡ verdict (fit_tests image.now (held lent.entry)) }
+{
+    if !fit::fits(image, lent) {
+        return Err(Error::RecordUnfit);
     }
-    if !fit::fits(image, map, letters, numbers) {
-        return Reply::RecordUnfit;
+    Ok(())
+}
+
+// The test of a call that uses one sequence.
+pub(crate) fn refuse_spent(numbers: Numbers) -> Result<(), Error>
+    ensures { result ≡ verdict ((leb numbers.sequence last_number else NumbersSpent) ∷ []) }
+{
+    if LAST_NUMBER < numbers.sequence {
+        return Err(Error::NumbersSpent);
     }
-    Reply::Done
+    Ok(())
+}
+
+// The record that a gather is lent, where it fits.
+pub fn fitting<'a>(
+    image: &[u8],
+    map: &'a [u16],
+    letters: &'a [u8],
+    numbers: Numbers,
+) -> Result<Lent<'a>, Error>
+    ensures { held_in result
+        ≡ handed (verdict (lent_tests image.now map.now letters.now ++ fit_tests image.now
+        (record_of map.now letters.now numbers))) (record_of map.now letters.now numbers) }
+{
+    let lent = lent(image, map, letters, numbers)?;
+    refuse_unfit(image, lent)?;
+    Ok(lent)
 }
 
 // The tests of a file and an offset, in order.
-pub fn refuse_plan(file: u32, offset: u32) -> Reply
+pub fn refuse_plan(file: u32, offset: u32) -> Result<(), Error>
     ensures { result ≡ verdict (plan_tests file offset) }
 {
     if plan::LAST_FILE < file {
-        return Reply::NoSuchFile;
+        return Err(Error::NoSuchFile);
     }
     if plan::count(file) <= offset {
-        return Reply::OffsetOutside;
+        return Err(Error::OffsetOutside);
     }
-    Reply::Done
+    Ok(())
 }
 
-// The tests that write, read and cut-off begin with, in order.
-pub fn refuse_place(image: &[u8], map: &[u16], letters: &[u8], file: u32, offset: u32) -> Reply
-    ensures { result ≡ verdict (place_tests image.now map.now letters.now file offset) }
+// The test of the noise.
+pub fn refuse_noise(noise: &[u8]) -> Result<(), Error>
+    ensures { result ≡ verdict (noise_tests noise.now) }
 {
-    let reply = refuse_lent(image, map, letters);
-    if !replies::is_done(reply) {
-        return reply;
-    }
-    refuse_plan(file, offset)
-}
-
-// The tests that format, commit and wipe begin with, in order.
-pub fn refuse_noise(image: &[u8], map: &[u16], letters: &[u8], noise: &[u8]) -> Reply
-    ensures { result ≡ verdict (format_tests image.now map.now letters.now noise.now) }
-{
-    let reply = refuse_lent(image, map, letters);
-    if !replies::is_done(reply) {
-        return reply;
-    }
     if noise.len() != NOISE_SIZE {
-        return Reply::NoiseLength;
+        return Err(Error::NoiseLength);
     }
-    Reply::Done
+    Ok(())
 }
 
-// The tests that commit and wipe end with, in order. The call uses one epoch and so many more; spare is the lowest empty block.
-pub fn refuse_renewal(
-    image: &[u8],
-    map: &[u16],
-    letters: &[u8],
-    numbers: Numbers,
-    more: u32,
-    spare: usize,
-) -> Reply
-    requires { (size_right image.now ≡ true) × Buffers map.now letters.now
-        × (more ≤ last_number) × (spare ≡ lowest_empty image.now) }
-    ensures { result ≡ verdict (renewal_tests image.now (record_of map.now letters.now numbers) more) }
+// The tests that commit and wipe end with, in order. The call uses one epoch and so many more. Where all are passed they
+// have found the lowest empty block.
+pub fn test_renewal(image: &[u8], lent: Lent, more: u32) -> Result<usize, Error>
+    requires { (size_right image.now ≡ true) × (more ≤ last_number) }
+    ensures { result ≡ handed (verdict (renewal_tests image.now (held lent.entry) more)) (lowest_empty image.now) }
 {
-    if !fit::fits(image, map, letters, numbers) {
-        return Reply::RecordUnfit;
+    refuse_unfit(image, lent)?;
+    if LAST_NUMBER - more < lent.numbers.epoch {
+        return Err(Error::NumbersSpent);
     }
-    if LAST_NUMBER - more < numbers.epoch {
-        return Reply::NumbersSpent;
-    }
-    if spare == look::blocks(image) {
-        return Reply::NoRoom;
-    }
-    Reply::Done
+    look::lowest_empty(image).ok_or(Error::NoRoom)
 }
 
-// The tests that write and read begin with, in order; right says whether payload or output has a right length.
-pub fn refuse_node(
-    image: &[u8],
-    map: &[u16],
-    letters: &[u8],
-    numbers: Numbers,
-    file: u32,
-    offset: u32,
-    right: bool,
-) -> Reply
-    ensures { result
-        ≡ verdict (node_tests image.now (record_of map.now letters.now numbers) file offset right) }
+// The tests of write and read that come after those of what is lent, in order; right says whether payload or output has a
+// right length.
+pub fn test_node(image: &[u8], lent: Lent, file: u32, offset: u32, right: bool) -> Result<(), Error>
+    requires { size_right image.now ≡ true }
+    ensures { result ≡ verdict (drop 2 (node_tests image.now (held lent.entry) file offset right)) }
 {
-    let reply = refuse_place(image, map, letters, file, offset);
-    if !replies::is_done(reply) {
-        return reply;
-    }
+    refuse_plan(file, offset)?;
     if !right {
-        return Reply::PayloadLength;
+        return Err(Error::PayloadLength);
     }
-    if !fit::fits(image, map, letters, numbers) {
-        return Reply::RecordUnfit;
-    }
-    Reply::Done
+    refuse_unfit(image, lent)
 }

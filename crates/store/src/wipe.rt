@@ -3,7 +3,7 @@ ghost use Rattle.std.specs.Prelude.{◌≡◌, [], ◌≤◌};
 ghost use Rattle.page.specs.Header.{last_number};
 ghost use Rattle.image.specs.Look.{lowest_empty, empty_blocks};
 ghost use Rattle.image.specs.Power.{power_for};
-ghost use Rattle.store.specs.Reply.{verdict};
+ghost use Rattle.store.specs.Reply.{handed, verdict};
 ghost use Rattle.store.specs.Record.{record_of};
 ghost use Rattle.store.specs.Outcome.{left, left_whole, standing};
 ghost use Rattle.store.specs.Wipe.{removed_first, wipe_tests, wipe_leaves};
@@ -11,11 +11,12 @@ ghost use Rattle.store.specs.Stages.{at_work, after};
 ghost use Rattle.store.specs.Taken.{Ready, Planned, WipeTaken};
 
 use crate::stages::Progress;
-use crate::{Answer, ENOUGH, Numbers, Reply, record, replies, stages, tests};
-use image::look;
+use crate::{Answer, ENOUGH, Error, Numbers, record, replies, stages, tests};
+use page::keys::{Letters, Noise};
+use page::plan::Map;
 
-// The tests of a wipe, in order. Spare is the lowest empty block.
-fn refuse_wipe(
+// The tests of a wipe, in order. Where all are passed they have found the lowest empty block.
+fn test_wipe(
     image: &[u8],
     map: &[u16],
     letters: &[u8],
@@ -23,29 +24,22 @@ fn refuse_wipe(
     noise: &[u8],
     file: u32,
     offset: u32,
-    spare: usize,
-) -> Reply
-    requires { spare ≡ lowest_empty image.now }
-    ensures { result
-        ≡ verdict (wipe_tests image.now (record_of map.now letters.now numbers) noise.now file offset) }
+) -> Result<usize, Error>
+    ensures { result ≡ handed (verdict (wipe_tests image.now (record_of map.now letters.now numbers) noise.now
+        file offset)) (lowest_empty image.now) }
 {
-    let reply = tests::refuse_noise(image, map, letters, noise);
-    if !replies::is_done(reply) {
-        return reply;
-    }
-    let planned = tests::refuse_plan(file, offset);
-    if !replies::is_done(planned) {
-        return planned;
-    }
-    tests::refuse_renewal(image, map, letters, numbers, 1, spare)
+    let lent = tests::lent(image, map, letters, numbers)?;
+    tests::refuse_noise(noise)?;
+    tests::refuse_plan(file, offset)?;
+    tests::test_renewal(image, lent, 1)
 }
 
 // The first stage of a wipe: a commit without the removed nodes, in the lowest empty block. The record is then as the
 // commit to come needs it.
 fn shorten(
     image: &mut [u8],
-    map: &mut [u16],
-    letters: &mut [u8],
+    map: &mut Map,
+    letters: &mut Letters,
     numbers: Numbers,
     file: u32,
     offset: u32,
@@ -76,10 +70,10 @@ fn shorten(
 // Wipes, once the tests are passed. Spare is the lowest empty block.
 fn wipe_taken(
     image: &mut [u8],
-    map: &mut [u16],
-    letters: &mut [u8],
+    map: &mut Map,
+    letters: &mut Letters,
     numbers: Numbers,
-    noise: &[u8],
+    noise: &Noise,
     file: u32,
     offset: u32,
     spare: usize,
@@ -111,14 +105,17 @@ pub fn wipe_cut(
     ensures { standing result image.new map.new letters.new []
         ≡ wipe_leaves (left n k) image.old map.old letters.old numbers noise.now file offset }
 {
-    let spare = look::lowest_empty(image);
-    let reply = refuse_wipe(image, map, letters, numbers, noise, file, offset, spare);
-    if !replies::is_done(reply) {
-        return replies::refused(reply, numbers);
+    match test_wipe(image, map, letters, numbers, noise, file, offset) {
+        Ok(spare) => {
+            let map = map.as_mut_array().unwrap();
+            let letters = letters.as_mut_array().unwrap();
+            let noise = noise.as_array().unwrap();
+            wipe_taken(
+                image, map, letters, numbers, noise, file, offset, spare, n, k,
+            )
+        }
+        Err(error) => replies::refused(error, numbers),
     }
-    wipe_taken(
-        image, map, letters, numbers, noise, file, offset, spare, n, k,
-    )
 }
 
 // Removes the nodes of a file from an offset on, and replaces every key that is not used by noise.

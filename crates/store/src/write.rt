@@ -8,17 +8,11 @@ ghost use Rattle.store.specs.Find.{lowest_free, new_page, found_at};
 ghost use Rattle.store.specs.Write.{payload_right, write_tests, taking_of, write_leaves};
 ghost use Rattle.store.specs.Taken.{WriteTaken};
 
-use crate::{Answer, ENOUGH, Found, Numbers, Reply, find, record, replies, tests};
-use image::{Power, steps};
+use crate::{Answer, ENOUGH, Error, Numbers, find, record, replies, stages, tests};
+use image::steps;
 use page::Frame;
-use page::headers::LAST_NUMBER;
-
-// What the tests of a write find: the key position and the page that it takes, or the refusal.
-#[derive(Clone, Copy)]
-pub enum Taking {
-    Take(usize, usize),
-    Refuse(Reply),
-}
+use page::keys::Letters;
+use page::plan::Map;
 
 // Whether a payload has 1 to 224 bytes.
 fn is_payload(payload: &[u8]) -> bool
@@ -27,7 +21,7 @@ fn is_payload(payload: &[u8]) -> bool
     (1 <= payload.len()) & (payload.len() <= Frame::PAYLOAD)
 }
 
-// The tests of a write, in order.
+// The tests of a write, in order. Where all are passed they have found the key position and the page that it takes.
 fn test_write(
     image: &[u8],
     map: &[u16],
@@ -36,32 +30,23 @@ fn test_write(
     file: u32,
     offset: u32,
     payload: &[u8],
-) -> Taking
+) -> Result<(usize, usize), Error>
     ensures { result ≡ taking_of (verdict (write_tests image.now (record_of map.now letters.now numbers) file
         offset payload.now)) (found_at (lowest_free letters.now)) (found_at (new_page image.now numbers)) }
 {
-    let right = is_payload(payload);
-    let reply = tests::refuse_node(image, map, letters, numbers, file, offset, right);
-    if !replies::is_done(reply) {
-        return Taking::Refuse(reply);
-    }
-    if LAST_NUMBER < numbers.sequence {
-        return Taking::Refuse(Reply::NumbersSpent);
-    }
-    let Found::At(p) = find::lowest_free(letters) else {
-        return Taking::Refuse(Reply::NoFreeKey);
-    };
-    let Found::At(g) = find::new_page(image, numbers, Found::Nothing) else {
-        return Taking::Refuse(Reply::NoRoom);
-    };
-    Taking::Take(p, g)
+    let lent = tests::lent(image, map, letters, numbers)?;
+    tests::test_node(image, lent, file, offset, is_payload(payload))?;
+    tests::refuse_spent(numbers)?;
+    let p = find::lowest_free(lent.letters).ok_or(Error::NoFreeKey)?;
+    let g = find::new_page(image, numbers, None).ok_or(Error::NoRoom)?;
+    Ok((p, g))
 }
 
 // Writes with key position p on page g, once the tests are passed.
 fn write_taken(
     image: &mut [u8],
-    map: &mut [u16],
-    letters: &mut [u8],
+    map: &mut Map,
+    letters: &mut Letters,
     numbers: Numbers,
     file: u32,
     offset: u32,
@@ -88,17 +73,10 @@ fn write_taken(
         p as u32,
         key,
         payload,
-        Power {
-            steps: n,
-            bytes: k,
-            on: true,
-        },
+        stages::power_for(n, k),
     );
     record::set_place(map, letters, record::place_at(file, offset), g, p);
-    Answer {
-        reply: replies::taken(power),
-        numbers: numbers.next_sequence(),
-    }
+    replies::taken(power, numbers.next_sequence())
 }
 
 // A write of which the power lasts for n steps and the first k bytes of the next.
@@ -117,13 +95,14 @@ pub fn write_cut(
         ≡ write_leaves (left n k) image.old map.old letters.old numbers file offset payload.now }
 {
     match test_write(image, map, letters, numbers, file, offset, payload) {
-        Taking::Take(p, g) => write_taken(
-            image, map, letters, numbers, file, offset, payload, p, g, n, k,
-        ),
-        Taking::Refuse(reply) => Answer {
-            reply: reply,
-            numbers: numbers,
-        },
+        Ok((p, g)) => {
+            let map = map.as_mut_array().unwrap();
+            let letters = letters.as_mut_array().unwrap();
+            write_taken(
+                image, map, letters, numbers, file, offset, payload, p, g, n, k,
+            )
+        }
+        Err(error) => replies::refused(error, numbers),
     }
 }
 

@@ -12,7 +12,9 @@
 //! A proof can also be refused because it no longer fits the code, which a right program shows as well
 //! as a wrong one. So an edit of code counts only if a program of `tests/edits`, run with it and no proof,
 //! also does something else, and no edit counts where the prover's words are of the proof's shape. The
-//! edits of `refused/controls` are right programs: of each the tool must say that it is not a fact.
+//! edits of `refused/controls` are right programs: of each the tool must say that it is not a fact. Programs are run
+//! once all edits are checked: each edit is made alone, on a copy of the crates that can see it, and the programs over
+//! some such copies are compiled together.
 //!
 //! The prover names what is known after a test by the test's words. Where an edit of a test is refused because the
 //! proof of the function has the name of before, the names of today are put into the proof, test for test, and
@@ -23,13 +25,14 @@
 
 use johvimaru_tests::edits::{Calls, Edit, Made, Tests, Verdict};
 use johvimaru_tests::prover::Prover;
-use johvimaru_tests::unproved::{Library, Ran, Runner};
+use johvimaru_tests::unproved::{Library, Ran, Runner, Together};
 use std::cmp::Reverse;
-use std::collections::HashMap;
+use std::collections::{BTreeMap, HashMap};
 use std::fs;
 use std::io;
 use std::path::{Path, PathBuf};
 use std::process::{Command, ExitCode};
+use std::sync::atomic::{AtomicUsize, Ordering};
 use std::sync::Mutex;
 use std::thread;
 use std::time::{Duration, Instant};
@@ -37,7 +40,7 @@ use std::time::{Duration, Instant};
 /// A program over the crates.
 struct Program {
     path: &'static str,
-    /// The name of its own crate, and the crates that it reaches.
+    /// The name of its own crate, and the crates that it reaches, each before those that it uses.
     name: &'static str,
     reached: &'static [&'static str],
     /// Those of them whose edits it is run with.
@@ -61,7 +64,7 @@ static PROGRAMS: [Program; 3] = [
     Program {
         path: "tests/edits/calls.txt",
         name: "tried_calls",
-        reached: &["recorder", "chip", "store", "image", "page", "cipher", "base"],
+        reached: &["recorder", "store", "chip", "image", "page", "cipher", "base"],
         tells: &["recorder", "store", "image", "page", "cipher", "base"],
     },
 ];
@@ -72,6 +75,9 @@ const RIGHT: &str = "refused/controls";
 
 /// How many edits are checked together at most.
 const MOST_TOGETHER: usize = 32;
+
+/// With how many edits a program is compiled together at most.
+const MOST_COMPILED: usize = 16;
 
 /// The folders of a crate that a check reads, and the one in which `rt check` leaves what the next one takes over.
 const READ: [&str; 3] = ["src", "specs", "proofs"];
@@ -88,14 +94,24 @@ impl Program {
 
     /// Its root file, below a copy of the repository.
     fn root(&self, copy: &Path) -> PathBuf {
-        copy.join("programs").join(self.name).join("src/main.rt")
+        copy.join("programs").join(self.name).join("lib.rt")
     }
-}
 
-/// What a program over the crates does without an edit.
-struct Usual {
-    program: &'static Program,
-    ran: Ran,
+    /// The crates that an edit of this one can change: it, and those that may use it. Then the others.
+    fn split(&self, name: &str) -> (&[&'static str], &[&'static str]) {
+        let place = self.reached.iter().position(|one| *one == name);
+        self.reached.split_at(place.map_or(0, |place| place + 1))
+    }
+
+    /// Which of some runs do something else than the first, which is without an edit.
+    fn differ(&self, ran: &[Ran]) -> Result<Vec<bool>, String> {
+        match ran {
+            [usual, others @ ..] if usual.status == Some(0) && !usual.wrote.is_empty() => {
+                Ok(others.iter().map(|other| other != usual).collect())
+            }
+            _ => Err(format!("{} does not run: {:?}", self.path, ran.first())),
+        }
+    }
 }
 
 /// What is tried: an edit of a crate.
@@ -151,6 +167,17 @@ impl Trial {
     }
 }
 
+/// A trial that was checked.
+struct Checked {
+    trial: Trial,
+    verdict: Verdict,
+    /// Its share of the time that the check took, and of the time that programs were run with it.
+    check: Duration,
+    run: Duration,
+    /// Whether a program did something else with its edit; nothing where none was run.
+    differs: Option<bool>,
+}
+
 /// The edits of a folder, by name; none where there is no such folder.
 fn edits_in(folder: &Path) -> Result<Vec<PathBuf>, String> {
     if !folder.is_dir() {
@@ -186,6 +213,17 @@ struct Common<'a> {
     kept: PathBuf,
     /// The names of the tests of functions without an edit, by the places of the functions.
     tests: Mutex<HashMap<String, Tests>>,
+    /// How many trials came out otherwise than they must.
+    wrong: AtomicUsize,
+}
+
+impl Common<'_> {
+    /// Says what came out of a trial, and counts it where that is not what must.
+    fn settle(&self, checked: Checked) {
+        let Checked { trial, verdict, check, run, differs } = checked;
+        let is_right = trial.report(&verdict.with_run(differs), check, run);
+        self.wrong.fetch_add(usize::from(!is_right), Ordering::Relaxed);
+    }
 }
 
 /// Where edits are made: a copy of the repository.
@@ -231,34 +269,67 @@ impl Bench<'_> {
         self.copy.join("left")
     }
 
-    /// Runs a program over the crates as they are.
-    fn run(&self, program: &Program) -> Result<Ran, String> {
-        let root = |name: &&'static str| self.home(name).join("src/lib.rt");
-        let libraries: Vec<Library> =
-            program.reached.iter().map(|name| (*name, root(name))).collect();
-        self.runner.run(program.name, &program.root(&self.copy), &libraries)
+    /// Crates, with their root files.
+    fn libraries(&self, names: &[&'static str]) -> Vec<Library<'static>> {
+        names.iter().map(|name| (*name, self.home(name).join("src/lib.rt"))).collect()
     }
 
-    /// Runs a program over the crates without an edit.
-    fn run_usual(&self, program: &'static Program) -> Result<Usual, String> {
-        let ran = self.run(program)?;
-        match ran.status == Some(0) && !ran.wrote.is_empty() {
-            true => Ok(Usual { program, ran }),
-            false => Err(format!("{} does not run: {ran:?}", program.path)),
+    /// No programs yet, over crates as they are.
+    fn together(&self, shared: &[&'static str]) -> Result<Together, String> {
+        let folder = self.copy.join("together");
+        remove(&folder)?;
+        Ok(Together::over(&folder, &self.libraries(shared)))
+    }
+
+    /// Adds a program, over copies of crates as they are now.
+    fn add(
+        &self,
+        together: &mut Together,
+        program: &Program,
+        own: &[&'static str],
+    ) -> Result<(), String> {
+        let root = (program.name, program.root(&self.copy));
+        let libraries = [vec![root], self.libraries(own)].concat();
+        together.add(&libraries).map_err(|error| format!("{}: {error}", self.copy.display()))
+    }
+
+    /// Whether a program does something else than without an edit, with each of some edits of one crate, made alone.
+    /// Where it does not run with all of them, each half of them is tried by itself.
+    fn differ(&self, program: &Program, trials: &[&Trial]) -> Result<Vec<bool>, String> {
+        let (own, shared) = program.split(&trials[0].name);
+        let mut together = self.together(shared)?;
+        self.add(&mut together, program, own)?;
+        for trial in trials {
+            let made = [Try { trial, names: None }];
+            self.with_edits(&made, |_| self.add(&mut together, program, own))?;
+        }
+        let differ = self.runner.run(&together).and_then(|ran| program.differ(&ran));
+        match (differ, trials) {
+            (Err(_), [_, _, ..]) => {
+                let (first, second) = trials.split_at(trials.len() / 2);
+                Ok([self.differ(program, first)?, self.differ(program, second)?].concat())
+            }
+            (differ, _) => differ,
         }
     }
 
-    /// Whether a program that tells of the crate does something else than without the edit that was made;
-    /// nothing where none tells of it.
-    fn differs(&self, name: &str, usual: &[Usual]) -> Result<Option<bool>, String> {
-        let mut differs = None;
-        for Usual { program, ran } in usual.iter().filter(|one| one.program.tells_of(name)) {
-            differs = Some(self.run(program)? != *ran);
-            if differs == Some(true) {
-                break;
+    /// Runs a program with each of some edits of one crate. Settles those with which it does something else, and gives
+    /// the others.
+    fn run_batch(&self, program: &Program, batch: Vec<Checked>) -> Result<Vec<Checked>, String> {
+        let start = Instant::now();
+        let trials: Vec<&Trial> = batch.iter().map(|one| &one.trial).collect();
+        let differ = self.differ(program, &trials)?;
+        let run = start.elapsed() / batch.len() as u32;
+        let mut open = Vec::new();
+        for (mut checked, differs) in batch.into_iter().zip(differ) {
+            checked.run += run;
+            checked.differs = Some(differs);
+            match differs {
+                true => self.common.settle(checked),
+                false => open.push(checked),
             }
         }
-        Ok(differs)
+        Ok(open)
     }
 
     /// Has `rt check` prove a crate of the repository as it stands, and keeps what it leaves.
@@ -277,9 +348,9 @@ impl Bench<'_> {
         link_folder(&home.join(LEFT), &to).map_err(|error| format!("{}: {error}", to.display()))
     }
 
-    /// Tries the edits of a group over what the check of their crate left, and says what came out of each.
-    /// Gives how many are tried, and how many of them came out otherwise than they must.
-    fn try_group(&self, group: &[Trial], usual: &[Usual]) -> Result<(usize, usize), String> {
+    /// Checks the edits of a group over what the check of their crate left. Settles those with which no program is to
+    /// be run, and gives the others.
+    fn check_group(&self, group: Vec<Trial>) -> Result<Vec<Checked>, String> {
         let start = Instant::now();
         let tries: Vec<Try> = group.iter().map(|trial| Try { trial, names: None }).collect();
         let mut verdicts = self.verdicts(&tries)?;
@@ -291,14 +362,24 @@ impl Bench<'_> {
                 verdicts[at] = verdict;
             }
         }
-        let check = start.elapsed() / group.len() as u32;
-        let mut wrong = 0;
-        for (trial, verdict) in group.iter().zip(verdicts) {
-            let start = Instant::now();
-            let verdict = self.run_with(trial, verdict, usual)?;
-            wrong += usize::from(!trial.report(&verdict, check, start.elapsed()));
+        let (check, run) = (start.elapsed() / group.len() as u32, Duration::ZERO);
+        let mut open = Vec::new();
+        for (trial, verdict) in group.into_iter().zip(verdicts) {
+            let is_run = verdict.counts_if_run() && self.can_be_run(&trial)?;
+            let checked = Checked { trial, verdict, check, run, differs: None };
+            match is_run {
+                true => open.push(checked),
+                false => self.common.settle(checked),
+            }
         }
-        Ok((group.len(), wrong))
+        Ok(open)
+    }
+
+    /// Whether the edit is one of code that a program tells of.
+    fn can_be_run(&self, trial: &Trial) -> Result<bool, String> {
+        let is_code = |made: &[Made]| Ok(made.iter().any(|made| made.code));
+        let is_told = PROGRAMS.iter().any(|program| program.tells_of(&trial.name));
+        Ok(is_told && self.with_edits(&[Try { trial, names: None }], is_code)?)
     }
 
     /// What the prover shows of edits of one crate, all of them made. One that does not count then is checked again
@@ -323,7 +404,7 @@ impl Bench<'_> {
             };
             match tries.len() == 1 || is_settled {
                 true => Ok(verdict),
-                false => Ok(edit.judge(&self.account(&[one.clone()])?)),
+                false => Ok(edit.judge(&self.account(std::slice::from_ref(one))?)),
             }
         };
         tries.iter().map(verdict).collect()
@@ -372,23 +453,6 @@ impl Bench<'_> {
             text.map(|text| Tests::of_steps(&text)).map_err(fault)
         };
         functions.map(of_function).collect()
-    }
-
-    /// The verdict once the programs were run with the edit alone, where it asks for that.
-    fn run_with(
-        &self,
-        trial: &Trial,
-        verdict: Verdict,
-        usual: &[Usual],
-    ) -> Result<Verdict, String> {
-        let mut differs = None;
-        if verdict.counts_if_run() {
-            differs = self.with_edits(&[Try { trial, names: None }], |made| match made {
-                [made] if made.code => self.differs(&trial.name, usual),
-                _ => Ok(None),
-            })?;
-        }
-        Ok(verdict.with_run(differs))
     }
 
     /// Makes edits of one crate, does something with them, and undoes them.
@@ -566,6 +630,37 @@ fn grouped(trials: Vec<Trial>, calls: &HashMap<String, Calls>) -> Vec<Vec<Trial>
     groups
 }
 
+/// Trials in batches of one crate each, of about one size, with which a program is compiled together.
+fn batches(trials: Vec<Checked>) -> Vec<Vec<Checked>> {
+    let mut by_crate: BTreeMap<String, Vec<Checked>> = BTreeMap::new();
+    for checked in trials {
+        by_crate.entry(checked.trial.name.clone()).or_default().push(checked);
+    }
+    let in_batches = |mut trials: Vec<Checked>| {
+        let size = trials.len().div_ceil(trials.len().div_ceil(MOST_COMPILED));
+        let mut batches = Vec::new();
+        while !trials.is_empty() {
+            batches.push(trials.split_off(trials.len().saturating_sub(size)));
+        }
+        batches
+    };
+    let mut batches: Vec<Vec<Checked>> = by_crate.into_values().flat_map(in_batches).collect();
+    batches.sort_by_key(|batch| Reverse(batch.len()));
+    batches
+}
+
+/// Runs the programs with the edits of trials, each until one does something else, and settles them.
+fn run_programs(benches: &[Bench], mut open: Vec<Checked>, common: &Common) -> Result<(), String> {
+    for program in &PROGRAMS {
+        let is_told = |checked: &Checked| program.tells_of(&checked.trial.name);
+        let (told, others): (Vec<Checked>, Vec<Checked>) = open.into_iter().partition(is_told);
+        let left = share(benches, batches(told), |bench, batch| bench.run_batch(program, batch))?;
+        open = left.into_iter().flatten().chain(others).collect();
+    }
+    open.into_iter().for_each(|checked| common.settle(checked));
+    Ok(())
+}
+
 /// How many run at a time.
 fn jobs() -> usize {
     let asked = std::env::var("RT_JOBS").ok().and_then(|jobs| jobs.parse().ok());
@@ -595,16 +690,16 @@ fn run(mut words: Vec<String>) -> Result<(usize, usize), String> {
         prover: Prover::of(&repository)?,
         kept: room.0.join("kept"),
         tests: Mutex::default(),
+        wrong: AtomicUsize::default(),
     };
     let benches: Vec<Bench> =
         (0..jobs()).map(|number| Bench::new(&common, &room.0, number)).collect::<Result<_, _>>()?;
-    let programs = PROGRAMS.iter().filter(|one| names.iter().any(|name| one.tells_of(name)));
-    let usual = programs.map(|one| benches[0].run_usual(one)).collect::<Result<Vec<Usual>, _>>()?;
     share(&benches, names, |bench, name| bench.check_whole(&name))?;
     let (count, groups) = (trials.len(), grouped(trials, &calls));
     println!("edits: {count} in {} checks", groups.len());
-    let tried = share(&benches, groups, |bench, group| bench.try_group(&group, &usual))?;
-    Ok(tried.iter().fold((0, 0), |all, one| (all.0 + one.0, all.1 + one.1)))
+    let open = share(&benches, groups, |bench, group| bench.check_group(group))?;
+    run_programs(&benches, open.into_iter().flatten().collect(), &common)?;
+    Ok((count, common.wrong.into_inner()))
 }
 
 fn main() -> ExitCode {

@@ -8,7 +8,7 @@ use Rattle.listing.proofs.list.Goals as goal
 pub returns-then-input-gt-LONGEST : goal.returns-then-input-gt-LONGEST
 unfolding listed
 returns-then-input-gt-LONGEST c =
-    let p = c.put_refusal.ensures in
+    let p = c.refusal.ensures in
     (p.0, rw (lt-ltb longest (length c.args.input.now) c.if-input-gt-LONGEST.true) p.1)
 
 pub returns : goal.returns

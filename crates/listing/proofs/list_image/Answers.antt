@@ -8,6 +8,6 @@ use Rattle.listing.proofs.list_image.Goals as goal
 pub returns : goal.returns
 unfolding mounted_copy listing_of
 returns c =
-    let p = c.put_text.ensures in
+    let p = c.text_of.ensures in
     let e = ap (λ (m : Left). text_of (number_of m.reply) m.after.map m.after.letters) c.mount-answer.ensures in
-    (p.0, p.1 ∙ rw c.number.ensures e)
+    (p.0, p.1 ∙ e)

@@ -1,4 +1,4 @@
-use mathlib.Core.Path.{refl, sym, ◌∙◌}
+use mathlib.Core.Path.{sym, ◌∙◌}
 use native.Mathlib.Omega.{arith}
 use Rattle.chip.proofs.Sets.{pages_most}
 use borrow.Author.Tests.{not-true, not-false}
@@ -27,15 +27,6 @@ returns-then-not-valid c = rw (
   ← c.valid.ensures,
   not-true c.valid.result
       c.if-not-valid.true-raw,
-)
-
-pub shown-requires : goal.shown-requires
-shown-requires c = (
-  sym c.size_right.ensures ∙ not-false c.size_right.result
-      c.if-not-size_right.false-raw,
-  rw c.pages.ensures at (sym c.valid.ensures) ∙ not-false
-      c.valid.result c.if-not-valid.false-raw,
-  refl,
 )
 
 pub returns : goal.returns

@@ -4,22 +4,20 @@ use Rattle.chip.proofs.Cycles.{erase-row, erase_status}
 use Rattle.chip.specs.Driver.{erase_cycles}
 use Rattle.chip.proofs.driver.erase_cycle.Goals as goal
 
-pub returns-then-i-eq0 : goal.returns-then-i-eq0
+pub returns-in-0 : goal.returns-in-0
 unfolding erase_cycles
-returns-then-i-eq0 c = rw c.if-i-eq0.true c.command.ensures
+returns-in-0 c = rw c.in-0.is c.command.ensures
 
-pub returns-then-i-eq1 : goal.returns-then-i-eq1
+pub returns-in-1 : goal.returns-in-1
 unfolding erase_cycles
-returns-then-i-eq1 c = rw c.if-i-eq1.true c.command-then-i-eq1.ensures
+returns-in-1 c = rw c.in-1.is c.command-in-1.ensures
 
-pub returns-then-i-lt5 : goal.returns-then-i-lt5
-returns-then-i-lt5 c = c.row_cycle.ensures ∙ erase-row c.args.b c.args.i (omega arith)
-    c.if-i-lt5.true
-
-pub returns-then-i-eq5 : goal.returns-then-i-eq5
+pub returns-in-5 : goal.returns-in-5
 unfolding erase_cycles
-returns-then-i-eq5 c = rw c.if-i-eq5.true c.command-then-i-eq5.ensures
+returns-in-5 c = rw c.in-5.is c.command-in-5.ensures
 
-pub returns : goal.returns
-returns c = c.command-2.ensures ∙ erase_status c.args.b
-    c.args.i (omega arith)
+pub returns-in-2-to-4 : goal.returns-in-2-to-4
+returns-in-2-to-4 c = c.row_cycle.ensures ∙ erase-row c.args.b c.args.i (omega arith) (omega arith)
+
+pub returns-in_default : goal.returns-in_default
+returns-in_default c = c.command-in_default.ensures ∙ erase_status c.args.b c.args.i (omega arith)

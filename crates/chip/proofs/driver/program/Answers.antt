@@ -1,5 +1,8 @@
-use Rattle.chip.specs.Driver.{drove_program}
+use native.Mathlib.Omega.{arith}
 use borrow.Author.Tests.{eq-eqb, ne_eqb, le-leb, lt-leb}
+use borrow.Author.Rules.{rules}
+use Rattle.chip.specs.Driver.{program_cycles, drove_program}
+use Rattle.chip.proofs.Cycles.{program-length}
 use Rattle.chip.proofs.driver.program.Goals as goal
 
 pub returns-then-page-ne-PAGE : goal.returns-then-page-ne-PAGE
@@ -12,5 +15,7 @@ returns-then-g-gt-LAST_PAGE c = rw (eq-eqb _ _ c.if-page-ne-PAGE.false, lt-leb _
 
 pub returns : goal.returns
 unfolding drove_program
-returns c = rw (eq-eqb _ _ c.if-page-ne-PAGE.false, le-leb _ _ c.if-g-gt-LAST_PAGE.false)
-    c.send_program.ensures
+returns c =
+    let a = c.args in
+    rw (eq-eqb _ _ c.if-page-ne-PAGE.false, le-leb _ _ c.if-g-gt-LAST_PAGE.false)
+    (c.send.ensures (program_cycles a.g a.page.now) (omega arith) (omega (arith, program-length a.g a.page.now)) (λ i sent h p. search rules))

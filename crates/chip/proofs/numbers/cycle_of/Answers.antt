@@ -1,19 +1,19 @@
+use borrow.Author.Tests.{ne_eqb}
 use Rattle.chip.specs.Numbers.{cycle_of}
-use borrow.Author.Tests.{eq-eqb, ne_eqb}
 use Rattle.chip.proofs.numbers.cycle_of.Goals as goal
 
-pub returns-then-mark-eq0 : goal.returns-then-mark-eq0
+pub returns-in-0 : goal.returns-in-0
 unfolding cycle_of
-returns-then-mark-eq0 c = search (eq-eqb, ne_eqb)
+returns-in-0 c = rw c.in-0.is c.command.ensures
 
-pub returns-then-mark-eq1 : goal.returns-then-mark-eq1
+pub returns-in-1 : goal.returns-in-1
 unfolding cycle_of
-returns-then-mark-eq1 c = search (eq-eqb, ne_eqb)
+returns-in-1 c = rw c.in-1.is c.address.ensures
 
-pub returns-then-mark-eq2 : goal.returns-then-mark-eq2
+pub returns-in-2 : goal.returns-in-2
 unfolding cycle_of
-returns-then-mark-eq2 c = search (eq-eqb, ne_eqb)
+returns-in-2 c = rw c.in-2.is c.data.ensures
 
-pub returns : goal.returns
+pub returns-in_default : goal.returns-in_default
 unfolding cycle_of
-returns c = search (eq-eqb, ne_eqb)
+returns-in_default c = search (ne_eqb)

@@ -1,27 +1,27 @@
+use borrow.Author.Tests.{ne_eqb}
 use Rattle.chip.specs.Numbers.{state_of}
-use borrow.Author.Tests.{eq-eqb, ne_eqb}
 use Rattle.chip.proofs.numbers.state_of.Goals as goal
 
-pub returns-then-s-eq1 : goal.returns-then-s-eq1
+pub returns-in-1 : goal.returns-in-1
 unfolding state_of
-returns-then-s-eq1 c = search (eq-eqb, ne_eqb)
+returns-in-1 c = rw c.in-1.is
 
-pub returns-then-s-eq2 : goal.returns-then-s-eq2
+pub returns-in-2 : goal.returns-in-2
 unfolding state_of
-returns-then-s-eq2 c = search (eq-eqb, ne_eqb)
+returns-in-2 c = rw c.in-2.is
 
-pub returns-then-s-eq3 : goal.returns-then-s-eq3
+pub returns-in-3 : goal.returns-in-3
 unfolding state_of
-returns-then-s-eq3 c = search (eq-eqb, ne_eqb)
+returns-in-3 c = rw c.in-3.is
 
-pub returns-then-s-eq4 : goal.returns-then-s-eq4
+pub returns-in-4 : goal.returns-in-4
 unfolding state_of
-returns-then-s-eq4 c = search (eq-eqb, ne_eqb)
+returns-in-4 c = rw c.in-4.is
 
-pub returns-then-s-eq5 : goal.returns-then-s-eq5
+pub returns-in-5 : goal.returns-in-5
 unfolding state_of
-returns-then-s-eq5 c = search (eq-eqb, ne_eqb)
+returns-in-5 c = rw c.in-5.is
 
-pub returns : goal.returns
+pub returns-in_default : goal.returns-in_default
 unfolding state_of
-returns c = search (eq-eqb, ne_eqb)
+returns-in_default c = search (ne_eqb)

@@ -18,7 +18,7 @@ returns c =
     let s0 = c.counter_state-s0 in
     let s1 = c.full_round-s1 in
     let s2 = c.full_round-s2 in
-    let m = c.mix_row_3 in
+    let m = c.mix_row in
     let e1 : state s1.result ≡ counter_state w 1 a.n =
     s1.ensures ∙ ap (λ (x : List ℕ). add_round_key w 1 (mix_columns (shift_rows (sub_bytes x)))) s0.ensures in
     let e2 : state s2.result ≡ counter_state w 2 a.n =

@@ -16,9 +16,9 @@ pub returns : goal.returns
 unfolding cached_column cached_state
 returns c =
     let w = c.args.w.now in
-    let h = c.requires.serves in
+    let h = c.requires in
     let s0 = c.counter_state-s in
-    let m = c.mix_row_3 in
+    let m = c.mix_row in
     let column = word (counter_state w 1 c.args.n) 0 in
     let x : little_endian (c.args.cache.column ⊕ m.result) ≡ column =
     word_xor c.args.cache.column m.result

@@ -1,6 +1,6 @@
 -- `expand_key` is the key expansion. After n turns w begins with the schedule of n + 1 round keys, of which k is the last.
 use mathlib.Core.Path.{◌≡◌}
-use Prim.Native.Nat.{◌+◌, ◌-◌, ◌*◌, ◌≤◌}
+use Prim.Native.Nat.{◌+◌, ◌*◌}
 use lib.ListN.{length, take}
 use Rattle.cipher.specs.Cipher.{round_key}
 use Rattle.cipher.specs.KeyExpansion.{power, schedule}
@@ -9,11 +9,7 @@ use Rattle.cipher.proofs.expansion.expand_key.Given as goal
 
 abbrev pub invariant-loop-n : goal.invariant-loop-n
 invariant-loop-n l =
-    (l.n ≤ 10)
-    × (length l.w ≡ 176)
+    (length l.w ≡ 176)
     × (l.constant ≡ power l.n)
     × (state l.k ≡ round_key (schedule (4 * l.n) (state l.initial.k)) l.n)
     × (take (16 * l.n + 16) l.w ≡ schedule (4 * l.n) (state l.initial.k))
-
-abbrev pub decreases-loop-n : goal.decreases-loop-n
-decreases-loop-n l = 10 - l.n

@@ -4,8 +4,8 @@ use Rattle.cipher.proofs.rounds.sub_mix.Goals as goal
 
 pub returns : goal.returns
 returns c =
-    let m0 = c.mix_row_0 in
-    let m1 = c.mix_row_1 in
-    let m2 = c.mix_row_2 in
-    let m3 = c.mix_row_3 in
+    let m0 = c.mix_row in
+    let m1 = c.mix_row-2 in
+    let m2 = c.mix_row-3 in
+    let m3 = c.mix_row-4 in
     mixed m0.result m1.result m2.result m3.result m0.ensures m1.ensures m2.ensures m3.ensures

@@ -1,7 +1,7 @@
--- `add_key_stream` is the counter mode, two counters a turn. When it comes to counter n, the n blocks of the key stream before it are added.
+-- `add_key_stream` is the counter mode, two counters a turn. When it comes to the byte at, which counter n = at / 16 starts, the n blocks of the key stream
+-- before it are added.
 use mathlib.Core.Path.{◌≡◌}
-use Prim.Native.Nat.{◌-◌, ◌*◌, ◌%◌}
-use lib.ListN.{length}
+use Prim.Native.Nat.{◌/◌, ◌%◌}
 use Rattle.cipher.specs.Words.{xor_bytes}
 use Rattle.cipher.specs.CounterMode.{key_stream}
 use Rattle.cipher.specs.Caching.{Serves}
@@ -10,7 +10,4 @@ use Rattle.cipher.proofs.stream.add_key_stream.Given as goal
 -- n is even, so that n + 1 is in the same n / 256
 abbrev pub invariant-loop-at : goal.invariant-loop-at
 invariant-loop-at l =
-    (l.at ≡ 16 * l.n) × (l.n % 2 ≡ 0) × (length l.text ≡ length l.initial.text) × (l.text ≡ xor_bytes l.initial.text (key_stream l.w l.n)) × Serves l.w l.n l.cache
-
-abbrev pub decreases-loop-at : goal.decreases-loop-at
-decreases-loop-at l = length l.initial.text - l.at
+    (l.at % 32 ≡ 0) × (l.text ≡ xor_bytes l.initial.text (key_stream l.w (l.at / 16))) × Serves l.w (l.at / 16) l.cache

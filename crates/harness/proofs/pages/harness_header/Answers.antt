@@ -1,10 +1,11 @@
 -- `pages::harness_header` gives the bytes of a header, or says that its fields are out of range, or refuses a length.
-use mathlib.Core.Path.{◌≡◌, ap, sym, ◌∙◌}
-use mathlib.Core.Bool.{false}
-use Prim.Native.Nat.{◌≤◌}
+use mathlib.Core.Path.{◌≡◌, refl, ap}
+use mathlib.Core.Bool.{Bool, true, false, cond}
+use Prim.Native.Nat.{ℕ, ◌≤◌}
 use native.Mathlib.Omega.{arith}
-use borrow.Author.Tests.{eq-eqb, ne_eqb, not-true, not-false}
-use Rattle.page.specs.Header.{node_letter, cut_off_letter, keys_letter, commit_letter, in_range, header_bytes}
+use borrow.Author.Tests.{eq-eqb, ne_eqb, ltb-false}
+use Rattle.std.specs.Prelude.{Some, None}
+use Rattle.page.specs.Header.{node_letter, cut_off_letter, keys_letter, commit_letter, in_range}
 use Rattle.page.specs.declared.Frame.{Frame}
 use Rattle.harness.specs.Answer.{answer}
 use Rattle.harness.specs.Page.{byte_range, frame_of, header_answer}
@@ -16,26 +17,14 @@ unfolding in_range
 no_kind f h =
     rw (ne_eqb f.kind node_letter (λ e. omega arith), ne_eqb f.kind cut_off_letter (λ e. omega arith), ne_eqb f.kind keys_letter (λ e. omega arith), ne_eqb f.kind commit_letter (λ e. omega arith))
 
-pub returns-then-fields-ne-FIELDS_IN_FRAME : goal.returns-then-fields-ne-FIELDS_IN_FRAME
-unfolding header_answer
-returns-then-fields-ne-FIELDS_IN_FRAME c = rw (ne_eqb _ _ c.if-fields-ne-FIELDS_IN_FRAME.true)
+none : (b : Bool) (f : Frame) → None ≡ cond b (Some f) None → b ≡ false
+none true f e = absurd (let z : ◌≡◌ {A = ℕ} 0 1 = cc in omega arith)
+none false f e = refl
 
-pub returns-then-header-ne-HEADER : goal.returns-then-header-ne-HEADER
+pub returns-in_default-frame_of : goal.returns-in_default-frame_of
 unfolding header_answer
-returns-then-header-ne-HEADER c = rw (eq-eqb _ _ c.if-fields-ne-FIELDS_IN_FRAME.false, ne_eqb _ _ c.if-header-ne-HEADER.true)
-
-pub returns-then-fields-ge-BYTE_RANGE : goal.returns-then-fields-ge-BYTE_RANGE
-unfolding header_answer
-returns-then-fields-ge-BYTE_RANGE c =
-    rw (eq-eqb _ _ c.if-fields-ne-FIELDS_IN_FRAME.false, eq-eqb _ _ c.if-header-ne-HEADER.false, no_kind (frame_of _) c.if-fields-ge-BYTE_RANGE.true)
-
-pub returns-then-not-in_range : goal.returns-then-not-in_range
-unfolding header_answer
-returns-then-not-in_range c =
-    rw (eq-eqb _ _ c.if-fields-ne-FIELDS_IN_FRAME.false, eq-eqb _ _ c.if-header-ne-HEADER.false, sym (ap in_range c.frame_of-f.ensures) ∙ sym c.in_range.ensures ∙ not-true _ c.if-not-in_range.true-raw)
-
-pub returns : goal.returns
-unfolding header_answer
-returns c =
-    rw (eq-eqb _ _ c.if-fields-ne-FIELDS_IN_FRAME.false, eq-eqb _ _ c.if-header-ne-HEADER.false, sym (ap in_range c.frame_of-f.ensures) ∙ sym c.in_range.ensures ∙ not-false _ c.if-not-in_range.false-raw)
-    (ap (answer 0) (c.write_header.ensures ∙ ap header_bytes c.frame_of-f.ensures))
+returns-in_default-frame_of c =
+    let f = c.in-Some.ensures.cases in
+    let h = c.in-Some-as_mut_array.ensures.cases in
+    let k = rw f.same at (ltb-false _ _ (none _ _ c.in_default-frame_of.ensures)) in
+    rw (eq-eqb _ _ f.long, eq-eqb _ _ h.long, no_kind (frame_of _) k) (ap (answer 1) h.same)

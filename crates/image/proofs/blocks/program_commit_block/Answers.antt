@@ -1,7 +1,7 @@
 -- `blocks::program_commit_block` programs part after part: with i parts done, those from i on are left to run.
 use Prim.Native.Nat.{ℕ, ◌+◌, ◌*◌}
 use native.Mathlib.Omega.{arith}
-use mathlib.Core.Path.{◌≡◌, refl, sym, ap, ◌∙◌}
+use mathlib.Core.Path.{◌≡◌, sym, ap, ◌∙◌}
 use mathlib.Core.List.{List}
 use Rattle.page.specs.Entry.{parts}
 use Rattle.image.specs.Size.{pages_in_block}
@@ -13,9 +13,6 @@ use Rattle.image.proofs.Runs.{run_next, run_none}
 use Rattle.image.proofs.CommitBlock.{commit_like}
 use Rattle.image.proofs.blocks.program_commit_block.Goals as goal
 
-pub loop-i-init : goal.loop-i-init
-loop-i-init c = (omega arith, refl, refl)
-
 pub loop-i-preserved : goal.loop-i-preserved
 loop-i-preserved c =
     let l = c.loop-i in
@@ -25,15 +22,9 @@ loop-i-preserved c =
     let e : device w.result w.new.image ≡ act (row_step a.b page l.i) (device l.q l.image) =
     w.ensures
     ∙ ap (λ (xs : List ℕ). act (program (a.b * pages_in_block + l.i) xs) (device l.q l.image))
-    (commit_like a.epoch l.i a.covered _ _ _ c.write_header.ensures c.commit.ensures) in (
-      omega arith,
-      w.auto.image ∙ l.invariant.1,
-      l.invariant.2 ∙ run_next (row_step a.b page) parts l.i (device l.q l.image) (device w.result w.new.image) (omega arith) e,
-    )
-
-pub shape_of-image : goal.shape_of-image
-shape_of-image c = c.loop-i.invariant.1
+    (commit_like a.epoch l.i a.covered _ _ _ c.write_header.ensures c.commit.ensures) in
+    l.invariant ∙ run_next (row_step a.b page) parts l.i (device l.q l.image) (device w.result w.new.image) (omega arith) e
 
 pub returns : goal.returns
 unfolding commit_block_steps
-returns c = let l = c.loop-i in sym (l.invariant.2 ∙ run_none _ parts l.i _ c.loop-i-test.false)
+returns c = let l = c.loop-i in sym (l.invariant ∙ run_none _ parts l.i _ c.loop-i-test.false)

@@ -1,7 +1,6 @@
 -- `blocks::program_commit_block` programs part after part: with i parts done, those from i on are left to run.
-use Prim.Native.Nat.{◌≤◌, ◌-◌}
+use Prim.Native.Nat.{◌-◌}
 use mathlib.Core.Path.{◌≡◌}
-use lib.ListN.{length}
 use Rattle.page.specs.Entry.{parts}
 use Rattle.image.specs.Power.{device, run}
 use Rattle.image.specs.Block.{commit_block_page}
@@ -10,10 +9,5 @@ use Rattle.image.proofs.blocks.program_commit_block.Given as goal
 
 abbrev pub invariant-loop-i : goal.invariant-loop-i
 invariant-loop-i l =
-    (l.i ≤ parts)
-    × (length l.image ≡ length l.initial.image)
-    × (run (row_steps l.b (commit_block_page l.epoch l.covered l.map l.letters) parts 0) (device l.initial.q l.initial.image)
-    ≡ run (row_steps l.b (commit_block_page l.epoch l.covered l.map l.letters) (parts - l.i) l.i) (device l.q l.image))
-
-abbrev pub decreases-loop-i : goal.decreases-loop-i
-decreases-loop-i l = parts - l.i
+    run (row_steps l.b (commit_block_page l.epoch l.covered l.map l.letters) parts 0) (device l.initial.q l.initial.image)
+    ≡ run (row_steps l.b (commit_block_page l.epoch l.covered l.map l.letters) (parts - l.i) l.i) (device l.q l.image)

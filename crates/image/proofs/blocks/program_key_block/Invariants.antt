@@ -1,7 +1,6 @@
 -- `blocks::program_key_block` programs page after page: with i pages done, those from i on are left to run, and the last copy stands.
-use Prim.Native.Nat.{◌≤◌, ◌-◌}
+use Prim.Native.Nat.{◌-◌}
 use mathlib.Core.Path.{◌≡◌}
-use lib.ListN.{length}
 use Rattle.image.specs.Size.{pages_in_block}
 use Rattle.image.specs.Look.{block_at}
 use Rattle.image.specs.Power.{device, run}
@@ -11,11 +10,6 @@ use Rattle.image.proofs.blocks.program_key_block.Given as goal
 
 abbrev pub invariant-loop-i : goal.invariant-loop-i
 invariant-loop-i l =
-    (l.i ≤ pages_in_block)
-    × (length l.image ≡ length l.initial.image)
-    × (block_at l.image l.last ≡ block_at l.initial.image l.last)
+    (block_at l.image l.last ≡ block_at l.initial.image l.last)
     × (run (row_steps l.b (key_block_page l.epoch l.block (renewed_key (block_at l.initial.image l.last) l.letters l.noise)) pages_in_block 0) (device l.initial.q l.initial.image)
     ≡ run (row_steps l.b (key_block_page l.epoch l.block (renewed_key (block_at l.initial.image l.last) l.letters l.noise)) (pages_in_block - l.i) l.i) (device l.q l.image))
-
-abbrev pub decreases-loop-i : goal.decreases-loop-i
-decreases-loop-i l = pages_in_block - l.i

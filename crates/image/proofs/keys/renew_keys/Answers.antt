@@ -14,5 +14,5 @@ returns c =
     let a = c.args in
     let copied = c.copy.ensures ∙ lent-part a.noise.now (key_size * a.first) payload_size in
     c.keep_used.ensures
-    ∙ ap₂ (λ (page keys : List ℕ). keys_from (kept_key page a.letters.now keys a.first) keys_in_page 0) c.page_at-page.ensures.0 copied
+    ∙ ap₂ (λ (page keys : List ℕ). keys_from (kept_key page a.letters.now keys a.first) keys_in_page 0) c.page_at-page.ensures copied
     ∙ renewed-page a.image.now a.letters.now a.noise.now a.last a.i a.first c.requires.first_lt_positions.1

@@ -1,5 +1,5 @@
 -- `look::block_empty`: a block is empty where its pages are, and all are where those left are.
-use Prim.Native.Nat.{◌≤◌, ◌+◌, ◌-◌, ◌*◌}
+use Prim.Native.Nat.{◌+◌, ◌-◌}
 use mathlib.Core.Path.{◌≡◌}
 use Rattle.base.specs.Search.{all_from}
 use Rattle.image.specs.Size.{pages_in_block}
@@ -7,8 +7,4 @@ use Rattle.image.specs.Look.{page_empty, block_empty}
 use Rattle.image.proofs.look.block_empty.Given as goal
 
 abbrev pub invariant-loop-g : goal.invariant-loop-g
-invariant-loop-g l =
-    (l.b * pages_in_block ≤ l.g) × (l.g ≤ l.b * pages_in_block + pages_in_block) × (l.end ≡ l.b * pages_in_block + pages_in_block) × (block_empty l.image l.b ≡ all_from (page_empty l.image) (l.end - l.g) l.g)
-
-abbrev pub decreases-loop-g : goal.decreases-loop-g
-decreases-loop-g l = l.end - l.g
+invariant-loop-g l = block_empty l.image l.b ≡ all_from (page_empty l.image) (l.first + pages_in_block - l.g) l.g

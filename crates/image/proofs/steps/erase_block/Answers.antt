@@ -5,15 +5,13 @@ use Rattle.image.proofs.Lent.{lent-erase}
 use borrow.Author.Rules.{rules}
 use Rattle.image.proofs.steps.erase_block.Goals as goal
 
--- src/steps.rt:59:9
 pub returns-then-not-p : goal.returns-then-not-p
 returns-then-not-p c = sym (act_off _ c.args.p c.args.image.now (not-true _ c.if-not-p.true))
 
--- src/steps.rt:54:1
 pub returns : goal.returns
 returns c =
     let a = c.args in
     lent-erase a.image.now a.p c.after_step.result (not-false _ c.if-not-p.false) c.after_step.ensures
     c.reach_of.result c.reach_of.ensures _
-    a.b c.smaller-n.result (search rules) c.smaller-n.ensures
+    a.b c.min-n.result (search rules) c.min-n.ensures
     c.fill.ensures

@@ -1,23 +1,15 @@
 -- `steps::program_part` lends the page of the image to the writer of a part of a commit.
 use borrow.Author.Rules.{rules}
-use mathlib.Core.Path.{sym}
-use borrow.Author.Tests.{not-true, not-false}
 use Rattle.page.specs.Page.{page_like}
 use Rattle.page.proofs.Pages.{like_length}
-use Rattle.image.proofs.Runs.{act_off}
-use Rattle.image.proofs.Lent.{lent-program}
 use Rattle.page.specs.Entry.{commit_payload}
 use Rattle.page.proofs.Commits.{payload-length}
 use Rattle.image.proofs.steps.program_part.Goals as goal
-
-pub returns-then-not-p : goal.returns-then-not-p
-returns-then-not-p c = sym (act_off _ c.args.p c.args.image.now (not-true _ c.if-not-p.true))
 
 pub returns : goal.returns
 returns c =
     let a = c.args in
     let payload = commit_payload a.map.now a.letters.now a.i in
-    lent-program a.image.now a.p c.after_step.result (not-false _ c.if-not-p.false) c.after_step.ensures
-    c.reach_of.result c.reach_of.ensures _ a.g (page_like a.header.now a.i payload)
-    (search rules, like_length a.header.now a.i payload c.requires.page_size_in_bounds.1 (payload-length a.map.now a.letters.now a.i c.requires.i_lt_parts.2))
-    c.write_part.ensures
+    c.program_by.ensures (page_like a.header.now a.i payload)
+    (like_length a.header.now a.i payload (search rules) (payload-length a.map.now a.letters.now a.i (search rules)))
+    (λ before after long w. search rules)

@@ -10,4 +10,4 @@ returns-in_default c =
 pub returns : goal.returns
 returns c =
     let a = c.args in
-    rw c.in-Are.is at (pair-holds a.low a.high a.a a.b _ c.pair_of.ensures c.requires.0 c.requires.1)
+    rw c.in-Some.is at (pair-holds a.low a.high a.a a.b _ c.pair_of.ensures c.requires.0 c.requires.1)

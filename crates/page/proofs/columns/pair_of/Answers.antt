@@ -1,6 +1,5 @@
 -- `columns::pair_of` tests all eight columns at once, and joins their digits to two numbers.
 use borrow.Author.Rules.{rules}
-use borrow.Author.Tests.{not-true, not-false}
 use native.Mathlib.Omega.{arith}
 use lib.Bits.{and_le_r}
 use Rattle.page.proofs.CountedWords.{rests_in}
@@ -17,7 +16,7 @@ overflow_sub-before c = marked_least c.eight-changed.result c.args.low c.args.hi
 
 pub returns-then-not-right : goal.returns-then-not-right
 returns-then-not-right c =
-    no_pair c.eight-changed.result c.args.low c.args.high (search rules) c.eight-changed.ensures (not-true _ c.if-not-right.true-raw)
+    no_pair c.eight-changed.result c.args.low c.args.high (search rules) c.eight-changed.ensures (c.if-not-right.true)
 
 pub overflow_mul-pairs : goal.overflow_mul-pairs
 overflow_mul-pairs c = omega (arith, and_le_r (rests_in c.eight-changed.result) 0x00ff00ff00ff00ff)
@@ -43,4 +42,4 @@ overflow_cast-second c = omega (arith, fours_le (pairs_of (rests_in c.eight-chan
 
 pub returns : goal.returns
 returns c =
-    pair_is c.eight-changed.result c.args.low c.args.high (search rules) c.eight-changed.ensures (not-false _ c.if-not-right.false-raw)
+    pair_is c.eight-changed.result c.args.low c.args.high (search rules) c.eight-changed.ensures (c.if-not-right.false)

@@ -3,13 +3,9 @@ use native.Mathlib.Omega.{arith}
 use Prim.Native.Nat.{ℕ, ◌+◌}
 use mathlib.Core.Path.{ap, ◌∙◌}
 use Rattle.page.specs.Word.{word_bytes}
-use Rattle.page.proofs.Spellings.{three_room, four-room, all_four, three_digits_lem, four_digits_lem}
+use Rattle.page.proofs.Spellings.{four-room, all_four, three_digits_lem, four_digits_lem}
 use borrow.Author.Rules.{rules}
 use Rattle.page.proofs.columns.spelt_middle.Goals as goal
-
-pub overflow_add-result : goal.overflow_add-result
-overflow_add-result c =
-    omega (arith, c.three_digits.ensures, three_room c.args.n (search rules))
 
 pub returns-then-n-lt1000 : goal.returns-then-n-lt1000
 returns-then-n-lt1000 c =

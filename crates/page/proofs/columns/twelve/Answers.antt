@@ -30,9 +30,9 @@ returns-then-n-ge100000000 c =
     let n = c.args.n in
     let w = c.hundred_millions-x in
     let m = bit_and w.result 0xffff in
-    c.put4.ensures ∙ ap (λ (l : List ℕ). splice l 0 (spell 4 m)) c.put8.ensures
+    c.put_columns-then-n-ge100000000.ensures ∙ ap (λ (l : List ℕ). splice l 0 (spell 4 m)) c.put_columns.ensures
     ∙ twelve_columns n m (first n w.result (search rules) w.ensures) (search rules)
 
 pub returns-else-n-ge100000000 : goal.returns-else-n-ge100000000
 returns-else-n-ge100000000 c =
-    c.put8.ensures ∙ twelve_spaces c.args.n (search rules)
+    c.put_columns.ensures ∙ twelve_spaces c.args.n (search rules)

@@ -1,5 +1,5 @@
 -- `page::entries::all_entries` meets its contract: all are entries where what is left are.
-use Prim.Native.Nat.{ℕ, ◌≤◌, ◌-◌, ◌*◌}
+use Prim.Native.Nat.{ℕ, ◌-◌, ◌*◌}
 use mathlib.Core.Path.{◌≡◌}
 use mathlib.Core.Bool.{Bool}
 use mathlib.Core.List.{List}
@@ -13,7 +13,4 @@ abbrev pub entry_at_place : List ℕ → ℕ → Bool
 entry_at_place payload j = is_entry (entry_of (part payload (entry_size * j) entry_size))
 
 abbrev pub invariant-loop-j : goal.invariant-loop-j
-invariant-loop-j l = (l.j ≤ entries_in_part) × (all_from (entry_at_place l.payload) entries_in_part 0 ≡ all_from (entry_at_place l.payload) (entries_in_part - l.j) l.j)
-
-abbrev pub decreases-loop-j : goal.decreases-loop-j
-decreases-loop-j l = entries_in_part - l.j
+invariant-loop-j l = all_from (entry_at_place l.payload) entries_in_part 0 ≡ all_from (entry_at_place l.payload) (entries_in_part - l.j) l.j

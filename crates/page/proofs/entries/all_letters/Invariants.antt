@@ -1,5 +1,5 @@
--- `page::entries::all_letters` meets its contract: all are letters where those passed are and those from j on.
-use Prim.Native.Nat.{ℕ, ◌≤◌, ◌-◌}
+-- `page::entries::all_letters` meets its contract: all are letters where those passed are and those from there on.
+use Prim.Native.Nat.{ℕ, ◌-◌}
 use mathlib.Core.Path.{◌≡◌}
 use mathlib.Core.Bool.{Bool, ◌&&◌}
 use mathlib.Core.List.{List}
@@ -13,9 +13,6 @@ use Rattle.page.proofs.entries.all_letters.Given as goal
 abbrev pub letter_at : List ℕ → ℕ → Bool
 letter_at payload j = is_letter (get_or payload j 0)
 
-abbrev pub invariant-loop-j : goal.invariant-loop-j
-invariant-loop-j l =
-    (l.j ≤ payload_size) × (all_from (letter_at l.payload) payload_size 0 ≡ l.all && all_from (letter_at l.payload) (payload_size - l.j) l.j)
-
-abbrev pub decreases-loop-j : goal.decreases-loop-j
-decreases-loop-j l = payload_size - l.j
+abbrev pub invariant-loop-b : goal.invariant-loop-b
+invariant-loop-b l =
+    all_from (letter_at l.payload) payload_size 0 ≡ l.all && all_from (letter_at l.payload) (payload_size - l.b-index) l.b-index

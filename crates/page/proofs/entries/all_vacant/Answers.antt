@@ -9,4 +9,4 @@ use Rattle.page.proofs.entries.all_vacant.Goals as goal
 pub returns : goal.returns
 unfolding part
 returns c =
-    (λ i. c.same.ensures i && c.same8.ensures i) ∙ repeats_decide c.args.payload.now entry_size vacant_entry 27
+    (λ i. c.same.ensures i && c.same-2.ensures i) ∙ repeats_decide c.args.payload.now entry_size vacant_entry 27

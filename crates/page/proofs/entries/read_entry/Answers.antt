@@ -25,7 +25,7 @@ returns-then-page-gt-LAST_PAGE c =
     rw (
       entry_by_pair _ (sym c.is_vacant.ensures ∙ c.if-is_vacant.false),
       ← pair,
-      c.in-Are.is,
+      c.in-Some.is,
       lt-leb _ _ c.if-page-gt-LAST_PAGE.true,
     )
 
@@ -35,7 +35,7 @@ returns-then-key-gt-LAST_POSITION c =
     rw (
       entry_by_pair _ (sym c.is_vacant.ensures ∙ c.if-is_vacant.false),
       ← pair,
-      c.in-Are.is,
+      c.in-Some.is,
       le-leb _ _ c.if-page-gt-LAST_PAGE.false,
       lt-leb _ _ c.if-key-gt-LAST_POSITION.true,
     )
@@ -46,7 +46,7 @@ returns c =
     rw (
       entry_by_pair _ (sym c.is_vacant.ensures ∙ c.if-is_vacant.false),
       ← pair,
-      c.in-Are.is,
+      c.in-Some.is,
       le-leb _ _ c.if-page-gt-LAST_PAGE.false,
       le-leb _ _ c.if-key-gt-LAST_POSITION.false,
     )

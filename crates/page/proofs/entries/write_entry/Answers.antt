@@ -13,7 +13,7 @@ use Rattle.page.proofs.entries.write_entry.Goals as goal
 
 pub returns-then-page-eq-NONE : goal.returns-then-page-eq-NONE
 unfolding entry_bytes
-returns-then-page-eq-NONE c = rw (eq-eqb _ _ c.if-page-eq-NONE.true) c.copy.ensures
+returns-then-page-eq-NONE c = rw (eq-eqb _ _ c.if-page-eq-NONE.true)
 
 pub returns-else-page-eq-NONE : goal.returns-else-page-eq-NONE
 unfolding entry_bytes
@@ -25,7 +25,7 @@ returns-else-page-eq-NONE c =
     let m = length-spell 4 key (omega arith) in
     rw (
       ne_eqb _ _ c.if-page-eq-NONE.false,
-      c.put4-else-page-eq-NONE.ensures,
-      c.put4.ensures,
+      c.put_columns-else-page-eq-NONE.ensures,
+      c.put_columns.ensures,
     )
     (splice_join dst 0 4 (spell 4 page) (spell 4 key) l (omega (arith, c.requires)) ∙ splice_all dst (spell 4 page ++ spell 4 key) (simp length-append (omega (arith, l, m, c.requires))))

@@ -1,7 +1,7 @@
--- `page::forms::all_erased` meets its contract: all bytes are FFh where those passed are and those from i on.
+-- `page::forms::all_erased` meets its contract: all bytes are FFh where those passed are and those from there on.
 use native.Mathlib.Omega.{arith}
 use native.Mathlib.Numerals.{add-one}
-use mathlib.Core.Path.{refl, sym, ◌∙◌}
+use mathlib.Core.Path.{sym, ◌∙◌}
 use lib.ListN.{drop_of_length-le}
 use lib.Seq.{drop-cons}
 use Rattle.base.specs.Each.{all_are}
@@ -9,21 +9,16 @@ use Rattle.base.proofs.Choice.{and_assoc, and-passed}
 use Rattle.page.specs.Form.{is_empty}
 use Rattle.page.proofs.forms.all_erased.Goals as goal
 
-pub loop-i-init : goal.loop-i-init
-loop-i-init c = (omega arith, refl)
-
-pub loop-i-preserved : goal.loop-i-preserved
+pub loop-b-preserved : goal.loop-b-preserved
 unfolding is_empty all_are
-loop-i-preserved c =
-    let l = c.loop-i in (
-      omega arith,
-      l.invariant.1
-          ∙ rw (drop-cons c.args.bytes.now l.i 0 (omega arith), add-one)
-          (and_assoc l.all _ _),
-    )
+loop-b-preserved c =
+    let l = c.loop-b in
+    l.invariant
+    ∙ rw (drop-cons c.args.bytes.now l.b-index 0 (omega arith), add-one)
+    (and_assoc l.all _ _)
 
 pub returns : goal.returns
 unfolding is_empty all_are
 returns c =
-    let l = c.loop-i in
-    sym (l.invariant.1 ∙ rw (drop_of_length-le c.args.bytes.now {i = l.i} c.loop-i-test.false) (and-passed l.all))
+    let l = c.loop-b in
+    sym (l.invariant ∙ rw (drop_of_length-le c.args.bytes.now {i = l.b-index} (omega arith)) (and-passed l.all))

@@ -5,4 +5,4 @@ use Rattle.page.proofs.forms.is_closed.Goals as goal
 
 pub returns : goal.returns
 unfolding closed part
-returns c = c.same2.ensures
+returns c = c.same.ensures

@@ -1,27 +1,32 @@
 -- `headers::in_range` goes by the kind letter.
-use borrow.Author.Tests.{eq-eqb, ne_eqb}
+use mathlib.Core.Path.{◌≡◌}
+use mathlib.Core.Bool.{false}
+use borrow.Author.Rules.{rules}
+use borrow.Author.Tests.{ne_eqb}
 use Rattle.page.specs.Header.{in_range}
+use Rattle.page.specs.declared.Frame.{Frame}
 use Rattle.page.proofs.headers.in_range.Goals as goal
 
-pub returns-then-f-eq-NODE_LETTER : goal.returns-then-f-eq-NODE_LETTER
+pub returns-in-78 : goal.returns-in-78
 unfolding in_range
-returns-then-f-eq-NODE_LETTER c = rw (eq-eqb _ _ c.if-f-eq-NODE_LETTER.true) c.is_node.ensures
+returns-in-78 c = rw c.in-78.is c.is_node.ensures
 
-pub returns-then-f-eq-CUT_OFF_LETTER : goal.returns-then-f-eq-CUT_OFF_LETTER
+pub returns-in-68 : goal.returns-in-68
 unfolding in_range
-returns-then-f-eq-CUT_OFF_LETTER c = rw (ne_eqb _ _ c.if-f-eq-NODE_LETTER.false, eq-eqb _ _ c.if-f-eq-CUT_OFF_LETTER.true) c.is_cut_off.ensures
+returns-in-68 c = rw c.in-68.is c.is_cut_off.ensures
 
-pub returns-then-f-eq-KEYS_LETTER : goal.returns-then-f-eq-KEYS_LETTER
+pub returns-in-75 : goal.returns-in-75
 unfolding in_range
-returns-then-f-eq-KEYS_LETTER c =
-    rw (ne_eqb _ _ c.if-f-eq-NODE_LETTER.false, ne_eqb _ _ c.if-f-eq-CUT_OFF_LETTER.false, eq-eqb _ _ c.if-f-eq-KEYS_LETTER.true) c.is_keys.ensures
+returns-in-75 c = rw c.in-75.is c.is_keys.ensures
 
-pub returns-then-f-eq-COMMIT_LETTER : goal.returns-then-f-eq-COMMIT_LETTER
+pub returns-in-67 : goal.returns-in-67
 unfolding in_range
-returns-then-f-eq-COMMIT_LETTER c =
-    rw (ne_eqb _ _ c.if-f-eq-NODE_LETTER.false, ne_eqb _ _ c.if-f-eq-CUT_OFF_LETTER.false, ne_eqb _ _ c.if-f-eq-KEYS_LETTER.false, eq-eqb _ _ c.if-f-eq-COMMIT_LETTER.true) c.is_commit.ensures
+returns-in-67 c = rw c.in-67.is c.is_commit.ensures
 
-pub returns : goal.returns
+-- no other letter has a range
+no_range : (f : Frame) → (f.kind ≡ 78 → ⊥) → (f.kind ≡ 68 → ⊥) → (f.kind ≡ 75 → ⊥) → (f.kind ≡ 67 → ⊥) → false ≡ in_range f
 unfolding in_range
-returns c =
-    rw (ne_eqb _ _ c.if-f-eq-NODE_LETTER.false, ne_eqb _ _ c.if-f-eq-CUT_OFF_LETTER.false, ne_eqb _ _ c.if-f-eq-KEYS_LETTER.false, ne_eqb _ _ c.if-f-eq-COMMIT_LETTER.false)
+no_range f a b c d = rw (ne_eqb _ _ a, ne_eqb _ _ b, ne_eqb _ _ c, ne_eqb _ _ d)
+
+pub returns-in_default : goal.returns-in_default
+returns-in_default c = no_range c.args.f (search rules) (search rules) (search rules) (search rules)

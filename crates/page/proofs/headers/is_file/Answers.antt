@@ -6,4 +6,4 @@ use Rattle.page.proofs.headers.is_file.Goals as goal
 pub returns : goal.returns
 returns c =
     let a = c.args in
-    file_decides a.src.now c.word4.result a.text a.file c.word4.ensures c.requires.1 (search rules) (search rules)
+    file_decides a.src.now c.word4.result a.text a.file c.word4.ensures c.requires (search rules) (search rules)

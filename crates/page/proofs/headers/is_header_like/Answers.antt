@@ -1,4 +1,5 @@
 -- `headers::is_header_like` compares all but the part with the first header.
+use borrow.Author.Rules.{rules}
 use Rattle.page.proofs.HeaderParts.{like_decides}
 use Rattle.page.proofs.headers.is_header_like.Goals as goal
 
@@ -6,12 +7,12 @@ pub returns : goal.returns
 returns c =
     let f = c.requires.first_value in
     rw (
-      c.same8.ensures,
-      c.same4.ensures,
+      c.same.ensures,
+      c.same-2.ensures,
       c.is_word4.ensures,
       c.spelt4.ensures,
-      c.same8-2.ensures,
-      c.same4-2.ensures,
-      c.same2.ensures,
+      c.same-3.ensures,
+      c.same-4.ensures,
+      c.same-5.ensures,
     )
-    (like_decides c.args.src.now c.args.first.now c.args.part f.0 c.requires.first_len.1 c.requires.first_len.0 f.1 f.2)
+    (like_decides c.args.src.now c.args.first.now c.args.part f.0 (search rules) (search rules) f.1 f.2)

@@ -2,7 +2,7 @@
 use native.Mathlib.Omega.{arith}
 use mathlib.Core.Path.{◌≡◌, sym, ◌∙◌}
 use mathlib.Core.Bool.{◌&&◌}
-use borrow.Author.Tests.{not-true, not-false}
+use borrow.Author.Rules.{rules}
 use Rattle.base.specs.Part.{part}
 use Rattle.page.proofs.HeaderParts.{named, unnamed_node, named_node, node_small}
 use Rattle.page.proofs.headers.is_node_of.Goals as goal
@@ -10,22 +10,22 @@ use Rattle.page.proofs.headers.is_node_of.Goals as goal
 pub hold-requires : goal.hold-requires
 hold-requires c =
     let a = c.args in
-    let small = node_small a.src.now a.file a.offset a.position c.requires.0 c.requires.1 in
+    let small = node_small a.src.now a.file a.offset a.position (search rules) c.requires.0 in
     (omega (arith, small.0), omega (arith, small.1))
 
 pub returns-then-not-named : goal.returns-then-not-named
 unfolding part
 returns-then-not-named c =
     let a = c.args in
-    let tested : (c.is_file.result && c.hold.result) ≡ named a.src.now a.file a.offset a.position c.requires.0 =
+    let tested : (c.is_file.result && c.hold.result) ≡ named a.src.now a.file a.offset a.position (search rules) =
     rw (c.is_file.ensures, c.hold.ensures, c.word4.ensures, c.word4-2.ensures) in
-    unnamed_node a.src.now a.file a.offset a.position c.requires.0 (sym tested ∙ not-true _ c.if-not-named.true-raw)
+    unnamed_node a.src.now a.file a.offset a.position (search rules) (sym tested ∙ c.if-not-named.true)
 
 pub returns : goal.returns
 unfolding part
 returns c =
     let a = c.args in
-    let tested : (c.is_file.result && c.hold.result) ≡ named a.src.now a.file a.offset a.position c.requires.0 =
+    let tested : (c.is_file.result && c.hold.result) ≡ named a.src.now a.file a.offset a.position (search rules) =
     rw (c.is_file.ensures, c.hold.ensures, c.word4.ensures, c.word4-2.ensures) in
-    rw (c.same2.ensures, c.is_counted.ensures, c.word8.ensures)
-    (named_node a.src.now a.file a.offset a.position c.requires.0 (sym tested ∙ not-false _ c.if-not-named.false-raw))
+    rw (c.same.ensures, c.is_counted.ensures, c.word8.ensures)
+    (named_node a.src.now a.file a.offset a.position (search rules) (sym tested ∙ c.if-not-named.false))

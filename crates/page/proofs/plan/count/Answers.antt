@@ -1,65 +1,12 @@
--- `page::plan::count` meets its contract: past the last file a plan has none, and else file by file.
+-- `page::plan::count` meets its contract: the table has the plan's counts, and past its end there is none.
 use native.Mathlib.Omega.{arith}
-use mathlib.Core.Path.{◌≡◌, sym}
-use Rattle.page.specs.Plan.{file_plan, count_of}
-use Rattle.page.proofs.Plans.{count_beyond, last_file_lem}
+use mathlib.Core.Path.{ap, ◌∙◌}
+use Prim.Native.Nat.{ℕ}
+use Rattle.std.specs.Prelude.{Option}
+use Rattle.std.specs.Option.{unwrap_or}
+use Rattle.page.specs.Plan.{count_of}
 use Rattle.page.proofs.plan.count.Goals as goal
 
-pub returns-then-file-gt-LAST_FILE : goal.returns-then-file-gt-LAST_FILE
-returns-then-file-gt-LAST_FILE c = sym (count_beyond file_plan c.args.file (omega arith))
-
-pub returns-in-0 : goal.returns-in-0
+pub returns : goal.returns
 unfolding count_of
-returns-in-0 c = let e : c.args.file ≡ 0 = omega arith in rw e
-
-pub returns-in-1 : goal.returns-in-1
-unfolding count_of
-returns-in-1 c = let e : c.args.file ≡ 1 = omega arith in rw e
-
-pub returns-in-2 : goal.returns-in-2
-unfolding count_of
-returns-in-2 c = let e : c.args.file ≡ 2 = omega arith in rw e
-
-pub returns-in-3 : goal.returns-in-3
-unfolding count_of
-returns-in-3 c = let e : c.args.file ≡ 3 = omega arith in rw e
-
-pub returns-in-4 : goal.returns-in-4
-unfolding count_of
-returns-in-4 c = let e : c.args.file ≡ 4 = omega arith in rw e
-
-pub returns-in-5 : goal.returns-in-5
-unfolding count_of
-returns-in-5 c = let e : c.args.file ≡ 5 = omega arith in rw e
-
-pub returns-in-6 : goal.returns-in-6
-unfolding count_of
-returns-in-6 c = let e : c.args.file ≡ 6 = omega arith in rw e
-
-pub returns-in-7 : goal.returns-in-7
-unfolding count_of
-returns-in-7 c = let e : c.args.file ≡ 7 = omega arith in rw e
-
-pub returns-in-8 : goal.returns-in-8
-unfolding count_of
-returns-in-8 c = let e : c.args.file ≡ 8 = omega arith in rw e
-
-pub returns-in-9 : goal.returns-in-9
-unfolding count_of
-returns-in-9 c = let e : c.args.file ≡ 9 = omega arith in rw e
-
-pub returns-in-10 : goal.returns-in-10
-unfolding count_of
-returns-in-10 c = let e : c.args.file ≡ 10 = omega arith in rw e
-
-pub returns-in-11 : goal.returns-in-11
-unfolding count_of
-returns-in-11 c = let e : c.args.file ≡ 11 = omega arith in rw e
-
-pub returns-in-12 : goal.returns-in-12
-unfolding count_of
-returns-in-12 c = let e : c.args.file ≡ 12 = omega arith in rw e
-
-pub returns-in_default : goal.returns-in_default
-unfolding count_of
-returns-in_default c = let e = last_file_lem c.args.file c.if-file-gt-LAST_FILE.false c.in_default.in_default-own.rest in rw e
+returns c = c.unwrap_or.ensures ∙ ap (λ (o : Option ℕ). unwrap_or o 0) c.copied.ensures ∙ c.get.ensures.lookup.4 (omega arith) 0

@@ -8,19 +8,19 @@ use Rattle.page.proofs.plan.file_at.Goals as goal
 
 pub loop-file-init : goal.loop-file-init
 unfolding start_of
-loop-file-init c = (omega arith, omega arith)
+loop-file-init c = omega arith
 
 pub returns-then-x-start : goal.returns-then-x-start
 returns-then-x-start c =
     let l = c.loop-file in
     let e = start_next file_plan l.file in
-    (l.invariant.0, l.invariant.1, omega (arith, e, rw add-one at c.start.ensures))
+    (omega arith, l.invariant, omega (arith, e, rw add-one at c.start.ensures))
 
 pub loop-file-preserved : goal.loop-file-preserved
-loop-file-preserved c = (omega arith, omega (arith, c.start.ensures))
+loop-file-preserved c = omega (arith, c.start.ensures)
 
 pub returns : goal.returns
 returns c =
     let l = c.loop-file in
     let last : l.file ≡ last_file = omega arith in
-    (l.invariant.0, l.invariant.1, rw last (omega (arith, start_next file_plan last_file, plan_sum)))
+    (omega arith, rw last at l.invariant, omega (arith, start_next file_plan last_file, plan_sum))

@@ -7,4 +7,4 @@ use Rattle.page.proofs.writers.read_payload.Goals as goal
 
 pub returns : goal.returns
 returns c =
-    front_enciphered c.args.key _ c.args.page.now _ _ (length c.args.out.now) c.requires.1 c.apply_stream.ensures c.expand.ensures (c.copy.ensures ∙ lent-part c.args.page.now header_size (length c.args.out.now))
+    front_enciphered c.args.key _ c.args.page.now _ _ (length c.args.out.now) c.requires c.apply_stream.ensures c.expand.ensures (c.copy.ensures ∙ lent-part c.args.page.now header_size (length c.args.out.now))

@@ -10,4 +10,4 @@ returns c =
     let a = c.args in
     c.cut.ensures
     ∙ ap (cut_page a.k)
-    (node_written a.sequence a.file a.offset a.position (length a.payload.now) a.key (padded a.payload.now) (padded-length a.payload.now c.requires.1) _ _ _ c.node.ensures c.write_padded.ensures c.encipher.ensures)
+    (node_written a.sequence a.file a.offset a.position (length a.payload.now) a.key (padded a.payload.now) (padded-length a.payload.now c.requires) _ _ _ c.node.ensures c.write_padded.ensures c.encipher.ensures)

@@ -6,5 +6,6 @@ use Rattle.page.proofs.writers.write_padded.Goals as goal
 
 pub returns : goal.returns
 returns c =
+    let payload = c.args.payload.now in
     c.close.ensures
-    ∙ rw (c.write_header.ensures, c.put_padded.ensures) (page_written c.args.f (padded c.args.payload.now) (padded-length c.args.payload.now c.requires.1) c.args.page.now)
+    ∙ rw (c.write_header.ensures, c.put_padded.ensures) (page_written c.args.f (padded payload) (padded-length payload c.requires) _)

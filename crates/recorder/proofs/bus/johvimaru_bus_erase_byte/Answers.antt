@@ -4,7 +4,7 @@ use Rattle.recorder.proofs.bus.johvimaru_bus_erase_byte.Goals as goal
 
 pub returns-then-block-gt-LAST_BLOCK : goal.returns-then-block-gt-LAST_BLOCK
 unfolding erase_byte
-returns-then-block-gt-LAST_BLOCK c = rw (lt-leb _ _ c.if-block-gt-LAST_BLOCK.true)
+returns-then-block-gt-LAST_BLOCK c = rw (lt-leb _ _ c.if-block-gt-LAST_BLOCK.true, c.number.ensures)
 
 pub returns : goal.returns
 unfolding erase_byte

@@ -15,7 +15,6 @@ renew-requires c =
     (record {
       able = (begin_able a.image.now r t.ready t.room, c.requires.1 ∙ begin-spare a.image.now r t.ready t.room, keys0_chosen a.numbers, keys1_chosen a.numbers);
       le_sequence = (sequence-some a.image.now r t.ready, t.numbers_left);
-      map_len = (t.ready.buffers.map_full, c.clean.auto.letters ∙ t.ready.buffers.letters_full, t.noise_full);
     })
 
 pub returns : goal.returns

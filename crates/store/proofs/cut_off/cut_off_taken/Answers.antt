@@ -12,11 +12,11 @@ pub remove-requires : goal.remove-requires
 remove-requires c =
     let a = c.args in
     let t = c.requires.0 in
-    (t.ready.buffers.map_full, t.ready.buffers.letters_full, t.planned, key_below a.image.now (record_of a.map.now a.letters.now a.numbers) t.ready)
+    (t.planned, key_below a.image.now (record_of a.map.now a.letters.now a.numbers) t.ready)
 
 pub returns : goal.returns
 returns c =
     let a = c.args in
     let r = record_of a.map.now a.letters.now a.numbers in
     rw (c.taken.ensures, c.next_sequence.ensures)
-    (cut_off-left a.image.now r a.file a.offset a.n a.k a.g _ _ c.requires.0 c.requires.1 c.program_cut_off-power.ensures (c.remove.ensures a.numbers))
+    (cut_off-left a.image.now r a.file a.offset a.n a.k a.g _ _ c.requires.0 c.requires.1 (rw c.power_for.ensures at c.program_cut_off-power.ensures) (c.remove.ensures a.numbers))

@@ -1,31 +1,18 @@
--- The loop's invariant: the lowest f is the first f from p on. The measure is what is left of the positions.
-use native.Mathlib.Omega.{arith}
-use mathlib.Core.Path.{refl}
-use lib.ListN.{get_or}
+-- The lowest f is the first f.
+use borrow.Author.Rules.{rules}
+use borrow.Author.Tests.{tests}
+use mathlib.Core.Path.{◌∙◌}
 use lib.Dec.{eqb}
-use borrow.Author.Tests.{eq-eqb, ne_eqb, lt-ltb, le-ltb}
-use Rattle.base.proofs.Searches.{first_here, first_next, first_none}
-use Rattle.page.specs.Key.{positions}
+use Rattle.std.proofs.lemmas.Iterator.{YieldsList-from_slice}
+use Rattle.std.proofs.lemmas.Iterator.Search.{position_from_yields_List}
 use Rattle.page.specs.Entry.{free_letter}
 use Rattle.store.specs.Find.{lowest_free}
+use Rattle.store.proofs.Finds.{first_position}
 use Rattle.store.proofs.find.lowest_free.Goals as goal
 
-pub loop-p-init : goal.loop-p-init
-unfolding lowest_free
-loop-p-init c = (omega arith, refl)
-
-pub returns-then-letters-p-eq-FREE : goal.returns-then-letters-p-eq-FREE
-returns-then-letters-p-eq-FREE c =
-    let l = c.loop-p in
-    let here = first_here (λ q. eqb (get_or c.args.letters.now q 0) free_letter) positions l.p (omega arith) (eq-eqb _ _ c.if-letters-p-eq-FREE.true) in
-    rw (l.invariant.1, here, lt-ltb l.p positions (omega arith))
-
-pub loop-p-preserved : goal.loop-p-preserved
-loop-p-preserved c =
-    let l = c.loop-p in
-    (omega arith, rw (l.invariant.1, first_next _ positions l.p (omega arith) (ne_eqb _ _ c.if-letters-p-eq-FREE.false)))
-
 pub returns : goal.returns
+unfolding lowest_free
 returns c =
-    let l = c.loop-p in
-    rw (l.invariant.1, first_none _ positions l.p (omega arith), le-ltb l.p positions (omega arith))
+    let l = c.args.letters.now in
+    let first = position_from_yields_List (λ x. eqb x free_letter) _ _ _ c.position.ensures.ran (YieldsList-from_slice l cc) (λ x b q k. search (rules, tests)) in
+    first ∙ first_position (λ x. eqb x free_letter) l ∙ rw c.told-letters

@@ -28,7 +28,6 @@ returns-then-key-gt-LAST_POSITION c =
 
 pub is_whole_node-requires : goal.is_whole_node-requires
 is_whole_node-requires c = (
-  c.page_at.ensures.1,
   (node_range (node_frame 1 c.args.file c.args.offset c.args.key 0) refl).1 (record {
     from_one = omega arith;
     number = omega arith;
@@ -46,5 +45,5 @@ unfolding form_at
 returns c =
     let a = c.args in
     c.is_whole_node.ensures
-    ∙ ap (λ (page : List ℕ). whole_node a.file a.offset a.key (form_of page)) c.page_at.ensures.0
+    ∙ ap (λ (page : List ℕ). whole_node a.file a.offset a.key (form_of page)) c.page_at.ensures
     ∙ fields_node (start_of file_plan a.file + a.offset) a.key a.file a.offset (place_at_lem file_plan a.file a.offset c.requires.2) (form_at a.image.now a.page)

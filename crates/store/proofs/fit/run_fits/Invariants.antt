@@ -1,13 +1,6 @@
 -- `store::fit::run_fits` meets its contract, place by place.
-use Prim.Native.Nat.{◌≤◌, ◌-◌}
-use mathlib.Core.Path.{◌≡◌}
-use lib.ListN.{length}
 use Rattle.store.specs.Testing.{Tested}
 use Rattle.store.proofs.fit.run_fits.Given as goal
 
 abbrev pub invariant-loop-x : goal.invariant-loop-x
-invariant-loop-x l =
-    (l.from ≤ l.x) × (l.x ≤ l.end) × (length l.named ≡ length l.initial.named) × Tested l.image l.map l.named l.x
-
-abbrev pub decreases-loop-x : goal.decreases-loop-x
-decreases-loop-x l = l.end - l.x
+invariant-loop-x l = Tested l.image l.map l.named l.x

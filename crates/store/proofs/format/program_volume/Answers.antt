@@ -1,9 +1,5 @@
 -- All blocks are erased; then come the two key blocks and the commit, each on what power the one before left.
-use lib.ListN.{length}
-use mathlib.Core.List.{List}
-use Prim.Native.Nat.{ℕ}
 use native.Mathlib.Omega.{arith}
-use mathlib.Core.Path.{ap}
 use Rattle.image.proofs.Looks.{sized}
 use Rattle.store.proofs.Calls.{volume_run}
 use Rattle.store.proofs.format.program_volume.Goals as goal
@@ -13,7 +9,7 @@ program_key_block-first-requires c =
     let a = c.args in
     let w = sized a.image.now c.requires.0 in
     let k = c.erase_all-erased.auto.image in
-    record { block_size_in_bounds = (omega (arith, w.full, w.fewest), omega (arith, w.full, w.fewest), omega arith, λ e. omega arith); letters_len = (ap (λ (l : List ℕ). length l) c.requires.2, c.requires.3) }
+    (omega (arith, w.full, w.fewest), omega (arith, w.full, w.fewest), omega arith, λ e. omega arith)
 
 pub program_key_block-second-requires : goal.program_key_block-second-requires
 program_key_block-second-requires c =
@@ -21,7 +17,7 @@ program_key_block-second-requires c =
     let w = sized a.image.now c.requires.0 in
     let k = c.program_key_block-first.auto.image in
     let j = c.erase_all-erased.auto.image in
-    record { block_size_in_bounds = (omega (arith, w.full, w.fewest), omega (arith, w.full, w.fewest), omega arith, λ e. omega arith); letters_len = (ap (λ (l : List ℕ). length l) c.requires.2, c.requires.3) }
+    (omega (arith, w.full, w.fewest), omega (arith, w.full, w.fewest), omega arith, λ e. omega arith)
 
 pub program_commit_block-requires : goal.program_commit_block-requires
 program_commit_block-requires c =
@@ -30,7 +26,7 @@ program_commit_block-requires c =
     let i = c.program_key_block-second.auto.image in
     let k = c.program_key_block-first.auto.image in
     let j = c.erase_all-erased.auto.image in
-    record { block_size_in_bounds = omega (arith, w.full, w.fewest); map_len = (ap (λ (l : List ℕ). length l) c.requires.1, ap (λ (l : List ℕ). length l) c.requires.2) }
+    omega (arith, w.full, w.fewest)
 
 pub returns : goal.returns
 returns c =

@@ -13,4 +13,4 @@ unfolding copy_of
 returns c =
     let a = c.args in
     let h : header_in (form_at a.image.now a.from) ≡ c.in-Whole.f = rw (← c.form_at.ensures, c.in-Whole.is) in
-    framed _ _ _ _ _ _ _ (rw h) (c.copy.ensures ∙ c.payload_at.ensures.0) c.program_page.ensures
+    framed _ _ _ _ _ _ _ (rw h) c.payload_at.ensures c.program_page.ensures

@@ -1,4 +1,4 @@
--- The loop's invariant: the places from x on are noted. The measure is x.
+-- The loop's invariant: the places from x on are noted.
 use Prim.Native.Nat.{◌-◌}
 use native.Mathlib.Omega.{arith}
 use mathlib.Core.Path.{◌≡◌}
@@ -7,11 +7,7 @@ use Rattle.store.proofs.GatherPlaces.{noted-none, noted_next, noted_all}
 use Rattle.store.proofs.gather.note_places.Goals as goal
 
 pub loop-x-init : goal.loop-x-init
-loop-x-init c =
-    (omega arith, rw c.requires.1 (noted-none c.args.map.now c.args.block))
-
-pub note_place-requires : goal.note_place-requires
-note_place-requires c = let l = c.loop-x in (l.invariant.1.full, omega arith)
+loop-x-init c = noted-none c.args.map.now c.args.block
 
 pub loop-x-preserved : goal.loop-x-preserved
 loop-x-preserved c =
@@ -19,11 +15,11 @@ loop-x-preserved c =
     let a = c.args in
     let w = c.note_place.ensures in
     let e = page-read a.map.now (l.x - 1) (omega arith) in
-    (omega arith, noted_next a.map.now a.block (l.x - 1) l.x l.at _ (omega arith) (omega arith) l.invariant.1 (rw (← e) w))
+    noted_next a.map.now a.block (l.x - 1) l.x l.at _ (omega arith) (omega arith) l.invariant (rw (← e) w)
 
 pub returns : goal.returns
 returns c =
     let l = c.loop-x in
     let a = c.args in
     let e : l.x ≡ 0 = omega arith in
-    noted_all a.map.now a.block l.at (rw e at l.invariant.1)
+    noted_all a.map.now a.block l.at (rw e at l.invariant)

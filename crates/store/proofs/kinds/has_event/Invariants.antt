@@ -1,5 +1,5 @@
 -- `store::kinds::has_event` meets its contract: any page is one where any of those left is.
-use Prim.Native.Nat.{ℕ, ◌≤◌, ◌-◌}
+use Prim.Native.Nat.{ℕ, ◌-◌}
 use mathlib.Core.Path.{◌≡◌}
 use mathlib.Core.Bool.{Bool}
 use mathlib.Core.List.{List}
@@ -14,7 +14,4 @@ abbrev pub event_in : List ℕ → ℕ → ℕ → Bool
 event_in img b i = headed (form_at img (page_in b i))
 
 abbrev pub invariant-loop-i : goal.invariant-loop-i
-invariant-loop-i l = (l.i ≤ pages_in_block) × (any_from (event_in l.image l.b) pages_in_block 0 ≡ any_from (event_in l.image l.b) (pages_in_block - l.i) l.i)
-
-abbrev pub decreases-loop-i : goal.decreases-loop-i
-decreases-loop-i l = pages_in_block - l.i
+invariant-loop-i l = any_from (event_in l.image l.b) pages_in_block 0 ≡ any_from (event_in l.image l.b) (pages_in_block - l.i) l.i

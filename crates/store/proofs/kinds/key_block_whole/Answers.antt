@@ -2,9 +2,8 @@
 use Prim.Native.Nat.{ℕ}
 use native.Mathlib.Omega.{arith}
 use mathlib.Core.Path.{◌≡◌, sym, ap, ◌∙◌}
-use mathlib.Core.Bool.{Bool, true}
+use mathlib.Core.Bool.{Bool, true, not}
 use mathlib.Core.List.{List}
-use borrow.Author.Tests.{not-true, not-false}
 use Rattle.base.proofs.Searches.{all_next, all_fails, all_none}
 use Rattle.page.specs.Header.{keys_frame}
 use Rattle.image.specs.Size.{pages_in_block}
@@ -22,22 +21,22 @@ use Rattle.store.proofs.kinds.key_block_whole.Goals as goal
 abbrev told : (img : List ℕ) (b e q i : ℕ) (r : Bool) → r ≡ whole_like (form_at img (page_in b 0)) i (form_at img (page_in b i)) → whole_with (keys_frame e q 0) (form_at img (page_in b 0)) ≡ true → r ≡ keys_whole img b q e i
 told img b e q i r p w = p ∙ ap (λ (f : Form). whole_like f i (form_at img (page_in b i))) (whole_with_lem (keys_frame e q 0) (form_at img (page_in b 0)) w)
 
-pub returns-then-not-same_frame : goal.returns-then-not-same_frame
+pub returns-then-ne : goal.returns-then-ne
 unfolding key_block_whole
-returns-then-not-same_frame c =
-    let w = by_own_header _ c.args.f _ _ _ c.requires.1 c.same_frame.ensures c.keys.ensures in
-    sym (all_fails _ pages_in_block 0 (omega arith) (sym w ∙ not-true _ c.if-not-same_frame.true-raw))
+returns-then-ne c =
+    let w = by_own_header _ c.args.f _ _ _ c.requires.1 c.ne.ensures c.keys.ensures in
+    sym (all_fails _ pages_in_block 0 (omega arith) (sym w ∙ ap not c.if-ne.true))
 
 pub loop-page-init : goal.loop-page-init
 unfolding key_block_whole
 loop-page-init c =
-    let w = by_own_header _ c.args.f _ _ _ c.requires.1 c.same_frame.ensures c.keys.ensures in
-    (omega arith, all_next _ pages_in_block 0 (omega arith) (sym w ∙ not-false _ c.if-not-same_frame.false-raw))
+    let w = by_own_header _ c.args.f _ _ _ c.requires.1 c.ne.ensures c.keys.ensures in
+    all_next _ pages_in_block 0 (omega arith) (sym w ∙ ap not c.if-ne.false)
 
 pub page_like-requires : goal.page_like-requires
 page_like-requires c =
-    let w = by_own_header _ c.args.f _ _ _ c.requires.1 c.same_frame.ensures c.keys.ensures in
-    let t = sym w ∙ not-false _ c.if-not-same_frame.false-raw in
+    let w = by_own_header _ c.args.f _ _ _ c.requires.1 c.ne.ensures c.keys.ensures in
+    let t = sym w ∙ ap not c.if-ne.false in
     let e = c.args.f.number in
     let q = c.args.f.unit in
     let g = page_in c.args.b 0 in
@@ -46,16 +45,16 @@ page_like-requires c =
 pub returns-then-not-page_like : goal.returns-then-not-page_like
 returns-then-not-page_like c =
     let l = c.loop-page in
-    let w = by_own_header _ c.args.f _ _ _ c.requires.1 c.same_frame.ensures c.keys.ensures in
-    let h = told c.args.image.now c.args.b c.args.f.number c.args.f.unit l.page _ c.page_like.ensures (sym w ∙ not-false _ c.if-not-same_frame.false-raw) in
-    sym (l.invariant.1 ∙ all_fails _ pages_in_block l.page (omega arith) (sym h ∙ not-true _ c.if-not-page_like.true-raw))
+    let w = by_own_header _ c.args.f _ _ _ c.requires.1 c.ne.ensures c.keys.ensures in
+    let h = told c.args.image.now c.args.b c.args.f.number c.args.f.unit l.page _ c.page_like.ensures (sym w ∙ ap not c.if-ne.false) in
+    sym (l.invariant ∙ all_fails _ pages_in_block l.page (omega arith) (sym h ∙ c.if-not-page_like.true))
 
 pub loop-page-preserved : goal.loop-page-preserved
 loop-page-preserved c =
     let l = c.loop-page in
-    let w = by_own_header _ c.args.f _ _ _ c.requires.1 c.same_frame.ensures c.keys.ensures in
-    let h = told c.args.image.now c.args.b c.args.f.number c.args.f.unit l.page _ c.page_like.ensures (sym w ∙ not-false _ c.if-not-same_frame.false-raw) in
-    (omega arith, l.invariant.1 ∙ all_next _ pages_in_block l.page (omega arith) (sym h ∙ not-false _ c.if-not-page_like.false-raw))
+    let w = by_own_header _ c.args.f _ _ _ c.requires.1 c.ne.ensures c.keys.ensures in
+    let h = told c.args.image.now c.args.b c.args.f.number c.args.f.unit l.page _ c.page_like.ensures (sym w ∙ ap not c.if-ne.false) in
+    l.invariant ∙ all_next _ pages_in_block l.page (omega arith) (sym h ∙ c.if-not-page_like.false)
 
 pub returns : goal.returns
-returns c = sym (c.loop-page.invariant.1 ∙ all_none _ pages_in_block c.loop-page.page c.loop-page-test.false)
+returns c = sym (c.loop-page.invariant ∙ all_none _ pages_in_block c.loop-page.page c.loop-page-test.false)

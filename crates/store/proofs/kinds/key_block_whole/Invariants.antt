@@ -1,5 +1,5 @@
 -- `store::kinds::key_block_whole` meets its contract: page 0 by its header, then all are whole where those left are.
-use Prim.Native.Nat.{ℕ, ◌≤◌, ◌-◌}
+use Prim.Native.Nat.{ℕ, ◌-◌}
 use mathlib.Core.Path.{◌≡◌}
 use mathlib.Core.Bool.{Bool}
 use mathlib.Core.List.{List}
@@ -15,7 +15,4 @@ abbrev pub keys_whole : List ℕ → ℕ → ℕ → ℕ → ℕ → Bool
 keys_whole img b q e i = whole_with (keys_frame e q i) (form_at img (page_in b i))
 
 abbrev pub invariant-loop-page : goal.invariant-loop-page
-invariant-loop-page l = (l.page ≤ pages_in_block) × (key_block_whole l.image l.b l.q l.e ≡ all_from (keys_whole l.image l.b l.q l.e) (pages_in_block - l.page) l.page)
-
-abbrev pub decreases-loop-page : goal.decreases-loop-page
-decreases-loop-page l = pages_in_block - l.page
+invariant-loop-page l = key_block_whole l.image l.b l.q l.e ≡ all_from (keys_whole l.image l.b l.q l.e) (pages_in_block - l.page) l.page

@@ -11,7 +11,6 @@ use Rattle.image.specs.Size.{block_size, pages_in_block}
 use Rattle.image.specs.Look.{form_at}
 use Rattle.store.specs.Kind.{page_in, is_block_letter, kind_of_first, kind_of}
 use Rattle.store.proofs.BlockKinds.{kind_outside, kind_unlettered}
-use Rattle.store.proofs.Refusals.{failed}
 use Rattle.store.proofs.kinds.kind_of.Goals as goal
 
 -- the form that was found of page 0 decides
@@ -29,10 +28,7 @@ returns-then-not-is_block_letter c =
     let a = c.args in
     let at : a.b * pages_in_block * page_size ≡ a.b * block_size = omega arith in
     let letter = c.letter_at.ensures ∙ ap (λ (i : ℕ). get_or a.image.now i 0) at in
-    sym (kind_unlettered a.image.now a.b (ap is_block_letter (sym letter) ∙ failed c.is_block_letter.ensures c.if-not-is_block_letter.true-raw))
-
-pub kind_by-requires : goal.kind_by-requires
-kind_by-requires c = (omega arith, rw add-zero (sym c.form_at.ensures ∙ c.in-Whole.is))
+    sym (kind_unlettered a.image.now a.b (ap is_block_letter (sym letter) ∙ sym c.is_block_letter.ensures ∙ c.if-not-is_block_letter.true))
 
 pub returns-in-Empty : goal.returns-in-Empty
 returns-in-Empty c =

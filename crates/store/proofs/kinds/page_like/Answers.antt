@@ -13,7 +13,7 @@ unfolding form_at
 is_whole_like-requires c =
     let f = c.requires.b_value in
     let first : page_in c.args.b 0 ≡ c.args.b * pages_in_block = omega arith in
-    record { first_len = (c.page_at.ensures.1, c.page_at-2.ensures.1, omega (arith, c.requires.block_size_in_bounds.1)); first_value = (f.0, ap form_of c.page_at.ensures.0 ∙ ap (form_at c.args.image.now) (sym first) ∙ f.1, f.2) }
+    record { part_bound = omega (arith, c.requires.block_size_in_bounds.1); first_value = (f.0, ap form_of c.page_at.ensures ∙ ap (form_at c.args.image.now) (sym first) ∙ f.1, f.2) }
 
 pub returns : goal.returns
 unfolding form_at
@@ -21,5 +21,5 @@ returns c =
     let a = c.args in
     let first : page_in a.b 0 ≡ a.b * pages_in_block = omega arith in
     c.is_whole_like.ensures
-    ∙ (λ i. whole_like (form_of (c.page_at.ensures.0 i)) a.i (form_of (c.page_at-2.ensures.0 i)))
+    ∙ (λ i. whole_like (form_of (c.page_at.ensures i)) a.i (form_of (c.page_at-2.ensures i)))
     ∙ ap (λ (g : ℕ). whole_like (form_at a.image.now g) a.i (form_at a.image.now (page_in a.b a.i))) (sym first)

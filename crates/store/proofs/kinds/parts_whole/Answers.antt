@@ -1,36 +1,39 @@
--- `store::kinds::parts_whole` meets its contract: part 0, then all are whole where those left are.
+-- `store::kinds::parts_whole` meets its contract: part 0 by its header, then all are whole where those left are.
+use Prim.Native.Nat.{◌*◌}
 use native.Mathlib.Omega.{arith}
-use mathlib.Core.Path.{sym, ◌∙◌}
-use borrow.Author.Tests.{not-true, not-false}
+use native.Mathlib.Nat.{add-zero}
+use mathlib.Core.Path.{sym, ap, ◌∙◌}
+use mathlib.Core.Bool.{not}
 use Rattle.base.proofs.Searches.{all_next, all_fails, all_none}
 use Rattle.page.specs.Entry.{parts}
-use Rattle.base.proofs.Choice.{and-true}
-use Rattle.store.specs.Kind.{page_in}
-use Rattle.page.specs.Header.{commit_frame}
-use Rattle.page.proofs.HeaderTests.{whole_with_lem}
-use Rattle.image.specs.Look.{form_at}
+use Rattle.image.specs.Size.{pages_in_block}
+use Rattle.store.proofs.PageTests.{by_own_header}
 use Rattle.store.proofs.kinds.parts_whole.Goals as goal
 
-pub returns-then-not-first_part_whole : goal.returns-then-not-first_part_whole
-returns-then-not-first_part_whole c = sym (all_fails _ parts 0 (omega arith) (sym c.first_part_whole.ensures ∙ not-true _ c.if-not-first_part_whole.true-raw))
+pub returns-then-ne : goal.returns-then-ne
+returns-then-ne c =
+    let w = by_own_header _ c.args.f _ _ _ c.requires.1 c.ne.ensures c.commit.ensures in
+    sym (all_fails _ parts 0 (omega arith) (rw (sym w ∙ ap not c.if-ne.true)))
+
+pub returns-then-not-payload_valid : goal.returns-then-not-payload_valid
+returns-then-not-payload_valid c =
+    let w = by_own_header _ c.args.f _ _ _ c.requires.1 c.ne.ensures c.commit.ensures in
+    sym (all_fails _ parts 0 (omega arith) (rw (sym w ∙ ap not c.if-ne.false, add-zero (c.args.b * pages_in_block)) (sym c.payload_valid.ensures ∙ c.if-not-payload_valid.true)))
 
 pub loop-part-init : goal.loop-part-init
-loop-part-init c = (omega arith, all_next _ parts 0 (omega arith) (sym c.first_part_whole.ensures ∙ not-false _ c.if-not-first_part_whole.false-raw))
-
-pub part_whole-requires : goal.part_whole-requires
-part_whole-requires c =
-    let w = and-true _ _ (sym c.first_part_whole.ensures ∙ not-false _ c.if-not-first_part_whole.false-raw) in
-    (omega arith, omega arith, whole_with_lem (commit_frame c.args.f.number 0 c.args.f.second) (form_at c.args.image.now (page_in c.args.b 0)) w.0)
+loop-part-init c =
+    let w = by_own_header _ c.args.f _ _ _ c.requires.1 c.ne.ensures c.commit.ensures in
+    all_next _ parts 0 (omega arith) (rw (sym w ∙ ap not c.if-ne.false, add-zero (c.args.b * pages_in_block)) (sym c.payload_valid.ensures ∙ c.if-not-payload_valid.false))
 
 pub returns-then-not-part_whole : goal.returns-then-not-part_whole
 returns-then-not-part_whole c =
     let l = c.loop-part in
-    sym (l.invariant.1 ∙ all_fails _ parts l.part (omega arith) (sym c.part_whole.ensures ∙ not-true _ c.if-not-part_whole.true-raw))
+    sym (l.invariant ∙ all_fails _ parts l.part (omega arith) (sym c.part_whole.ensures ∙ c.if-not-part_whole.true))
 
 pub loop-part-preserved : goal.loop-part-preserved
 loop-part-preserved c =
     let l = c.loop-part in
-    (omega arith, l.invariant.1 ∙ all_next _ parts l.part (omega arith) (sym c.part_whole.ensures ∙ not-false _ c.if-not-part_whole.false-raw))
+    l.invariant ∙ all_next _ parts l.part (omega arith) (sym c.part_whole.ensures ∙ c.if-not-part_whole.false)
 
 pub returns : goal.returns
-returns c = sym (c.loop-part.invariant.1 ∙ all_none _ parts c.loop-part.part c.loop-part-test.false)
+returns c = sym (c.loop-part.invariant ∙ all_none _ parts c.loop-part.part c.loop-part-test.false)

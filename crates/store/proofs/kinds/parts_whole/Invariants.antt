@@ -1,5 +1,5 @@
 -- `store::kinds::parts_whole` meets its contract: part 0, then all are whole where those left are.
-use Prim.Native.Nat.{◌≤◌, ◌-◌}
+use Prim.Native.Nat.{◌-◌}
 use mathlib.Core.Path.{◌≡◌}
 use Rattle.base.specs.Search.{all_from}
 use Rattle.page.specs.Entry.{parts}
@@ -7,7 +7,4 @@ use Rattle.store.specs.Kind.{part_whole}
 use Rattle.store.proofs.kinds.parts_whole.Given as goal
 
 abbrev pub invariant-loop-part : goal.invariant-loop-part
-invariant-loop-part l = (l.part ≤ parts) × (all_from (part_whole l.image l.b l.e l.s) parts 0 ≡ all_from (part_whole l.image l.b l.e l.s) (parts - l.part) l.part)
-
-abbrev pub decreases-loop-part : goal.decreases-loop-part
-decreases-loop-part l = parts - l.part
+invariant-loop-part l = all_from (part_whole l.image l.b l.e l.s) parts 0 ≡ all_from (part_whole l.image l.b l.e l.s) (parts - l.part) l.part

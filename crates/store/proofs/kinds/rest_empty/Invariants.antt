@@ -1,5 +1,5 @@
 -- `store::kinds::rest_empty` meets its contract: all are empty where those left are.
-use Prim.Native.Nat.{ℕ, ◌≤◌, ◌-◌}
+use Prim.Native.Nat.{ℕ, ◌-◌}
 use mathlib.Core.Path.{◌≡◌}
 use mathlib.Core.Bool.{Bool}
 use mathlib.Core.List.{List}
@@ -15,7 +15,4 @@ abbrev pub empty_in : List ℕ → ℕ → ℕ → Bool
 empty_in img b i = page_empty img (page_in b i)
 
 abbrev pub invariant-loop-i : goal.invariant-loop-i
-invariant-loop-i l = (parts ≤ l.i) × (l.i ≤ pages_in_block) × (all_from (empty_in l.image l.b) (pages_in_block - parts) parts ≡ all_from (empty_in l.image l.b) (pages_in_block - l.i) l.i)
-
-abbrev pub decreases-loop-i : goal.decreases-loop-i
-decreases-loop-i l = pages_in_block - l.i
+invariant-loop-i l = all_from (empty_in l.image l.b) (pages_in_block - parts) parts ≡ all_from (empty_in l.image l.b) (pages_in_block - l.i) l.i

@@ -1,50 +1,39 @@
--- Which blocks are empty is found first, then the record is made, then the blocks that are not needed are erased with what power there is.
-use native.Mathlib.Omega.{arith}
-use mathlib.Core.Path.{refl}
-use Rattle.image.proofs.Looks.{sized}
-use Rattle.store.proofs.Rebuilds.{fits_rebuilt}
-use Rattle.store.proofs.MountCalls.{survey_commit, survey_kind, survey_ranges, pages_refuse, mount-left, mount_sweeping}
+-- The record is made first, then the blocks that are not needed are erased with what power there is.
+use Rattle.store.proofs.MountCalls.{survey_commit, survey_kind, survey_ranges, pages_refuse, mount-left, mount_sweeping, commit_block}
 use Rattle.store.proofs.mount.mount_chosen.Goals as goal
-
-pub find_empty-requires : goal.find_empty-requires
-find_empty-requires c =
-    ((sized c.args.image.now c.requires.mount_chosen.size).most, refl)
 
 pub rebuild_record-requires : goal.rebuild_record-requires
 rebuild_record-requires c =
     let a = c.args in
     let m = c.requires.mount_chosen in
-    let e = survey_commit a.image.now a.s c.requires.s_value _ c.found_at.ensures in
-    record { image_value = (m.size, survey_kind a.image.now a.s c.requires.s_value m.commit_there _ e); map_len = (m.buffers.map_full, m.buffers.letters_full, m.scratch_full, refl, c.find_empty.ensures) }
+    let e = survey_commit a.image.now a.s c.requires.s_value.0 _ (commit_block a.s a.chosen c.requires.s_value.1) in
+    (m.size, survey_kind a.image.now a.s c.requires.s_value.0 m.commit_there _ e)
 
 pub returns-in_default : goal.returns-in_default
 returns-in_default c =
     let a = c.args in
-    let r = c.rebuild_record.ensures in
-    rw c.none.ensures
-    (pages_refuse a.image.now a.map.now a.letters.now a.scratch.now c.requires.mount_chosen a.n a.k _ _ _ _ _ (survey_commit a.image.now a.s c.requires.s_value _ c.found_at.ensures) r.0 c.in_default.is r.2)
+    let r = c.in_default.ensures in
+    rw (c.refused.ensures, c.none.ensures)
+    (pages_refuse a.image.now a.map.now a.letters.now a.scratch.now c.requires.mount_chosen a.n a.k _ _ _ _ (survey_commit a.image.now a.s c.requires.s_value.0 _ (commit_block a.s a.chosen c.requires.s_value.1)) r.0 r.1)
 
 pub numbers_of-numbers-requires : goal.numbers_of-numbers-requires
 numbers_of-numbers-requires c =
     let a = c.args in
     let m = c.requires.mount_chosen in
-    let h = fits_rebuilt a.image.now _ _ _ c.rebuild_record.ensures.0 c.in-Fits.is in
-    survey_ranges a.image.now a.s c.requires.s_value m.size m.commit_there m.keys0_there m.keys1_there _ h.1
+    (survey_ranges a.image.now a.s c.requires.s_value.0 m.size m.commit_there m.keys0_there m.keys1_there _ c.in-Some.ensures.highest_made, c.requires.s_value.1)
 
 pub erase_swept-power-requires : goal.erase_swept-power-requires
 erase_swept-power-requires c =
     let a = c.args in
-    let r = c.rebuild_record.ensures in
-    mount_sweeping a.image.now a.map.now a.letters.now a.scratch.now c.requires.mount_chosen a.n a.k _ _ _ _ _
-    (survey_commit a.image.now a.s c.requires.s_value _ c.found_at.ensures) r.0
-    _ _ a.s _ c.in-Fits.is r.1 (omega arith) c.requires.s_value
+    mount_sweeping a.image.now a.map.now a.letters.now a.scratch.now c.requires.mount_chosen a.n a.k _ _ _ _
+    (survey_commit a.image.now a.s c.requires.s_value.0 _ (commit_block a.s a.chosen c.requires.s_value.1))
+    _ a.s _ c.in-Some.ensures c.requires.s_value.0
     c.numbers_of-numbers.ensures
 
 pub returns : goal.returns
 returns c =
     let a = c.args in
-    let r = c.rebuild_record.ensures in
     rw c.taken.ensures
-    (mount-left a.image.now a.map.now a.letters.now a.scratch.now c.requires.mount_chosen a.n a.k _ _ _ _ _ (survey_commit a.image.now a.s c.requires.s_value _ c.found_at.ensures) r.0
-    _ _ _ a.s _ _ c.in-Fits.is r.1 c.requires.s_value
-    c.numbers_of-numbers.ensures c.erase_swept-power.ensures)
+    (mount-left a.image.now a.map.now a.letters.now a.scratch.now c.requires.mount_chosen a.n a.k _ _ _ _ (survey_commit a.image.now a.s c.requires.s_value.0 _ (commit_block a.s a.chosen c.requires.s_value.1))
+    _ _ a.s _ _ c.in-Some.ensures c.requires.s_value.0
+    c.numbers_of-numbers.ensures (rw c.power_for.ensures at c.erase_swept-power.ensures))

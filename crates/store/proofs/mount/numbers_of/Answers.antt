@@ -4,4 +4,4 @@ use Rattle.store.proofs.mount.numbers_of.Goals as goal
 
 pub returns : goal.returns
 unfolding survey_numbers
-returns c = rw (c.larger.ensures, c.found_at.ensures, c.found_at-2.ensures, c.found_at-3.ensures)
+returns c = rw (c.max.ensures, c.requires.1)

@@ -1,38 +1,26 @@
 -- Refused, it leaves all as it was; taken, the output begins with the place's content.
-use mathlib.Core.Path.{◌∙◌}
-use Rattle.store.specs.Record.{record_of}
-use Rattle.store.proofs.Refusals.{passed, failed}
-use Rattle.store.proofs.Calls.{read_refuse, read_take, read_left, read_reports, read_reports_none}
+use borrow.Author.Rules.{rules}
+use mathlib.Core.Path.{◌≡◌, refl, sym, ◌∙◌}
+use Rattle.std.proofs.lemmas.Result.{err_from_is_err_and}
+use Rattle.store.specs.Record.{record_of, held}
+use Rattle.store.proofs.Refusals.{handed_done, handed_refused}
+use Rattle.store.proofs.Calls.{read_refuse, read_left, read_reports, read_reports_none}
 use Rattle.store.proofs.read.read.Goals as goal
 
-pub returns-then-not-is_done : goal.returns-then-not-is_done
-returns-then-not-is_done c =
+pub returns-in_err-lent : goal.returns-in_err-lent
+returns-in_err-lent c =
     let a = c.args in
     let r = record_of a.map.now a.letters.now a.numbers in
-    let e = c.refuse_read-reply.ensures in
-    let d = failed c.is_done.ensures c.if-not-is_done.true-raw in
-    (read_refuse a.image.now r a.file a.offset a.output.now _ e d, read_reports_none a.image.now r a.file a.offset a.output.now _ e d)
-
-pub place_at-requires : goal.place_at-requires
-place_at-requires c =
-    let a = c.args in
-    let r = record_of a.map.now a.letters.now a.numbers in
-    (read_take a.image.now r a.file a.offset a.output.now _ c.refuse_read-reply.ensures (passed c.is_done.ensures c.if-not-is_done.false-raw)).planned
-
-pub read_place-n-requires : goal.read_place-n-requires
-read_place-n-requires c =
-    let a = c.args in
-    let r = record_of a.map.now a.letters.now a.numbers in
-    let t = read_take a.image.now r a.file a.offset a.output.now _ c.refuse_read-reply.ensures (passed c.is_done.ensures c.if-not-is_done.false-raw) in
-    let w = c.place_at.ensures in
-    record { ready = t.ready; x_lt_places = (w.1, rw w.0 t.node_there, t.output_full) }
+    let p = err_from_is_err_and c.from_residual.result c.from_residual.ensures.1 in
+    let v = handed_refused _ _ c.in_err-lent.field-0.0 (sym c.in_err-lent.ensures) in
+    rw (p.1, p.2) (read_refuse a.image.now r a.file a.offset a.output.now _ (sym v) refl, read_reports_none a.image.now r a.file a.offset a.output.now _ (sym v) refl)
 
 pub returns : goal.returns
 returns c =
     let a = c.args in
     let r = record_of a.map.now a.letters.now a.numbers in
     let w = c.place_at.ensures in
-    let e = c.refuse_read-reply.ensures in
-    let p = passed c.is_done.ensures c.if-not-is_done.false-raw in
-    let n = c.read_place-n.ensures in
-    (read_left a.image.now r a.file a.offset a.output.now _ _ e p (n.0 ∙ rw w.0), read_reports a.image.now r a.file a.offset a.output.now _ _ e p (n.1 ∙ rw w.0))
+    let n = c.read_place.ensures in
+    let v = handed_done _ _ (held c.in_ok-lent.lent) (sym c.in_ok-lent.ensures) in
+    let o : c.unwrap-output.result.now ≡ a.output.now = search rules in
+    (read_left a.image.now r a.file a.offset a.output.now _ _ (sym v.0) refl (n.0 ∙ rw (w.0, v.1, o)), read_reports a.image.now r a.file a.offset a.output.now _ _ (sym v.0) refl (n.1 ∙ rw (w.0, v.1)))

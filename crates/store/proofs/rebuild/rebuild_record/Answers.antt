@@ -1,19 +1,11 @@
 -- What does not fit is cleared.
-use mathlib.Core.Path.{sym, ◌∙◌}
-use Rattle.base.proofs.Choice.{true-false}
-use Rattle.store.proofs.Rebuilds.{fits_rebuilt, unfit_rebuilt}
+use Rattle.store.proofs.Rebuilds.{none-more, some_same}
 use Rattle.store.proofs.rebuild.rebuild_record.Goals as goal
 
-pub returns-in-Fits : goal.returns-in-Fits
-returns-in-Fits c =
-    let a = c.args in
-    let e = c.replay_fit.ensures in
-    let q = c.in-Fits.is in
-    (sym q ∙ e.0, e.1, λ z. absurd (true-false (fits_rebuilt a.image.now a.c _ _ e.0 q).0 z))
+pub returns-then-is_none : goal.returns-then-is_none
+returns-then-is_none c =
+    none-more _ _ _ _ c.replay_fit-rebuilt.result c.if-is_none.ensures c.replay_fit-rebuilt.ensures c.clear_record.ensures
 
-pub returns-in-Unfit : goal.returns-in-Unfit
-returns-in-Unfit c =
-    let a = c.args in
-    let e = c.replay_fit.ensures in
-    let q = c.in-Unfit.is in
-    (sym q ∙ e.0, λ t. absurd (true-false t (unfit_rebuilt a.image.now a.c _ e.0 q)), λ _. c.clear_record.ensures)
+pub returns-else-is_none : goal.returns-else-is_none
+returns-else-is_none c =
+    some_same _ _ _ (λ _. Unit {0}) c.replay_fit-rebuilt.result c.if-is_none.ensures c.replay_fit-rebuilt.ensures

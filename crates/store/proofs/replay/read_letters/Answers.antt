@@ -13,7 +13,7 @@ returns c =
     let a = c.args in
     let w = c.read_letter_part in
     let v = c.read_letter_part-2 in
-    let first : length w.new.letters ≡ payload_size = w.auto.letters ∙ length-take-le payload_size a.letters.now (omega (arith, c.requires.1)) in
-    let second : length v.new.letters ≡ payload_size = v.auto.letters ∙ simp (length-take, length-drop, length-append) (omega (arith, first, c.requires.1)) in
-    letters-read a.image.now a.c _ _ w.new.letters v.new.letters a.letters.now _ first c.payload_at.ensures.0 c.payload_at-2.ensures.0 w.ensures v.ensures
-    (two_parts a.letters.now w.new.letters v.new.letters payload_size payload_size first second c.requires.1)
+    let first : length w.new.letters ≡ payload_size = w.auto.letters ∙ length-take-le payload_size a.letters.now (omega arith) in
+    let second : length v.new.letters ≡ payload_size = v.auto.letters ∙ simp (length-take, length-drop, length-append) (omega (arith, first)) in
+    letters-read a.image.now a.c _ _ w.new.letters v.new.letters a.letters.now _ first c.payload_at.ensures c.payload_at-2.ensures w.ensures v.ensures
+    (two_parts a.letters.now w.new.letters v.new.letters payload_size payload_size first second (omega arith))

@@ -1,7 +1,4 @@
 -- `store::replay::remove_places` meets its contract: the places passed are taken, the others as they were.
-use Prim.Native.Nat.{◌≤◌, ◌-◌}
-use mathlib.Core.Path.{◌≡◌}
-use lib.ListN.{length}
 use Rattle.page.specs.Entry.{none}
 use Rattle.store.specs.Replay.{EachPlace}
 use Rattle.store.proofs.Replays.{row_taken}
@@ -9,8 +6,4 @@ use Rattle.store.proofs.replay.remove_places.Given as goal
 
 abbrev pub invariant-loop-x : goal.invariant-loop-x
 invariant-loop-x l =
-    (l.first ≤ l.x) × (l.x ≤ l.end) × (length l.map ≡ length l.initial.map) × (length l.scratch ≡ length l.initial.scratch)
-    × EachPlace (row_taken (record { sequence = l.sequence; page = none; key = none }) l.first l.x) l.initial.map l.initial.scratch l.map l.scratch
-
-abbrev pub decreases-loop-x : goal.decreases-loop-x
-decreases-loop-x l = l.end - l.x
+    EachPlace (row_taken (record { sequence = l.sequence; page = none; key = none }) l.first l.x) l.initial.map l.initial.scratch l.map l.scratch

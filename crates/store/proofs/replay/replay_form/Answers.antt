@@ -1,34 +1,47 @@
 -- `store::replay::replay_form` meets its contract: a page changes the lists by its form.
-use Prim.Native.Nat.{max}
-use mathlib.Core.Path.{ap, ◌∙◌}
+use mathlib.Core.Path.{sym, ap, ◌∙◌}
+use mathlib.Core.Logic.{⊎_elim}
 use native.Mathlib.Omega.{arith}
+use Rattle.page.specs.declared.Form.TheVariants.{Whole, Torn}
+use Rattle.store.specs.Kind.{headed}
 use Rattle.store.specs.Replay.{pass}
-use Rattle.store.proofs.Replays.{page-passed, range_right_lem, page_most}
+use Rattle.store.proofs.BlockKinds.{whole_in_range, torn-in_range}
+use Rattle.store.proofs.Replays.{page_idle, page_most, whole-passed, torn-passed}
 use Rattle.store.proofs.replay.replay_form.Goals as goal
+use Rattle.store.proofs.replay.replay_form.Goals.{in-Whole, in-Torn}
 
-pub apply-requires : goal.apply-requires
-apply-requires c =
+pub apply_event-requires : goal.apply_event-requires
+apply_event-requires c =
     let a = c.args in
-    (c.requires.map_len.0, c.requires.map_len.2, (page_most a.image.now a.g c.requires.image_value.0 c.requires.image_value.1).1, rw c.event_form_at-form.ensures (range_right_lem a.image.now a.g))
+    ((page_most a.image.now a.g c.requires.0 c.requires.1).1, whole_in_range a.image.now a.g _ (sym c.event_form_at.ensures ∙ c.in-Whole.is))
 
-pub spend-requires : goal.spend-requires
-spend-requires c =
-    (c.requires.map_len.1, rw c.event_form_at-form.ensures (range_right_lem c.args.image.now c.args.g))
+pub returns-in-Empty : goal.returns-in-Empty
+returns-in-Empty c =
+    let a = c.args in
+    let most = page_most a.image.now a.g c.requires.0 c.requires.1 in
+    page_idle a.image.now a.covered a.g (pass a.map.now a.letters.now a.scratch.now a.seen.now) (omega (arith, most.0))
+    (ap headed (sym c.event_form_at.ensures) ∙ ⊎_elim (λ e. ap headed e) (λ e. ap headed e) c.in-Empty.is)
 
-pub note-requires : goal.note-requires
-note-requires c =
-    (c.requires.map_len.3, (page_most c.args.image.now c.args.g c.requires.image_value.0 c.requires.image_value.1).0)
+pub spend_key-requires : goal.spend_key-requires
+spend_key-requires c =
+    let a = c.args in
+    elim c.match-event_form_at.branch [
+      | in-Whole w ↦ rw w.f-is (whole_in_range a.image.now a.g _ (sym c.event_form_at.ensures ∙ w.in-Whole.is))
+      | in-Torn w ↦ rw w.f-is (torn-in_range a.image.now a.g _ (sym c.event_form_at.ensures ∙ w.in-Torn.is))
+    ]
 
 pub returns : goal.returns
 returns c =
     let a = c.args in
-    let places = c.apply in
-    let letters = c.spend in
-    let events = c.note in
-    let sequence = c.sequence_of-sequence in
-    let form = c.event_form_at-form in
-    let most = page_most a.image.now a.g c.requires.image_value.0 c.requires.image_value.1 in
-    page-passed a.image.now a.covered a.g (pass a.map.now a.letters.now a.scratch.now a.events.now a.highest)
-    (pass places.new.map letters.new.letters places.new.scratch events.new.events c.higher.result)
-    form.result form.ensures (omega (arith, c.requires.map_len.3, most.0)) places.ensures letters.ensures (rw sequence.ensures at events.ensures)
-    (c.higher.ensures ∙ ap (max a.highest) sequence.ensures)
+    let m = c.match-event_form_at in
+    let t = pass a.map.now a.letters.now a.scratch.now a.seen.now in
+    let most = page_most a.image.now a.g c.requires.0 c.requires.1 in
+    elim m.branch [
+      | in-Whole w ↦ whole-passed a.image.now a.covered a.g m.f t _ c.requires.2 (omega (arith, most.0)) c.spend_key.ensures c.note.ensures c.max-seen.ensures
+          (sym c.event_form_at.ensures ∙ w.in-Whole.is ∙ ap Whole (sym w.f-is)) (rw (w.f-is, w.map-is, w.scratch-is) w.apply_event.ensures)
+      | in-Torn w ↦ torn-passed a.image.now a.covered a.g m.f t _ c.requires.2 (omega (arith, most.0)) c.spend_key.ensures c.note.ensures c.max-seen.ensures
+          (sym c.event_form_at.ensures ∙ w.in-Torn.is ∙ ap Torn (sym w.f-is)) w.map-is w.scratch-is
+    ]
+
+pub note-requires : goal.note-requires
+note-requires c = (page_most c.args.image.now c.args.g c.requires.0 c.requires.1).0

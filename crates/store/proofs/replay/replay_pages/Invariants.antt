@@ -1,15 +1,9 @@
 -- `store::replay::replay_pages` meets its contract: the blocks passed have done their part.
-use Prim.Native.Nat.{◌≤◌, ◌-◌, ◌*◌}
-use mathlib.Core.Path.{◌≡◌}
-use lib.ListN.{length}
+use Prim.Native.Nat.{◌*◌}
 use Rattle.image.specs.Size.{pages_in_block}
 use Rattle.store.specs.Replay.{pass, Passed}
 use Rattle.store.proofs.replay.replay_pages.Given as goal
 
 abbrev pub invariant-loop-b : goal.invariant-loop-b
 invariant-loop-b l =
-    (l.b ≤ l.n) × (length l.map ≡ length l.initial.map) × (length l.letters ≡ length l.initial.letters) × (length l.scratch ≡ length l.initial.scratch) × (length l.events ≡ length l.initial.events)
-    × Passed l.image l.covered (l.b * pages_in_block) 0 (pass l.initial.map l.initial.letters l.initial.scratch l.initial.events 0) (pass l.map l.letters l.scratch l.events l.highest)
-
-abbrev pub decreases-loop-b : goal.decreases-loop-b
-decreases-loop-b l = l.n - l.b
+    Passed l.image l.covered (l.b * pages_in_block) 0 (pass l.initial.map l.initial.letters l.initial.scratch l.initial.seen) (pass l.map l.letters l.scratch l.seen)

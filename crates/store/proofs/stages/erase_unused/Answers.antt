@@ -5,12 +5,14 @@ use Rattle.image.proofs.Looks.{sized}
 use Rattle.store.proofs.Unused.{unmarked_unused}
 use Rattle.store.proofs.stages.erase_unused.Goals as goal
 
-pub erase_all_unmarked-requires : goal.erase_all_unmarked-requires
-erase_all_unmarked-requires c =
-    ((sized c.args.image.now c.requires.0).most, c.mark_live.ensures.0)
+pub mark_others-requires : goal.mark_others-requires
+mark_others-requires c = (sized c.args.image.now c.requires).most
+
+pub erase_unmarked-requires : goal.erase_unmarked-requires
+erase_unmarked-requires c = (sized c.args.image.now c.requires).most
 
 pub returns : goal.returns
 returns c =
     let a = c.args in
-    c.erase_all_unmarked.ensures
-    ∙ ap (λ steps. run steps (device a.p a.image.now)) (unmarked_unused a.image.now a.map.now c.mark_live.new.marked a.numbers c.requires.0 c.mark_live.ensures.1)
+    c.erase_unmarked.ensures
+    ∙ ap (λ steps. run steps (device a.p a.image.now)) (unmarked_unused a.image.now a.map.now c.mark_live.new.marked c.mark_others.new.marked a.numbers c.requires c.mark_live.ensures c.mark_others.ensures)

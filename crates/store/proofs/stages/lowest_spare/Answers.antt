@@ -1,27 +1,21 @@
 -- The search goes up to the first spare block.
-use native.Mathlib.Omega.{arith}
-use native.Mathlib.Nat.{sub-zero}
-use mathlib.Core.Path.{sym, ◌∙◌}
-use Rattle.base.proofs.Searches.{first_here, first_next, first_none}
-use Rattle.store.specs.Stages.{lowest_spare}
+use borrow.Author.Rules.{rules}
+use borrow.Author.Tests.{tests}
+use mathlib.Core.Path.{◌≡◌, ap, ◌∙◌}
+use mathlib.Core.Bool.{true, false}
+use Rattle.std.proofs.lemmas.Iterator.{first_from_Range}
+use Rattle.base.specs.Search.{first_from}
+use Rattle.store.specs.Stages.{is_spare, lowest_spare}
+use Rattle.store.proofs.Finds.{first_by_find}
 use Rattle.store.proofs.stages.lowest_spare.Goals as goal
 
-pub loop-b-init : goal.loop-b-init
-unfolding lowest_spare
-loop-b-init c = (omega arith, rw (c.blocks-n.ensures, sub-zero))
-
-pub is_spare-requires : goal.is_spare-requires
-is_spare-requires c = omega (arith, c.blocks-n.ensures)
-
-pub returns-then-is_spare : goal.returns-then-is_spare
-returns-then-is_spare c =
-    let l = c.loop-b in
-    sym (l.invariant.1 ∙ first_here _ _ l.b (omega arith) (sym c.is_spare.ensures ∙ c.if-is_spare.true))
-
-pub loop-b-preserved : goal.loop-b-preserved
-loop-b-preserved c =
-    let l = c.loop-b in
-    (omega arith, l.invariant.1 ∙ first_next _ _ l.b (omega arith) (sym c.is_spare.ensures ∙ c.if-is_spare.false))
-
 pub returns : goal.returns
-returns c = sym (c.loop-b.invariant.1 ∙ first_none _ _ c.loop-b.b c.loop-b-test.false)
+unfolding lowest_spare
+returns c =
+    let a = c.args in
+    let p = is_spare a.image.now a.first a.numbers in
+    let n = c.blocks-n.result in
+    c.unwrap_or.ensures
+    ∙ first_by_find p n c.find.result
+    (first_from_Range _ _ _ c.find.result (λ b. p b ≡ true) (λ b. p b ≡ false) c.find.ensures.ran (λ x q k. search (rules, tests)) (λ x q k. search (rules, tests)))
+    ∙ ap (λ m. first_from p m 0) c.blocks-n.ensures

@@ -10,7 +10,7 @@ replace_keys-keys1-requires c =
     let a = c.args in
     let w = c.replace_keys-keys0 in
     let one = keys0-onward a.letters.now a.noise.now a.image.now _ a.p.power _ a.first a.p.numbers _ c.requires.able.0 w.auto.image c.requires.able.2 w.ensures in
-    record { able = (one.0.able, omega arith, c.lowest_spare-second.ensures); letters_len = (c.requires.map_len.1, c.requires.map_len.2) }
+    (one.0.able, omega arith, c.lowest_spare-second.ensures)
 
 pub replace_commit-last-requires : goal.replace_commit-last-requires
 replace_commit-last-requires c =
@@ -19,7 +19,7 @@ replace_commit-last-requires c =
     let one = keys0-onward a.letters.now a.noise.now a.image.now _ a.p.power _ a.first a.p.numbers _ c.requires.able.0 w.auto.image c.requires.able.2 w.ensures in
     let v = c.replace_keys-keys1 in
     let two = keys1-onward a.letters.now a.noise.now _ _ _ _ a.first _ _ one.0.able v.auto.image (rw one.1 c.requires.able.3) v.ensures in
-    record { able = (two.able, omega (arith, c.requires.le_sequence.0, two.sequence, one.0.sequence), c.lowest_spare-third.ensures); map_len = (c.requires.map_len.0, c.requires.map_len.1) }
+    (two.able, omega (arith, c.requires.le_sequence.0, two.sequence, one.0.sequence), c.lowest_spare-third.ensures)
 
 pub erase_unused-power-requires : goal.erase_unused-power-requires
 erase_unused-power-requires c =
@@ -28,7 +28,7 @@ erase_unused-power-requires c =
     let one = keys0-onward a.letters.now a.noise.now a.image.now _ a.p.power _ a.first a.p.numbers _ c.requires.able.0 w.auto.image c.requires.able.2 w.ensures in
     let v = c.replace_keys-keys1 in
     let two = keys1-onward a.letters.now a.noise.now _ _ _ _ a.first _ _ one.0.able v.auto.image (rw one.1 c.requires.able.3) v.ensures in
-    (size_same _ _ c.replace_commit-last.auto.image ∙ sym (size_same _ _ refl) ∙ two.able.size, c.requires.map_len.0)
+    size_same _ _ c.replace_commit-last.auto.image ∙ sym (size_same _ _ refl) ∙ two.able.size
 
 pub next_epoch-requires : goal.next_epoch-requires
 next_epoch-requires c =
@@ -39,9 +39,6 @@ next_epoch-requires c =
     let two = keys1-onward a.letters.now a.noise.now _ _ _ _ a.first _ _ one.0.able v.auto.image (rw one.1 c.requires.able.3) v.ensures in
     let n = commit_next a.map.now a.letters.now _ _ _ _ a.first _ _ c.replace_commit-last.ensures in
     rw n (omega (arith, c.requires.le_sequence.1, two.epoch, one.0.epoch))
-
-pub shape_of-image : goal.shape_of-image
-shape_of-image c = c.erase_unused-power.auto.image ∙ c.replace_commit-last.auto.image ∙ c.replace_keys-keys1.auto.image ∙ c.replace_keys-keys0.auto.image
 
 pub returns : goal.returns
 returns c =

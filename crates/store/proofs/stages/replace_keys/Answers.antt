@@ -6,32 +6,22 @@ use Rattle.store.proofs.stages.replace_keys.Goals as goal
 pub program_key_block-copied-requires : goal.program_key_block-copied-requires
 program_key_block-copied-requires c =
     let a = c.args in
-    let b = c.requires.able.2 in
+    let b = c.requires.2 in
     let o = c.keys_block-old.ensures in
-    let able = c.requires.able.0 in
-    record {
-      block_size_in_bounds = (
-        rw b (spare_inside a.image.now a.first a.p.numbers able),
-        rw o (old_keys_inside a.image.now a.first a.p.numbers able a.q),
-        c.requires.able.1,
-        rw (b, o) (keys_apart-spare a.image.now a.first a.p.numbers able a.q),
-      );
-      letters_len = (c.requires.letters_len.0, c.requires.letters_len.1);
-    }
-
-pub erase_block-power-requires : goal.erase_block-power-requires
-erase_block-power-requires c =
-    let a = c.args in
-    let o = c.keys_block-old.ensures in
-    rw (c.program_key_block-copied.auto.image, o) (old_keys_inside a.image.now a.first a.p.numbers c.requires.able.0 a.q)
+    let able = c.requires.0 in (
+      rw b (spare_inside a.image.now a.first a.p.numbers able),
+      rw o (old_keys_inside a.image.now a.first a.p.numbers able a.q),
+      c.requires.1,
+      rw (b, o) (keys_apart-spare a.image.now a.first a.p.numbers able a.q),
+    )
 
 pub overflow_cast-b : goal.overflow_cast-b
 overflow_cast-b c =
     let a = c.args in
-    let b = c.requires.able.2 in
-    omega (arith, b, spare_number a.image.now a.first a.p.numbers c.requires.able.0)
+    let b = c.requires.2 in
+    omega (arith, b, spare_number a.image.now a.first a.p.numbers c.requires.0)
 
 pub returns : goal.returns
 returns c =
     let a = c.args in
-    keys_moved_lem a.image.now _ _ a.p.power _ _ a.first a.p.numbers _ _ c.requires.able.2 a.letters.now a.noise.now a.q _ c.keys_block-old.ensures c.program_key_block-copied.ensures c.erase_block-power.ensures c.with_keys.ensures
+    keys_moved_lem a.image.now _ _ a.p.power _ _ a.first a.p.numbers _ _ c.requires.2 a.letters.now a.noise.now a.q _ c.keys_block-old.ensures c.program_key_block-copied.ensures c.erase_block-power.ensures c.with_keys.ensures

@@ -1,12 +1,8 @@
 -- The blocks with a live page are marked; with the table of events the marks tell what mount erases.
 use mathlib.Core.Path.{◌∙◌, ap}
 use Rattle.image.specs.Power.{device, run}
-use Rattle.store.proofs.Erasures.{unmarked_swept}
+use Rattle.store.proofs.Erasures.{kept_swept}
 use Rattle.store.proofs.sweep.erase_swept.Goals as goal
-
-pub erase_unmarked-requires : goal.erase_unmarked-requires
-erase_unmarked-requires c =
-    (c.requires.few, c.requires.events_full, c.mark_live.ensures.0)
 
 pub returns : goal.returns
 returns c =
@@ -14,4 +10,4 @@ returns c =
     let live = c.mark_live in
     c.erase_unmarked.ensures
     ∙ ap (λ steps. run steps (device a.p a.image.now))
-    (unmarked_swept a.image.now a.map.now a.events.now live.new.marked a.numbers c.requires live.ensures.1)
+    (kept_swept a.image.now a.map.now a.events.now live.new.marked c.keep.new.kept a.numbers c.requires live.ensures c.keep.ensures)

@@ -1,39 +1,25 @@
--- From one such block to the next: those before b are erased.
-use Prim.Native.Nat.{◌-◌, ◌+◌}
+-- Those before b are erased.
+use Prim.Native.Nat.{ℕ, ◌<◌}
 use native.Mathlib.Omega.{arith}
-use mathlib.Core.Path.{◌≡◌, ◌∙◌}
-use Rattle.base.specs.Search.{first_from}
-use Rattle.base.proofs.Searches.{first_bounds}
+use mathlib.Core.Path.{ap}
+use mathlib.Core.Bool.{false, not}
+use lib.ListN.{get_or}
 use Rattle.image.specs.Size.{blocks}
-use Rattle.store.specs.Rebuild.{is_unmarked}
-use Rattle.store.proofs.Erasures.{erasing_first, erasing_next, erasing_last}
+use Rattle.store.proofs.Erasures.{erasing_past, erasing_next, erasing_last}
 use Rattle.store.proofs.sweep.erase_unmarked.Goals as goal
-
-pub loop-b-init : goal.loop-b-init
-loop-b-init c =
-    let a = c.args in
-    erasing_first (is_unmarked a.events.now a.lives.now a.numbers) (blocks a.image.now) a.image.now a.p _
-    (c.next_unmarked-b.ensures ∙ rw c.blocks-n.ensures)
-
-pub loop-b-smaller : goal.loop-b-smaller
-loop-b-smaller c =
-    let a = c.args in
-    let here = c.loop-b in
-    let n = blocks a.image.now in
-    let next : c.next_unmarked-b-in-loop-b.result ≡ first_from (is_unmarked a.events.now a.lives.now a.numbers) (n - (here.b + 1)) (here.b + 1)
-    = c.next_unmarked-b-in-loop-b.ensures ∙ rw c.blocks-n.ensures in
-    omega (arith, next, (first_bounds (is_unmarked a.events.now a.lives.now a.numbers) (n - (here.b + 1)) (here.b + 1)).0)
+use Rattle.store.proofs.sweep.erase_unmarked.Goals.{then-not-kept-b, else-not-kept-b}
 
 pub loop-b-preserved : goal.loop-b-preserved
 loop-b-preserved c =
     let a = c.args in
-    let here = c.loop-b in
-    let w = c.erase_block-q in
-    erasing_next (is_unmarked a.events.now a.lives.now a.numbers) (blocks a.image.now) a.image.now a.p here.image w.new.image
-    here.q w.result here.b here.invariant (omega arith) (omega arith) w.ensures _ (c.next_unmarked-b-in-loop-b.ensures ∙ rw c.blocks-n.ensures)
-
-pub shape_of-image : goal.shape_of-image
-shape_of-image c = c.loop-b.invariant.size
+    let l = c.loop-b in
+    let n = blocks a.image.now in
+    let unmarked = λ (b : ℕ). not (get_or a.kept.now b false) in
+    let h : l.b < n = omega (arith, c.blocks-b-end.ensures) in
+    elim c.if-not-kept-b.branch [
+      | then-not-kept-b w ↦ rw (w.image-is, w.q-is) (erasing_next unmarked n a.image.now a.p l.image _ l.q _ l.b l.invariant h (omega arith) (ap not w.if-not-kept-b.true) w.erase_block-q.ensures)
+      | else-not-kept-b w ↦ rw (w.image-is, w.q-is) (erasing_past unmarked n a.image.now a.p l.image l.q l.b l.invariant h (ap not w.if-not-kept-b.false))
+    ]
 
 pub returns : goal.returns
-returns c = let l = c.loop-b in erasing_last _ _ _ _ l.image l.q l.b l.invariant (omega arith)
+returns c = let l = c.loop-b in erasing_last _ _ _ _ l.image l.q l.b l.invariant (omega (arith, c.blocks-b-end.ensures))

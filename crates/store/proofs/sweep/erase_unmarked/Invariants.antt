@@ -1,12 +1,9 @@
--- From one such block to the next: those before b are erased.
-use Prim.Native.Nat.{◌-◌}
+-- Those before b are erased.
+use mathlib.Core.Bool.{false, not}
+use lib.ListN.{get_or}
 use Rattle.image.specs.Size.{blocks}
-use Rattle.store.specs.Rebuild.{is_unmarked}
 use Rattle.store.proofs.Erasures.{Erasing}
 use Rattle.store.proofs.sweep.erase_unmarked.Given as goal
 
 abbrev pub invariant-loop-b : goal.invariant-loop-b
-invariant-loop-b l = Erasing (is_unmarked l.events l.lives l.numbers) (blocks l.initial.image) l.initial.image l.initial.q l.image l.q l.b
-
-abbrev pub decreases-loop-b : goal.decreases-loop-b
-decreases-loop-b l = l.n - l.b
+invariant-loop-b l = Erasing (λ a. not (get_or l.kept a false)) (blocks l.initial.image) l.initial.image l.initial.q l.image l.q l.b

@@ -11,16 +11,15 @@ pub remove-requires : goal.remove-requires
 remove-requires c =
     let a = c.args in
     let t = c.requires.0 in
-    (t.buffers.map_full, t.buffers.letters_full, c.requires.1, key_below a.image.now (record_of a.map.now a.letters.now a.numbers) t)
+    (c.requires.1, key_below a.image.now (record_of a.map.now a.letters.now a.numbers) t)
 
 pub replace_commit-shorter-requires : goal.replace_commit-shorter-requires
 replace_commit-shorter-requires c =
     let a = c.args in
     let t = c.requires.0 in
     let r = record_of a.map.now a.letters.now a.numbers in
-    let w = c.remove in
     rw c.begin-begun.ensures
-    (record { able = (begin_able a.image.now r t c.requires.3, sequence-some a.image.now r t, c.requires.4 ∙ begin-spare a.image.now r t c.requires.3); map_len = (w.auto.map ∙ t.buffers.map_full, w.auto.letters ∙ t.buffers.letters_full) })
+    (begin_able a.image.now r t c.requires.3, sequence-some a.image.now r t, c.requires.4 ∙ begin-spare a.image.now r t c.requires.3)
 
 pub next_epoch-requires : goal.next_epoch-requires
 next_epoch-requires c =

@@ -1,6 +1,6 @@
 -- The shorter commit, then the stages of a commit.
 use native.Mathlib.Omega.{arith}
-use mathlib.Core.Path.{ap, ◌∙◌}
+use mathlib.Core.Path.{ap}
 use Rattle.image.specs.Power.{power_for}
 use Rattle.store.specs.Record.{Record, record_of}
 use Rattle.store.specs.Wipe.{removed_first}
@@ -18,7 +18,7 @@ renew-requires c =
     let n = first_numbers_lem a.image.now r a.noise.now a.file a.offset t in
     let g = first_reached a.image.now r a.file a.offset t.ready t.room in
     let able = after_able a.image.now a.numbers (removed_first a.image.now r a.file a.offset) g (power_for a.n a.k) _ _ _ w.ensures.0 in
-    record { able = (able, c.lowest_spare-next.ensures, rw e k.0, rw e k.1); le_sequence = (rw e (omega (arith, n.0, sequence-some a.image.now r t.ready)), rw e (omega (arith, n.1, t.numbers_left))); map_len = (w.auto.map ∙ t.ready.buffers.map_full, w.auto.letters ∙ t.ready.buffers.letters_full, t.noise_full) }
+    record { able = (able, c.lowest_spare-next.ensures, rw e k.0, rw e k.1); le_sequence = (rw e (omega (arith, n.0, sequence-some a.image.now r t.ready)), rw e (omega (arith, n.1, t.numbers_left))) }
 
 pub returns : goal.returns
 returns c =

@@ -29,9 +29,8 @@ set_place-requires c =
     let a = c.args in
     let r = record_of a.map.now a.letters.now a.numbers in
     let w = writable a.image.now r a.file a.offset a.payload.now a.p a.g c.requires.write_taken c.requires.p_value.0 c.requires.p_value.1 in
-    let b = c.requires.write_taken.ready.buffers in
     let x = c.place_at.ensures.1 in
-    record { map_len = (b.map_full, b.letters_full, x, key_below a.image.now r c.requires.write_taken.ready c.place_at.result x); g_lt_none = (w.number, w.position) }
+    record { x_lt_places = (x, key_below a.image.now r c.requires.write_taken.ready c.place_at.result x); g_lt_none = (w.number, w.position) }
 
 pub returns : goal.returns
 returns c =
@@ -40,4 +39,4 @@ returns c =
     let x = c.place_at.ensures.0 in
     let l = c.set_place.ensures in
     rw (c.taken.ensures, c.next_sequence.ensures, l.0, l.1, x)
-    (write-left a.image.now r a.file a.offset a.payload.now a.n a.k a.p a.g _ _ _ c.requires.payload_value c.requires.write_taken c.requires.p_value.0 c.requires.p_value.1 c.key_held-key.ensures c.program_node-power.ensures)
+    (write-left a.image.now r a.file a.offset a.payload.now a.n a.k a.p a.g _ _ _ c.requires.payload_value c.requires.write_taken c.requires.p_value.0 c.requires.p_value.1 c.key_held-key.ensures (rw c.power_for.ensures at c.program_node-power.ensures))

@@ -1,9 +1,0 @@
--- `Numbers::with_keys_lem` meets its contract.
-use borrow.Author.Tests.{eq-eqb, ne_eqb}
-use Rattle.store.proofs.Numbers.with_keys.Goals as goal
-
-pub returns-then-q-eq0 : goal.returns-then-q-eq0
-returns-then-q-eq0 c = rw (eq-eqb _ _ c.if-q-eq0.true)
-
-pub returns : goal.returns
-returns c = rw (ne_eqb _ _ c.if-q-eq0.false)
